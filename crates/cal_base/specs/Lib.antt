@@ -1,3 +1,4 @@
+pub mod NameMap
 pub mod Reserved
 pub mod Text
 pub mod formers

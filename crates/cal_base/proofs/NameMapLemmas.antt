@@ -1,0 +1,50 @@
+-- A map whose keys stand for names is seen as the list of its pairs with the names in place of the keys.
+use Rattle.std.proofs.Common.{◌≡◌, ℕ, refl, sym, ap, ◌∙◌, List, [], ◌∷◌, map, filter, Bool, true, false, cond, Option, Some, None}
+use Rattle.std.specs.declared.cmp.Ordering.{Ordering}
+use Rattle.std.specs.declared.cmp.Ordering.TheVariants.{Less, Equal, Greater}
+use Rattle.std.specs.Ordering.{match_ordering, is_lt}
+use Rattle.std.specs.Map.{lookup, remove_entry, set_value}
+use Rattle.std.specs.BTreeMap.{insert_entry, is_at}
+use Rattle.cal_base.specs.NameMap.{name_order, value_at, with_value, with_changed, without, above}
+
+module _ {X Y : Type 0} (g : X → Y) where
+  -- a function of one of three lists
+  map-match_ordering : (o : Ordering) (a b c : List X) → map g (match_ordering o a b c) ≡ match_ordering o (map g a) (map g b) (map g c)
+  map-match_ordering Less a b c = refl
+  map-match_ordering Equal a b c = refl
+  map-match_ordering Greater a b c = refl
+
+  -- a function of one of two lists
+  map-cond : (b : Bool) (xs ys : List X) → map g (cond b xs ys) ≡ cond b (map g xs) (map g ys)
+  map-cond true xs ys = refl
+  map-cond false xs ys = refl
+
+module _ {K V : Type 0} (octets : K → List ℕ) where
+  -- a pair with the name in place of the key
+  abbrev pub shown : K × V → List ℕ × V
+  shown pair = (octets pair.0, pair.1)
+
+  pub value_at-shown : (pairs : List (K × V)) (name : List ℕ) → value_at (map shown pairs) name ≡ lookup (is_at (λ key. name_order name (octets key))) pairs
+  value_at-shown [] name = refl
+  value_at-shown (pair ∷ pairs) name = ap (cond (is_at (name_order name) (octets pair.0)) (Some pair.1)) (value_at-shown pairs name)
+
+  pub with_value-shown : (pairs : List (K × V)) (key : K) (value : V) → map shown (insert_entry (λ a b. name_order (octets a) (octets b)) pairs key value) ≡ with_value (map shown pairs) (octets key) value
+  with_value-shown [] key value = refl
+  with_value-shown (pair ∷ pairs) key value =
+      let order = name_order (octets key) (octets pair.0) in
+      map-match_ordering shown order ((key, value) ∷ pair ∷ pairs) ((pair.0, value) ∷ pairs) (pair ∷ insert_entry (λ a b. name_order (octets a) (octets b)) pairs key value)
+      ∙ ap (λ rest. match_ordering order (shown (key, value) ∷ shown pair ∷ map shown pairs) (shown (pair.0, value) ∷ map shown pairs) (shown pair ∷ rest)) (with_value-shown pairs key value)
+
+  pub with_changed-shown : (pairs : List (K × V)) (name : List ℕ) (value : V) → map shown (set_value (is_at (λ key. name_order name (octets key))) pairs value) ≡ with_changed (map shown pairs) name value
+  with_changed-shown [] name value = refl
+  with_changed-shown (pair ∷ pairs) name value =
+      let here = is_at (name_order name) (octets pair.0) in
+      map-cond shown here ((pair.0, value) ∷ pairs) (pair ∷ set_value (is_at (λ key. name_order name (octets key))) pairs value)
+      ∙ ap (λ rest. cond here (shown (pair.0, value) ∷ map shown pairs) (shown pair ∷ rest)) (with_changed-shown pairs name value)
+
+  pub without-shown : (pairs : List (K × V)) (name : List ℕ) → map shown (remove_entry (is_at (λ key. name_order name (octets key))) pairs) ≡ without (map shown pairs) name
+  without-shown [] name = refl
+  without-shown (pair ∷ pairs) name =
+      let here = is_at (name_order name) (octets pair.0) in
+      map-cond shown here pairs (pair ∷ remove_entry (is_at (λ key. name_order name (octets key))) pairs)
+      ∙ ap (λ rest. cond here (map shown pairs) (shown pair ∷ rest)) (without-shown pairs name)

@@ -1,0 +1,76 @@
+//! An ordered map from octet strings to values, which contracts see as the list of its pairs.
+ghost use Rattle.std.specs.Prelude.{◌≡◌, [], length, OnOk, OnErr, Option, ℕ, List};
+ghost use Rattle.std.specs.Option.{option_copied, option_map};
+ghost use Rattle.std.specs.Borrow.{Bor};
+ghost use Rattle.cal_base.specs.NameMap.{IsInOrder, value_at, with_value, without, next_above};
+
+use crate::no_memory::NoMemory;
+use std::alloc::Global;
+use std::collections::BTreeMap;
+use std::marker::Model;
+use std::ops::Bound;
+
+/// A map from octet strings to values. Contracts see the pairs of a name and a value in rising
+/// order of the names, where the first octet that differs decides.
+#[derive(Drop)]
+pub struct NameMap<V> {
+    entries: BTreeMap<Vec<u8>, V>,
+}
+
+impl<V> Model for NameMap<V> {
+    ghost use Rattle.std.specs.Prelude.{List, ℕ, map as mapped};
+    ghost use Rattle.std.specs.Coded.{coded_list, coded×, coded_ℕ};
+
+    ghost Value = { List (List ℕ × V) };
+
+    ghost coded = { coded_list (coded× (coded_list coded_ℕ) V.code) };
+
+    ghost view = { λ m. mapped (λ e. (e.0.items, e.1)) m.entries.entries };
+}
+
+impl<V> NameMap<V> {
+    /// An empty map. It takes no memory yet.
+    pub fn new(alloc: Global) -> NameMap<V>
+        ensures { result ≡ [] }
+    {
+        NameMap {
+            entries: BTreeMap::new(alloc),
+        }
+    }
+
+    /// How many names there are.
+    pub fn len(&self) -> usize
+        ensures len { result ≡ length self.now }
+    {
+        self.entries.len()
+    }
+
+    /// The value at a name, if it is there. Takes no memory.
+    pub fn get(&self, name: &[u8]) -> Option<&V>
+        ensures { option_copied result ≡ value_at self.now name.now }
+    {
+        self.entries.get(name)
+    }
+
+    /// Puts a value at a name, in the place of the one that was there. Without memory the map stays
+    /// as it was, and both are dropped.
+    pub fn insert(&mut self, name: Vec<u8>, value: V) -> Result<(), NoMemory>
+    where
+        V: Drop,
+        ensures ok { OnOk result (self.new ≡ with_value self.old name.items value) }
+        ensures err { OnErr result (self.new ≡ self.old) }
+    {
+        let Ok(_old) = self.entries.insert(name, value) else {
+            return Err(NoMemory);
+        };
+        Ok(())
+    }
+
+    /// Takes out the value at a name. Takes no memory.
+    pub fn remove(&mut self, name: &[u8]) -> Option<V>
+        ensures value { result ≡ value_at self.old name.now }
+        ensures rest { self.new ≡ without self.old name.now }
+    {
+        self.entries.remove(name)
+    }
+}
