@@ -3,9 +3,13 @@ use Rattle.std.proofs.Common.{◌≡◌, ℕ, refl, sym, ap, ◌∙◌, List, []
 use Rattle.std.specs.declared.cmp.Ordering.{Ordering}
 use Rattle.std.specs.declared.cmp.Ordering.TheVariants.{Less, Equal, Greater}
 use Rattle.std.specs.Ordering.{match_ordering, is_lt}
+use Rattle.std.specs.Option.{option_map}
+use Rattle.std.specs.List.{slice_get}
+use Rattle.std.proofs.lemmas.Option.{slice_get-map}
+use Rattle.std.proofs.lemmas.Cmp.{nat_list_cmp_total}
 use Rattle.std.specs.Map.{lookup, remove_entry, set_value}
 use Rattle.std.specs.BTreeMap.{insert_entry, is_at}
-use Rattle.cal_base.specs.NameMap.{name_order, value_at, with_value, with_changed, without, above}
+use Rattle.cal_base.specs.NameMap.{name_order, value_at, with_value, with_changed, without, above, next_above}
 
 module _ {X Y : Type 0} (g : X → Y) where
   -- a function of one of three lists
@@ -48,3 +52,25 @@ module _ {K V : Type 0} (octets : K → List ℕ) where
       let here = is_at (name_order name) (octets pair.0) in
       map-cond shown here pairs (pair ∷ remove_entry (is_at (λ key. name_order name (octets key))) pairs)
       ∙ ap (λ rest. cond here (map shown pairs) (shown pair ∷ rest)) (without-shown pairs name)
+
+  -- the entries above a name, where the entries are seen by their keys
+  abbrev pub entries_above : List (K × V) → List ℕ → List (K × V)
+  entries_above pairs name = filter (λ pair. is_lt (name_order name (octets pair.0))) pairs
+
+  above-shown : (pairs : List (K × V)) (name : List ℕ) → above (map shown pairs) name ≡ map shown (entries_above pairs name)
+  above-shown [] name = refl
+  above-shown (pair ∷ pairs) name =
+      let here = is_lt (name_order name (octets pair.0)) in
+      ap (λ rest. cond here (shown pair ∷ rest) rest) (above-shown pairs name)
+      ∙ sym (map-cond shown here (pair ∷ entries_above pairs name) (entries_above pairs name))
+
+  pub next_above-shown : (pairs : List (K × V)) (name : List ℕ) → next_above (map shown pairs) name ≡ option_map shown (slice_get (entries_above pairs name) 0)
+  next_above-shown pairs name =
+      ap (λ rest. slice_get rest 0) (above-shown pairs name) ∙ slice_get-map shown (entries_above pairs name) 0
+
+  -- two names that compare equal have the same entries above them
+  pub entries_above-same : (pairs : List (K × V)) (name other : List ℕ) → name_order name other ≡ Equal → entries_above pairs other ≡ entries_above pairs name
+  entries_above-same [] name other equal = refl
+  entries_above-same (pair ∷ pairs) name other equal =
+      ap (λ order. cond (is_lt order) (pair ∷ entries_above pairs other) (entries_above pairs other)) (sym (nat_list_cmp_total.congr name other (octets pair.0) equal))
+      ∙ ap (λ rest. cond (is_lt (name_order name (octets pair.0))) (pair ∷ rest) rest) (entries_above-same pairs name other equal)

@@ -1,11 +1,14 @@
 //! An ordered map from octet strings to values, which contracts see as the list of its pairs.
-ghost use Rattle.std.specs.Prelude.{◌≡◌, [], length, OnOk, OnErr, Option, ℕ, List};
+ghost use Rattle.std.specs.Prelude.{◌≡◌, [], length, OnOk, OnErr, Option, ℕ, List, filter, slice_get};
 ghost use Rattle.std.specs.Option.{option_copied, option_map};
 ghost use Rattle.std.specs.Borrow.{Bor};
-ghost use Rattle.cal_base.specs.NameMap.{IsInOrder, value_at, with_value, without, next_above};
+ghost use Rattle.std.specs.Global.{Vec};
+ghost use Rattle.std.specs.Ordering.{is_lt};
+ghost use Rattle.cal_base.specs.NameMap.{IsInOrder, value_at, with_value, without, next_above, name_order};
 
 use crate::no_memory::NoMemory;
 use std::alloc::Global;
+use std::cmp::Ordering;
 use std::collections::BTreeMap;
 use std::marker::Model;
 use std::ops::Bound;
@@ -73,4 +76,52 @@ impl<V> NameMap<V> {
     {
         self.entries.remove(name)
     }
+
+    /// The pair with the least name above a name; the empty name comes before all others. Takes no
+    /// memory. From a name of the map the time grows with the logarithm of its size, from any other
+    /// with the number of names below it.
+    pub fn next_above(&self, name: &[u8]) -> Option<(&[u8], &V)>
+        ensures { option_map (λ (p : Bor (List ℕ) × Bor V). (p.0.now, p.1.now)) result ≡ next_above self.now name.now }
+    {
+        match next_entry(&self.entries, name) {
+            Some((key, value)) => Some((key.as_slice(), value)),
+            None => None,
+        }
+    }
+}
+
+/// The entry with the least key above a name: behind the name's own entry, where it has one.
+fn next_entry<'a, V>(entries: &'a BTreeMap<Vec<u8>, V>, name: &[u8]) -> Option<(&'a Vec<u8>, &'a V)>
+    ensures { option_map (λ (p : Bor (Vec ℕ) × Bor V). (p.0.now, p.1.now)) result ≡ slice_get (filter (λ pair. is_lt (name_order name.now pair.0.items)) entries.now.entries) 0 }
+{
+    match entries.get_key_value(name) {
+        Some((key, _)) => first_behind(entries, key),
+        None => first_above(entries, name),
+    }
+}
+
+/// The first pair behind a key.
+fn first_behind<'a, V>(entries: &'a BTreeMap<Vec<u8>, V>, key: &'a Vec<u8>) -> Option<(&'a Vec<u8>, &'a V)>
+    ensures { option_map (λ (p : Bor (Vec ℕ) × Bor V). (p.0.now, p.1.now)) result ≡ slice_get (filter (λ pair. is_lt (name_order key.now.items pair.0.items)) entries.now.entries) 0 }
+{
+    entries.range((Bound::Excluded(key), Bound::Unbounded)).next()
+}
+
+/// The first pair whose key is above a name, looked for from the start.
+fn first_above<'a, V>(entries: &'a BTreeMap<Vec<u8>, V>, name: &[u8]) -> Option<(&'a Vec<u8>, &'a V)>
+    ensures { option_map (λ (p : Bor (Vec ℕ) × Bor V). (p.0.now, p.1.now)) result ≡ slice_get (filter (λ pair. is_lt (name_order name.now pair.0.items)) entries.now.entries) 0 }
+{
+    'pairs: for pair in entries.iter() {
+        if is_below(name, pair.0.as_slice()) {
+            return Some(pair);
+        }
+    }
+    None
+}
+
+/// Whether a name comes before another.
+fn is_below(name: &[u8], other: &[u8]) -> bool
+    ensures { result ≡ is_lt (name_order name.now other.now) }
+{
+    Ord::cmp(&name, &other) == Ordering::Less
 }
