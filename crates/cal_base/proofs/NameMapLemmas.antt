@@ -4,12 +4,13 @@ use Rattle.std.specs.declared.cmp.Ordering.{Ordering}
 use Rattle.std.specs.declared.cmp.Ordering.TheVariants.{Less, Equal, Greater}
 use Rattle.std.specs.Ordering.{match_ordering, is_lt}
 use Rattle.std.specs.Option.{option_map}
-use Rattle.std.specs.List.{slice_get}
+use Rattle.std.specs.List.{slice_get, AllByRecursion}
+use Rattle.std.specs.List.Sorted.{IsStrictlySortedBy}
 use Rattle.std.proofs.lemmas.Option.{slice_get-map}
 use Rattle.std.proofs.lemmas.Cmp.{nat_list_cmp_total}
-use Rattle.std.specs.Map.{lookup, remove_entry, set_value}
+use Rattle.std.specs.Map.{lookup, remove_entry, set_value, keys_of}
 use Rattle.std.specs.BTreeMap.{insert_entry, is_at}
-use Rattle.cal_base.specs.NameMap.{name_order, value_at, with_value, with_changed, without, above, next_above}
+use Rattle.cal_base.specs.NameMap.{name_order, IsInOrder, value_at, with_value, with_changed, without, above, next_above}
 
 module _ {X Y : Type 0} (g : X → Y) where
   -- a function of one of three lists
@@ -74,3 +75,12 @@ module _ {K V : Type 0} (octets : K → List ℕ) where
   entries_above-same (pair ∷ pairs) name other equal =
       ap (λ order. cond (is_lt order) (pair ∷ entries_above pairs other) (entries_above pairs other)) (sym (nat_list_cmp_total.congr name other (octets pair.0) equal))
       ∙ ap (λ rest. cond (is_lt (name_order name (octets pair.0))) (pair ∷ rest) rest) (entries_above-same pairs name other equal)
+
+  all_behind-shown : (name : List ℕ) (pairs : List (K × V)) → AllByRecursion (λ key. name_order name (octets key) ≡ Less) (keys_of pairs) → AllByRecursion (λ other. name_order name other ≡ Less) (keys_of (map shown pairs))
+  all_behind-shown name [] all = tt
+  all_behind-shown name (pair ∷ pairs) all = (all.0, all_behind-shown name pairs all.1)
+
+  pub IsInOrder-shown : (pairs : List (K × V)) → IsStrictlySortedBy (λ a b. name_order (octets a) (octets b)) (keys_of pairs) → IsInOrder (map shown pairs)
+  unfolding IsStrictlySortedBy
+  IsInOrder-shown [] sorted = tt
+  IsInOrder-shown (pair ∷ pairs) sorted = (all_behind-shown (octets pair.0) pairs sorted.0, IsInOrder-shown pairs sorted.1)

@@ -1,7 +1,7 @@
 //! An ordered map from octet strings to values, which contracts see as the list of its pairs.
 ghost use Rattle.std.specs.Prelude.{◌≡◌, [], length, OnOk, OnErr, Option, ℕ, List, filter, slice_get};
-ghost use Rattle.std.specs.Option.{option_copied, option_map};
-ghost use Rattle.std.specs.Borrow.{Bor};
+ghost use Rattle.std.specs.Option.{option_copied, option_copied_mut, option_map};
+ghost use Rattle.std.specs.Borrow.{Bor, sem};
 ghost use Rattle.std.specs.Global.{Vec};
 ghost use Rattle.std.specs.Ordering.{is_lt};
 ghost use Rattle.cal_base.specs.NameMap.{IsInOrder, value_at, with_value, without, next_above, name_order};
@@ -32,6 +32,8 @@ impl<V> Model for NameMap<V> {
 }
 
 impl<V> NameMap<V> {
+    ghost use Rattle.cal_base.specs.NameMapLends.{lends_value};
+
     /// An empty map. It takes no memory yet.
     pub fn new(alloc: Global) -> NameMap<V>
         ensures { result ≡ [] }
@@ -41,9 +43,10 @@ impl<V> NameMap<V> {
         }
     }
 
-    /// How many names there are.
+    /// How many names there are. (That they stand in order holds of every map.)
     pub fn len(&self) -> usize
         ensures len { result ≡ length self.now }
+        ensures in_order { IsInOrder self.now }
     {
         self.entries.len()
     }
@@ -53,6 +56,14 @@ impl<V> NameMap<V> {
         ensures { option_copied result ≡ value_at self.now name.now }
     {
         self.entries.get(name)
+    }
+
+    /// The value at a name to write to, if it is there. Takes no memory.
+    pub fn get_mut(&mut self, name: &[u8]) -> Option<&mut V>
+        ensures* writes_back { sem 𝓛 (lends_value V.row self.entry name.now result) }
+        ensures value { option_copied_mut result ≡ value_at self.old name.now }
+    {
+        self.entries.get_mut(name)
     }
 
     /// Puts a value at a name, in the place of the one that was there. Without memory the map stays
@@ -101,14 +112,22 @@ fn next_entry<'a, V>(entries: &'a BTreeMap<Vec<u8>, V>, name: &[u8]) -> Option<(
 }
 
 /// The first pair behind a key.
-fn first_behind<'a, V>(entries: &'a BTreeMap<Vec<u8>, V>, key: &'a Vec<u8>) -> Option<(&'a Vec<u8>, &'a V)>
+fn first_behind<'a, V>(
+    entries: &'a BTreeMap<Vec<u8>, V>,
+    key: &'a Vec<u8>,
+) -> Option<(&'a Vec<u8>, &'a V)>
     ensures { option_map (λ (p : Bor (Vec ℕ) × Bor V). (p.0.now, p.1.now)) result ≡ slice_get (filter (λ pair. is_lt (name_order key.now.items pair.0.items)) entries.now.entries) 0 }
 {
-    entries.range((Bound::Excluded(key), Bound::Unbounded)).next()
+    entries
+        .range((Bound::Excluded(key), Bound::Unbounded))
+        .next()
 }
 
 /// The first pair whose key is above a name, looked for from the start.
-fn first_above<'a, V>(entries: &'a BTreeMap<Vec<u8>, V>, name: &[u8]) -> Option<(&'a Vec<u8>, &'a V)>
+fn first_above<'a, V>(
+    entries: &'a BTreeMap<Vec<u8>, V>,
+    name: &[u8],
+) -> Option<(&'a Vec<u8>, &'a V)>
     ensures { option_map (λ (p : Bor (Vec ℕ) × Bor V). (p.0.now, p.1.now)) result ≡ slice_get (filter (λ pair. is_lt (name_order name.now pair.0.items)) entries.now.entries) 0 }
 {
     'pairs: for pair in entries.iter() {
