@@ -1,5 +1,5 @@
 -- A map from octet strings to values, as the list of its pairs in rising order of the names.
-use Rattle.std.specs.Prelude.{ℕ, Bool, List, Option, filter, slice_get}
+use Rattle.std.specs.Prelude.{ℕ, List, Option, filter, slice_get}
 use Rattle.std.specs.declared.cmp.Ordering.{Ordering}
 use Rattle.std.specs.Ordering.{nat_cmp, is_lt}
 use Rattle.std.specs.Cmp.Lexicographic.{slice_cmp}

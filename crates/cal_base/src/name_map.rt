@@ -6,6 +6,7 @@ ghost use Rattle.std.specs.Global.{Vec};
 ghost use Rattle.std.specs.Ordering.{is_lt};
 ghost use Rattle.cal_base.specs.NameMap.{IsInOrder, value_at, with_value, without, next_above, name_order};
 
+use crate::list::Octets;
 use crate::no_memory::NoMemory;
 use std::alloc::Global;
 use std::cmp::Ordering;
@@ -66,15 +67,16 @@ impl<V> NameMap<V> {
         self.entries.get_mut(name)
     }
 
-    /// Puts a value at a name, in the place of the one that was there. Without memory the map stays
-    /// as it was, and both are dropped.
-    pub fn insert(&mut self, name: Vec<u8>, value: V) -> Result<(), NoMemory>
+    /// Puts a value at a name, in the place of the one that was there, for which it takes no memory.
+    /// Without memory for a new name the map stays as it was, and name and value are dropped.
+    pub fn insert(&mut self, name: Octets, value: V) -> Result<(), NoMemory>
     where
         V: Drop,
-        ensures ok { OnOk result (self.new ≡ with_value self.old name.items value) }
+        ensures ok { OnOk result (self.new ≡ with_value self.old name value) }
         ensures err { OnErr result (self.new ≡ self.old) }
+        ensures err_only_at_new_name { OnErr result (value_at self.old name ≡ None) }
     {
-        let Ok(_old) = self.entries.insert(name, value) else {
+        let Ok(_old) = self.entries.insert(name.into_vec(), value) else {
             return Err(NoMemory);
         };
         Ok(())
