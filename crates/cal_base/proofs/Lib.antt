@@ -1,1 +1,3 @@
+mod LineExamples
 pub mod NameMapLemmas
+mod TreeExamples

@@ -1,5 +1,10 @@
+pub mod ComponentTrees
+pub mod ContentLines
+pub mod LineGrammar
 pub mod NameMap
 pub mod NameMapLends
+pub mod Octets
 pub mod Reserved
 pub mod Text
+pub mod WrittenLines
 pub mod formers

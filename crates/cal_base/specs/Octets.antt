@@ -1,0 +1,32 @@
+-- The octets that the formats name.
+use Rattle.std.specs.Prelude.{ℕ}
+
+abbrev pub tab : ℕ
+tab = 9
+
+abbrev pub line_feed : ℕ
+line_feed = 10
+
+abbrev pub carriage_return : ℕ
+carriage_return = 13
+
+abbrev pub space : ℕ
+space = 32
+
+abbrev pub double_quote : ℕ
+double_quote = 34
+
+abbrev pub comma : ℕ
+comma = 44
+
+abbrev pub hyphen : ℕ
+hyphen = 45
+
+abbrev pub colon : ℕ
+colon = 58
+
+abbrev pub semicolon : ℕ
+semicolon = 59
+
+abbrev pub equals_sign : ℕ
+equals_sign = 61
