@@ -1,14 +1,14 @@
 -- The grammars of lines and of nesting as the standard prints them (RFC 5545, 3.1 and 3.4), and the laws that tie them to the
 -- definitions that compute.
-use Rattle.std.specs.Prelude.{◌≡◌, ℕ, ◌≤◌, Bool, not, ◌==◌, if◌then◌else◌, List, [], ◌∷◌, ◌++◌, map, flat_map, length, Some, None, All, ◌↔◌, IsTrue, IsFalse}
-use Rattle.std.specs.List.{list_any, join_with_byte}
+use Rattle.std.specs.Prelude.{◌≡◌, ℕ, ◌≤◌, Bool, not, ◌==◌, if◌then◌else◌, ◌||◌, nat_eq, List, [], ◌∷◌, ◌++◌, map, flat_map, length, Some, None, Ok, All, ◌↔◌, IsTrue, IsFalse}
+use Rattle.std.specs.List.{list_any, ends_with, join_with_byte}
 use Rattle.cal_base.specs.declared.line.Param.{Param}
 use Rattle.cal_base.specs.declared.line.Line.{Line}
 use Rattle.cal_base.specs.declared.line.Node.{Node}
 use Rattle.cal_base.specs.Text.{raised_all}
-use Rattle.cal_base.specs.Octets.{double_quote, comma, colon, semicolon, equals_sign}
-use Rattle.cal_base.specs.ContentLines.{is_name, is_special, line_of, line_fault, lines_of}
-use Rattle.cal_base.specs.ComponentTrees.{is_begin, is_end, component_name, nesting_fault, tree_of, component, printed}
+use Rattle.cal_base.specs.Octets.{line_feed, double_quote, comma, colon, semicolon, equals_sign}
+use Rattle.cal_base.specs.ContentLines.{is_name, is_special, line_of, read_lines}
+use Rattle.cal_base.specs.ComponentTrees.{is_begin, is_end, component_name, nesting_fault, tree_of, component}
 
 -- Lines as they are written
 
@@ -73,16 +73,24 @@ mutual
 abbrev pub TreesAreNested : Type 0
 TreesAreNested = (lines : List Line) (node : Node) → nesting_fault lines ≡ None → tree_of lines ≡ Some node → IsComponent lines node
 
--- Printing
+-- Writing and printing
 
 -- a line that is read from its own text
 abbrev pub IsReadLine : Line → Type 0
-IsReadLine line = (line_fault line.raw ≡ None) × (lines_of line.raw ≡ line ∷ [])
+IsReadLine line = read_lines line.raw ≡ Ok (line ∷ [])
 
--- a tree of such lines
+-- a text that is one line of the grammar
+abbrev pub IsLineText : List ℕ → Type 0
+IsLineText raw = (line : Line) × (line.raw ≡ raw) × IsReadLine line
+
+-- a text behind which a line can be written: it is empty, or its last line has its end
+abbrev pub EndsLine : List ℕ → Type 0
+EndsLine text = IsTrue ((length text == 0) || ends_with nat_eq text (line_feed ∷ []))
+
+-- a tree of lines that are each read from their own text
 abbrev pub IsBuilt : Node → Type 0
 IsBuilt node = (lines : List Line) × All IsReadLine lines × (nesting_fault lines ≡ None) × (tree_of lines ≡ Some node)
 
--- what is printed of such a tree is read as that tree
-abbrev pub PrintedIsRead : Type 0
-PrintedIsRead = (node : Node) → IsBuilt node → (line_fault (printed node) ≡ None) × (nesting_fault (lines_of (printed node)) ≡ None) × (tree_of (lines_of (printed node)) ≡ Some node)
+-- a text is read as lines that make up a tree
+abbrev pub IsReadAs : List ℕ → Node → Type 0
+IsReadAs octets node = (lines : List Line) × (read_lines octets ≡ Ok lines) × (nesting_fault lines ≡ None) × (tree_of lines ≡ Some node)
