@@ -20,3 +20,6 @@ pub use no_memory::NoMemory;
 pub use reserved_list::ReservedList;
 pub use steps::Steps;
 pub use text::{Name, Word};
+
+#[cfg(test)]
+mod tests;
