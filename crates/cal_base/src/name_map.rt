@@ -1,8 +1,9 @@
 //! An ordered map from octet strings to values, which contracts see as the list of its pairs.
-ghost use Rattle.std.specs.Prelude.{◌≡◌, [], length, OnOk, OnErr, Option, ℕ, List, filter, slice_get};
+ghost use Rattle.std.specs.Prelude.{◌≡◌, [], length, OnOk, OnErr, Option, ℕ, List, filter, slice_get, map, ◌^◌, ◌<◌};
 ghost use Rattle.std.specs.Option.{option_copied, option_copied_mut, option_map};
 ghost use Rattle.std.specs.Borrow.{Bor, sem};
 ghost use Rattle.std.specs.Global.{Vec};
+ghost use Rattle.std.specs.Map.Iter.{ShowsInOrder, deref_pair};
 ghost use Rattle.std.specs.Ordering.{is_lt};
 ghost use Rattle.cal_base.specs.NameMap.{IsInOrder, value_at, with_value, without, next_above, name_order};
 
@@ -11,6 +12,7 @@ use crate::no_memory::NoMemory;
 use std::alloc::Global;
 use std::cmp::Ordering;
 use std::collections::BTreeMap;
+use std::collections::btree_map::Iter;
 use std::marker::Model;
 use std::ops::Bound;
 
@@ -57,6 +59,15 @@ impl<V> NameMap<V> {
         ensures { option_copied result ≡ value_at self.now name.now }
     {
         self.entries.get(name)
+    }
+
+    /// Goes over the pairs in rising order of the names. Takes no memory.
+    pub fn iter(&self) -> Iter<'_, Vec<u8>, V>
+        ensures rest { map (λ pair. (pair.0.items, pair.1)) result ≡ self.now }
+        ensures runs { ShowsInOrder (deref_pair {K = Vec ℕ} {X = V}) }
+        ensures fits { length self.now < 2 ^ 63 }
+    {
+        self.entries.iter()
     }
 
     /// The value at a name to write to, if it is there. Takes no memory.

@@ -75,7 +75,13 @@ fn shared_values(rt: HostRuntime) -> Result<(), Fail> {
 fn maps(rt: HostRuntime) -> Result<(), Fail> {
     let alloc = rt.alloc();
     let mut map = NameMap::new(alloc);
-    for (name, value) in [("two.ics", 2u32), ("one.ics", 1), ("onE.ics", 3), ("one", 4), ("one.ics", 5)] {
+    for (name, value) in [
+        ("two.ics", 2u32),
+        ("one.ics", 1),
+        ("onE.ics", 3),
+        ("one", 4),
+        ("one.ics", 5),
+    ] {
         map.insert(Octets::of(alloc, name.as_bytes())?, value)?;
     }
     assert_eq!(rt; map.len(), 4);
@@ -97,6 +103,11 @@ fn maps(rt: HostRuntime) -> Result<(), Fail> {
         assert_eq!(rt; *held, value, "above {name}");
     }
     assert!(rt; map.next_above(b"two.ics").is_none());
+    let mut order = Octets::new(alloc);
+    for pair in map.iter() {
+        order.extend_from_slice(pair.0.as_slice())?;
+    }
+    assert_eq!(rt; order.as_slice(), b"onE.icsoneone.icstwo.ics".as_slice());
     assert_eq!(rt; map.remove(b"one"), Some(4));
     assert_eq!(rt; map.remove(b"one"), None);
     assert_eq!(rt; map.len(), 3);
@@ -139,7 +150,10 @@ fn lines_and_trees(rt: HostRuntime) -> Result<(), Fail> {
         lines: List::new(alloc),
         children,
     };
-    assert_eq!(rt; calendar.children[0].lines[0].name.as_slice(), b"UID".as_slice());
+    assert_eq!(rt;
+        calendar.children[0].lines[0].name.as_slice(),
+        b"UID".as_slice()
+    );
     assert!(rt; calendar.children[0] != calendar);
     Ok(())
 }
