@@ -1,3 +1,5 @@
+pub mod Memory
+pub mod Outside
 pub mod Reserved
 pub mod Text
 pub mod formers

@@ -3,18 +3,24 @@
 
 pub mod arc;
 pub mod element;
+pub mod failed;
 pub mod line;
 pub mod list;
+pub(crate) mod memory_calls;
+pub(crate) mod memory_supply;
 pub mod no_memory;
 pub mod reserved_list;
 pub mod steps;
+pub mod stream;
 pub mod text;
 
 pub use arc::Arc;
 pub use element::{Attr, Element, Item};
+pub use failed::Failed;
 pub use line::{Line, Node, Param};
 pub use list::{List, Octets};
 pub use no_memory::NoMemory;
 pub use reserved_list::ReservedList;
 pub use steps::Steps;
+pub use stream::{Link, Sink, Source};
 pub use text::{Name, Word};
