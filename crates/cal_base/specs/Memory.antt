@@ -1,7 +1,6 @@
 -- What the implementations in memory hold, and what each of their calls does.
-use Rattle.std.specs.Prelude.{◌≡◌, ℕ, ◌+◌, ◌-◌, ◌^◌, ◌==◌, ◌||◌, if◌then◌else◌, Bool, List, [], length, take, drop, min, Result, Ok, Err}
+use Rattle.std.specs.Prelude.{ℕ, ◌+◌, ◌-◌, ◌^◌, ◌==◌, ◌||◌, Bool, List, ◌++◌, length, drop, min}
 use Rattle.std.specs.List.{list_any}
-use Rattle.cal_base.specs.declared.failed.Failed.{Failed}
 
 -- the calls of such a thing: the numbers of those that fail, how many there were, how many failed
 pub record Calls : Type 0 where
@@ -47,13 +46,49 @@ pub record SourceState : Type 0 where
   pub supply : Supply
   pub calls : Calls
 
+-- whether the next read fails: it is listed, or the allowance is spent
+abbrev pub source_read_fails : SourceState → Bool
+source_read_fails source = is_listed source.calls || (source.supply.allowance == 0)
+
+-- after a read that failed
+abbrev pub source_after_fault : SourceState → SourceState
+source_after_fault source = record { supply = source.supply; calls = after_fault source.calls }
+
+-- after a read of so many octets
+abbrev pub source_after_read : SourceState → ℕ → SourceState
+source_after_read source n = record { supply = supply_behind source.supply n; calls = after_success source.calls }
+
 -- a sink in memory
 pub record SinkState : Type 0 where
   pub written : List ℕ
   pub calls : Calls
+
+-- after a write that failed
+abbrev pub sink_after_fault : SinkState → SinkState
+sink_after_fault sink = record { written = sink.written; calls = after_fault sink.calls }
+
+-- after a write of a piece, which is taken whole
+abbrev pub sink_after_write : SinkState → List ℕ → SinkState
+sink_after_write sink piece = record { written = sink.written ++ piece; calls = after_success sink.calls }
 
 -- a link in memory
 pub record LinkState : Type 0 where
   pub supply : Supply
   pub written : List ℕ
   pub calls : Calls
+
+-- whether the next call fails, if it is a read: it is listed, or the allowance is spent
+abbrev pub link_read_fails : LinkState → Bool
+link_read_fails link = is_listed link.calls || (link.supply.allowance == 0)
+
+-- after a call that failed
+abbrev pub link_after_fault : LinkState → LinkState
+link_after_fault link = record { supply = link.supply; written = link.written; calls = after_fault link.calls }
+
+-- after a read of so many octets
+abbrev pub link_after_read : LinkState → ℕ → LinkState
+link_after_read link n = record { supply = supply_behind link.supply n; written = link.written; calls = after_success link.calls }
+
+-- after a write of a piece, which is taken whole
+abbrev pub link_after_write : LinkState → List ℕ → LinkState
+link_after_write link piece = record { supply = link.supply; written = link.written ++ piece; calls = after_success link.calls }

@@ -1,5 +1,5 @@
 //! The calls of an implementation in memory, some of which fail.
-ghost use Rattle.std.specs.Prelude.{◌≡◌};
+ghost use Rattle.std.specs.Prelude.{◌≡◌, ◌≤◌};
 ghost use Rattle.cal_base.specs.Memory.{no_calls, is_listed, after_success, after_fault};
 
 use crate::failed::Failed;
@@ -51,7 +51,8 @@ impl MemoryCalls {
 
     /// Counts a call that failed.
     pub(crate) fn fail(&mut self) -> Failed
-        ensures { self.new ≡ after_fault self.old }
+        ensures after { self.new ≡ after_fault self.old }
+        ensures never_falls { self.old.faults ≤ self.new.faults }
     {
         self.made = self.made.saturating_add(1);
         self.faults = self.faults.saturating_add(1);

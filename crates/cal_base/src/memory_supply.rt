@@ -1,5 +1,5 @@
 //! What an implementation in memory has left to read.
-ghost use Rattle.std.specs.Prelude.{◌≡◌, ◌≤◌, ◌^◌, ◌++◌, length, take, drop};
+ghost use Rattle.std.specs.Prelude.{◌≡◌, ◌==◌, ◌≤◌, ◌++◌, length, take, drop, min};
 ghost use Rattle.cal_base.specs.Memory.{given_len, supply_behind};
 
 use crate::list::Octets;
@@ -14,20 +14,19 @@ pub(crate) struct MemorySupply {
 }
 
 impl Model for MemorySupply {
-    ghost use Rattle.std.specs.Prelude.{drop, length, ◌≤◌, ◌^◌};
+    ghost use Rattle.std.specs.Prelude.{drop, length, ◌≤◌};
     ghost use Rattle.cal_base.specs.Memory.{Supply};
 
     ghost Value = { Supply };
 
     ghost view = { λ s. record { rest = drop s.place s.octets; allowance = s.allowed } };
 
-    ghost invariant = { λ s. (s.place ≤ length s.octets) × (s.allowed ≤ 2 ^ 62) };
+    ghost invariant = { λ s. s.place ≤ length s.octets };
 }
 
 impl MemorySupply {
     /// All of the octets, of which so many may be given.
     pub(crate) fn new(octets: Octets, allowance: u64) -> MemorySupply
-        requires { allowance ≤ 2 ^ 62 }
         ensures { result ≡ record { rest = octets; allowance = allowance } }
     {
         MemorySupply {
@@ -79,5 +78,3 @@ fn copy_front(from: &[u8], into: &mut [u8], most: u64) -> usize
     into[..n].copy_from_slice(&from[..n]);
     n
 }
-
-ghost use Rattle.std.specs.Prelude.{◌==◌, min};
