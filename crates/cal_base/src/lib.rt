@@ -2,11 +2,15 @@
 #![tactic(auto)]
 
 pub mod arc;
+pub mod clock;
+pub mod door;
 pub mod element;
 pub mod failed;
+pub mod files;
 pub mod line;
 pub mod list;
 pub(crate) mod memory_calls;
+pub mod memory_clock;
 pub mod memory_stream;
 pub(crate) mod memory_supply;
 pub mod no_memory;
@@ -16,10 +20,14 @@ pub mod stream;
 pub mod text;
 
 pub use arc::Arc;
+pub use clock::Clock;
+pub use door::{Door, Gate};
 pub use element::{Attr, Element, Item};
 pub use failed::Failed;
+pub use files::{FileFault, Files};
 pub use line::{Line, Node, Param};
 pub use list::{List, Octets};
+pub use memory_clock::{FixedClock, SetClock};
 pub use memory_stream::{MemoryLink, MemorySink, MemorySource};
 pub use no_memory::NoMemory;
 pub use reserved_list::ReservedList;
