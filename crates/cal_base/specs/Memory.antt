@@ -1,5 +1,6 @@
 -- What the implementations in memory hold, and what each of their calls does.
-use Rattle.std.specs.Prelude.{ℕ, ◌+◌, ◌-◌, ◌^◌, ◌==◌, ◌||◌, Bool, List, ◌++◌, length, drop, min}
+use Rattle.std.specs.Prelude.{ℕ, ◌+◌, ◌-◌, ◌^◌, ◌==◌, ◌||◌, if◌then◌else◌, Bool, List, [], ◌∷◌, ◌++◌, length, drop, min, Option, Some, None, is_none, nat_eq, ℤ}
+use Rattle.std.specs.Cmp.Lexicographic.{pointwise}
 use Rattle.std.specs.List.{list_any}
 
 -- the calls of such a thing: the numbers of those that fail, how many there were, how many failed
@@ -92,3 +93,56 @@ link_after_read link n = record { supply = supply_behind link.supply n; written 
 -- after a write of a piece, which is taken whole
 abbrev pub link_after_write : LinkState → List ℕ → LinkState
 link_after_write link piece = record { supply = link.supply; written = link.written ++ piece; calls = after_success link.calls }
+
+-- the content of the first of these files that has this path
+abbrev pub content_of : List (List ℕ × List ℕ) → List ℕ → Option (List ℕ)
+content_of [] path = None
+content_of (file ∷ files) path = if pointwise nat_eq file.0 path then Some file.1 else content_of files path
+
+-- files in memory: pairs of a path and a content
+pub record FilesState : Type 0 where
+  pub files : List (List ℕ × List ℕ)
+  pub calls : Calls
+
+-- whether the next read of a path fails: it is listed, or there is no such file
+abbrev pub files_read_fails : FilesState → List ℕ → Bool
+files_read_fails files path = is_listed files.calls || is_none (content_of files.files path)
+
+-- after a read that failed
+abbrev pub files_after_fault : FilesState → FilesState
+files_after_fault files = record { files = files.files; calls = after_fault files.calls }
+
+-- after a read that gave the content, or found it too long
+abbrev pub files_after_read : FilesState → FilesState
+files_after_read files = record { files = files.files; calls = after_success files.calls }
+
+-- a door in memory: the links that it has not given yet, and the moment of its clock
+pub record DoorState : Type 0 where
+  pub links : List LinkState
+  pub moment : ℤ
+  pub tries : ℕ
+  pub calls : Calls
+
+-- a door that nobody has used
+abbrev pub new_door : List LinkState → ℤ → List ℕ → DoorState
+new_door links moment failing = record { links = links; moment = moment; tries = 0; calls = no_calls failing }
+
+-- after an `open` or an `another` that failed
+abbrev pub door_after_fault : DoorState → DoorState
+door_after_fault door = record { links = door.links; moment = door.moment; tries = door.tries; calls = after_fault door.calls }
+
+-- after an `open` or an `another` that did not fail
+abbrev pub door_after_success : DoorState → DoorState
+door_after_success door = record { links = door.links; moment = door.moment; tries = door.tries; calls = after_success door.calls }
+
+-- whether the next call fails, if it is an `accept`: it is listed, or no link is left
+abbrev pub accept_fails : DoorState → Bool
+accept_fails door = is_listed door.calls || (length door.links == 0)
+
+-- after an `accept` that failed
+abbrev pub door_after_failed_accept : DoorState → DoorState
+door_after_failed_accept door = record { links = door.links; moment = door.moment; tries = counted door.tries; calls = after_fault door.calls }
+
+-- after an `accept` that gave the first link
+abbrev pub door_after_accept : DoorState → DoorState
+door_after_accept door = record { links = drop 1 door.links; moment = door.moment; tries = counted door.tries; calls = after_success door.calls }
