@@ -1,3 +1,4 @@
+pub mod Adapter
 pub mod Memory
 pub mod Outside
 pub mod Reserved

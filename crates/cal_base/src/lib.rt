@@ -3,6 +3,7 @@
 
 pub mod arc;
 pub mod clock;
+pub(crate) mod counted_stream;
 pub mod door;
 pub mod element;
 pub mod failed;
@@ -20,6 +21,7 @@ pub mod reserved_list;
 pub mod steps;
 pub mod stream;
 pub mod text;
+pub mod whole;
 
 pub use arc::Arc;
 pub use clock::Clock;
@@ -38,3 +40,4 @@ pub use reserved_list::ReservedList;
 pub use steps::Steps;
 pub use stream::{Link, Sink, Source};
 pub use text::{Name, Word};
+pub use whole::{ReadEnd, read_up_to, write_all};

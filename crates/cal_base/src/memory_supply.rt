@@ -1,8 +1,9 @@
 //! What an implementation in memory has left to read.
-ghost use Rattle.std.specs.Prelude.{◌≡◌, ◌==◌, ◌≤◌, ◌++◌, length, take, drop, min};
+ghost use Rattle.std.specs.Prelude.{◌≡◌, ◌==◌, ◌++◌, length, take, drop, min};
 ghost use Rattle.cal_base.specs.Memory.{given_len, supply_behind};
 
 use crate::list::Octets;
+use crate::whole::behind;
 use std::marker::Model;
 
 /// What is left to read, and how many octets of it may still be given.
@@ -58,14 +59,6 @@ impl MemorySupply {
         self.allowed -= n as u64;
         n
     }
-}
-
-/// What lies behind a place.
-fn behind(text: &[u8], place: usize) -> &[u8]
-    requires { place ≤ length text.now }
-    ensures { result.now ≡ drop place text.now }
-{
-    &text[place..]
 }
 
 /// Copies as many octets as there are, as fit and as are allowed.
