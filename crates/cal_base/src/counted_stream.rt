@@ -50,6 +50,7 @@ impl<T> CountedStream<T> {
         ensures never_falls { self.old.faults ≤ self.new.faults }
         ensures allowance_kept { self.new.allowance ≡ self.old.allowance }
         ensures ended_kept { self.new.ended ≡ self.old.ended }
+        ensures bounded { self.old.allowance ≤ 2 ^ 62 }
     {
         self.faults = self.faults.saturating_add(1);
         Failed
@@ -81,8 +82,7 @@ impl<T: Read> Source for CountedStream<T> {
 }
 
 impl<T: Write> CountedStream<T> {
-    /// Writes the front of a piece and flushes; a write that takes nothing of a piece that is not
-    /// empty is a failed call.
+    /// Writes the front of a piece and flushes.
     pub(crate) fn write(&mut self, piece: &[u8]) -> Result<usize, Failed>
         ensures failed { OnErr result (Rose self.old.faults self.new.faults) }
         ensures never_falls { self.old.faults ≤ self.new.faults }
@@ -91,12 +91,24 @@ impl<T: Write> CountedStream<T> {
         ensures within { IfOk result (λ n. n ≤ length piece.now) }
         ensures some { IfOk result (λ n. 0 < length piece.now → 0 < n) }
     {
-        let Ok(n) = self.stream.write(piece) else {
+        let Ok(n) = write_some(&mut self.stream, piece) else {
             return Err(self.fail());
         };
-        if self.stream.flush().is_err() || n == 0 && !piece.is_empty() {
-            return Err(self.fail());
-        }
         Ok(n)
     }
+}
+
+/// Writes the front of a piece and flushes. It is a failure, which the caller counts, where either
+/// fails, and where nothing was taken of a piece that is not empty.
+pub(crate) fn write_some<W: Write>(writer: &mut W, piece: &[u8]) -> Result<usize, Failed>
+    ensures within { IfOk result (λ n. n ≤ length piece.now) }
+    ensures some { IfOk result (λ n. 0 < length piece.now → 0 < n) }
+{
+    let Ok(n) = writer.write(piece) else {
+        return Err(Failed);
+    };
+    if writer.flush().is_err() || n == 0 && !piece.is_empty() {
+        return Err(Failed);
+    }
+    Ok(n)
 }

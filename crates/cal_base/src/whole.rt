@@ -5,7 +5,7 @@ ghost use Rattle.cal_base.specs.Outside.{Rose, TakesUpTo, Goes, Adds};
 use crate::failed::Failed;
 use crate::list::Octets;
 use crate::no_memory::NoMemory;
-use crate::stream::{Sink, Source};
+use crate::stream::{Link, Sink, Source};
 use std::alloc::Global;
 
 /// How many octets are asked for at a time.
@@ -105,6 +105,23 @@ pub fn write_all<K: Sink>(sink: &mut K, piece: &[u8]) -> Result<(), Failed>
     let mut done = 0;
     'writing: while done < piece.len() {
         done += sink.write(behind(piece, done))?;
+    }
+    Ok(())
+}
+
+/// Writes all of a piece to a link, of which nothing is read. After a failure a front of the piece
+/// was written.
+pub fn send_all<L: Link>(link: &mut L, piece: &[u8]) -> Result<(), Failed>
+    ensures whole { OnOk result (Adds (L.written link.old) piece.now (L.written link.new)) }
+    ensures front { (n : ℕ) × (n ≤ length piece.now) × Adds (L.written link.old) (take n piece.now) (L.written link.new) }
+    ensures left_kept { L.left link.new ≡ L.left link.old }
+    ensures allowance_kept { L.allowance link.new ≡ L.allowance link.old }
+    ensures failed { OnErr result (Rose (L.faults link.old) (L.faults link.new)) }
+    ensures never_falls { L.faults link.old ≤ L.faults link.new }
+{
+    let mut done = 0;
+    'sending: while done < piece.len() {
+        done += link.write(behind(piece, done))?;
     }
     Ok(())
 }
