@@ -112,3 +112,94 @@ pub(crate) fn write_some<W: Write>(writer: &mut W, piece: &[u8]) -> Result<usize
     }
     Ok(n)
 }
+
+#[cfg(test)]
+mod tests {
+    use super::*;
+    use std::io;
+    use std::io::ErrorKind;
+
+    /// A stream of the test's own: it answers each call by the next of its numbers, and fails where
+    /// that is `None` or there is no more.
+    #[derive(Drop)]
+    struct Scripted {
+        answers: [Option<usize>; 5],
+        next: usize,
+    }
+
+    impl Scripted {
+        fn answer(&mut self, most: usize) -> io::Result<usize>
+            ensures { IfOk result (λ n. n ≤ most) }
+        {
+            let next = self.next;
+            self.next = next.saturating_add(1);
+            match self.answers.get(next) {
+                Some(Some(n)) => Ok((*n).min(most)),
+                _ => Err(io::Error::from(ErrorKind::TimedOut)),
+            }
+        }
+    }
+
+    impl Read for Scripted {
+        fn read(&mut self, buf: &mut [u8]) -> io::Result<usize> {
+            let most = buf.len();
+            self.answer(most)
+        }
+    }
+
+    impl Write for Scripted {
+        fn write(&mut self, buf: &[u8]) -> io::Result<usize> {
+            self.answer(buf.len())
+        }
+
+        fn flush(&mut self) -> io::Result<()> {
+            self.answer(0)?;
+            Ok(())
+        }
+    }
+
+    #[test]
+    fn reads_end_and_fail(rt: HostRuntime) {
+        let (three, end, failed) = (Ok(3), Ok(0), Err(Failed));
+        for (answers, sizes, wanted) in [
+            (
+                [Some(3), None, Some(9), Some(0), Some(3)],
+                [8usize, 8, 8, 0, 8],
+                [three, failed, Ok(8), end, three],
+            ),
+            // After the first 0 in a place that is not empty the stream is not asked again.
+            (
+                [Some(3), Some(0), Some(3), None, Some(3)],
+                [8, 8, 8, 8, 8],
+                [three, end, end, end, end],
+            ),
+        ] {
+            let mut stream = CountedStream::new(Scripted { answers, next: 0 });
+            let mut place = [0u8; 8];
+            for (size, want) in sizes.iter().zip(wanted.iter()) {
+                let got = stream.read(&mut place[..(*size).min(8)]);
+                assert_eq!(rt; got, *want, "{size}");
+            }
+        }
+    }
+
+    #[test]
+    fn writes_flush_and_fail(rt: HostRuntime) {
+        // Each write that took something is followed by a flush.
+        for (answers, wanted) in [
+            (
+                [Some(3), Some(0), Some(0), Some(0), None],
+                [Ok(3), Err(Failed), Err(Failed)],
+            ),
+            (
+                [Some(3), None, Some(9), Some(0), None],
+                [Err(Failed), Ok(4), Err(Failed)],
+            ),
+        ] {
+            let mut stream = CountedStream::new(Scripted { answers, next: 0 });
+            for want in wanted {
+                assert_eq!(rt; stream.write(b"abcd"), want);
+            }
+        }
+    }
+}

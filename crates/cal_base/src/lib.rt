@@ -17,6 +17,8 @@ pub mod memory_files;
 pub mod memory_stream;
 pub(crate) mod memory_supply;
 pub mod no_memory;
+#[cfg(test)]
+mod outside_tests;
 pub mod reserved_list;
 pub mod std_files;
 pub mod std_stream;

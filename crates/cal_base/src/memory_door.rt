@@ -135,6 +135,5 @@ impl Door for MemoryDoor {
 
     fn rest<R: Wait>(&mut self, _rt: &R)
         ensures { self.new ≡ self.old }
-    {
-    }
+    {}
 }

@@ -83,14 +83,17 @@ impl Link for TcpLink {
 
 /// A listener at an address of the network.
 #[derive(Drop)]
-pub struct TcpDoor<R: Net<Listener = TcpListener, Stream = TcpStream> + std::rt::Clock + Copy + Drop> {
+pub struct TcpDoor<
+    R: Net<Listener = TcpListener, Stream = TcpStream> + std::rt::Clock + Copy + Drop,
+> {
     rt: R,
     listener: Option<TcpListener>,
     faults: u64,
     tries: u64,
 }
 
-impl<R: Net<Listener = TcpListener, Stream = TcpStream> + std::rt::Clock + Copy + Drop> Model for TcpDoor<R> {
+impl<R: Net<Listener = TcpListener, Stream = TcpStream> + std::rt::Clock + Copy + Drop> Model
+    for TcpDoor<R> {
     ghost use Rattle.cal_base.specs.Adapter.{ListenerState};
 
     ghost Value = { ListenerState };
@@ -121,7 +124,8 @@ impl<R: Net<Listener = TcpListener, Stream = TcpStream> + std::rt::Clock + Copy 
     }
 }
 
-impl<R: Net<Listener = TcpListener, Stream = TcpStream> + std::rt::Clock + Copy + Drop + Send> Door for TcpDoor<R> {
+impl<R: Net<Listener = TcpListener, Stream = TcpStream> + std::rt::Clock + Copy + Drop + Send> Door
+    for TcpDoor<R> {
     type Link = TcpLink;
 
     type Clock = SystemClock<R>;
@@ -173,5 +177,74 @@ impl<R: Net<Listener = TcpListener, Stream = TcpStream> + std::rt::Clock + Copy 
     /// Waits `REST_MILLISECONDS`.
     fn rest<W: Wait>(&mut self, _rt: &W) {
         self.rt.sleep(Duration::from_millis(REST_MILLISECONDS));
+    }
+}
+
+#[cfg(test)]
+mod tests {
+    use super::*;
+    use crate::clock::Clock;
+    use crate::list::Octets;
+    use crate::whole::send_all;
+    use std::io;
+    use std::io::{Read, Write};
+    use std::net::Shutdown;
+    use std::test::Fail;
+
+    /// What comes until nothing is left; a real connection gives its octets in any pieces, and not
+    /// more of them than there are octets.
+    fn received<L: Link>(alloc: Global, link: &mut L, most: usize) -> Result<Octets, Fail> {
+        let mut kept = Octets::new(alloc);
+        for _ in 0..most {
+            let mut place = [0u8; 16];
+            let n = link.read(&mut place).ok().ok_or("a read failed")?;
+            if n == 0 {
+                break;
+            }
+            kept.extend_from_slice(&place[..n])?;
+        }
+        Ok(kept)
+    }
+
+    #[test]
+    fn a_connection_is_accepted_and_closes(rt: HostRuntime) -> Result<(), Fail> {
+        let mut door = TcpDoor::new(&rt);
+        assert!(rt; door.accept(&rt).is_err());
+        assert!(rt; door.another(rt.alloc()).is_err());
+        assert_eq!(rt; door.open("no address"), Err(Failed));
+        assert_eq!(rt; door.open("127.0.0.1:0"), Ok(()));
+        let mut other = door.another(rt.alloc()).ok().ok_or("another door")?;
+        let address = match &door.listener {
+            Some(listener) => listener.local_addr()?,
+            None => Err(io::Error::from(io::ErrorKind::NotConnected))?,
+        };
+
+        let mut client = TcpStream::connect(&rt, address)?;
+        let mut link = other.accept(&rt).ok().ok_or("a link")?;
+        client.write_all(b"hello")?;
+        client.shutdown(Shutdown::Write)?;
+        let kept = received(rt.alloc(), &mut link, 6)?;
+        assert_eq!(rt; kept.as_slice(), b"hello".as_slice());
+        assert_eq!(rt; link.read(&mut [0u8; 16]), Ok(0));
+        assert_eq!(rt; send_all(&mut link, b"reply"), Ok(()));
+        drop(link);
+        let mut reply = [0u8; 5];
+        client.read_exact(&mut reply)?;
+        assert_eq!(rt; reply, *b"reply");
+
+        // The options of a connection are those that were asked for.
+        let _client = TcpStream::connect(&rt, address)?;
+        let (stream, _) = match &door.listener {
+            Some(listener) => listener.accept()?,
+            None => Err(io::Error::from(io::ErrorKind::NotConnected))?,
+        };
+        assert!(rt; prepare(&stream));
+        let time = Some(Duration::from_secs(LINK_TIMEOUT_SECONDS));
+        assert!(rt; stream.nodelay()?);
+        assert_eq!(rt; stream.read_timeout()?, time);
+        assert_eq!(rt; stream.write_timeout()?, time);
+        door.rest(&rt);
+        assert!(rt; 0 < door.clock().now());
+        Ok(())
     }
 }

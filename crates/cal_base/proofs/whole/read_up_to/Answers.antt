@@ -9,4 +9,4 @@ returns-in_err-take_piece-clause-taken g c =
 pub returns-then-limit-len-clause-taken : goal.returns-then-limit-len-clause-taken
 returns-then-limit-len-clause-taken g c =
     Goes-up_to (c.args.limit + 1) _ _ _ (Goes-more _ _ _ [] _ _ c.reading.invariant.goes c.in_ok-take_piece.ensures.goes)
-        (omega (arith, c.in_ok-take_piece.ensures.longer, c.in_ok-take_piece.ensures.within))
+    (omega (arith, c.in_ok-take_piece.ensures.longer, c.in_ok-take_piece.ensures.within))
