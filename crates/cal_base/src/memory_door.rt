@@ -9,7 +9,7 @@ use crate::failed::Failed;
 use crate::list::List;
 use crate::memory_calls::MemoryCalls;
 use crate::memory_clock::FixedClock;
-use crate::memory_stream::MemoryLink;
+use crate::memory_link::MemoryLink;
 use std::alloc::Global;
 use std::marker::Model;
 use std::sync::Wait;
