@@ -1,1 +1,2 @@
+mod MemoryExamples
 pub mod Taking
