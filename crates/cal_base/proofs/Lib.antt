@@ -1,3 +1,5 @@
 mod LineExamples
+mod MemoryExamples
 pub mod NameMapLemmas
+pub mod Taking
 mod TreeExamples

@@ -1,9 +1,12 @@
+pub mod Adapter
 pub mod ComponentTrees
 pub mod ContentLines
 pub mod LineGrammar
+pub mod Memory
 pub mod NameMap
 pub mod NameMapLends
 pub mod Octets
+pub mod Outside
 pub mod Reserved
 pub mod Text
 pub mod WrittenLines

@@ -1,25 +1,68 @@
-//! The base types.
+//! The base that every other crate stands on.
+//!
+//! It is given nothing. It gives the types that contracts see as plain data (lists, texts, an
+//! ordered map, shared values, content lines, component trees, XML elements), the counter of steps,
+//! and what lies outside a program as traits (streams, files, clocks, doors, gates), each with an
+//! implementation in memory and an adapter over the real thing. Its `specs/` define content lines
+//! and component trees.
 #![tactic(auto)]
 
 pub mod arc;
+pub mod clock;
+pub(crate) mod counted_stream;
+pub mod door;
 pub mod element;
+pub mod failed;
+pub mod files;
 pub mod line;
 pub mod list;
+pub(crate) mod memory_calls;
+pub mod memory_clock;
+pub mod memory_door;
+pub mod memory_files;
+pub mod memory_link;
+pub mod memory_sink;
+pub mod memory_source;
+pub(crate) mod memory_supply;
 pub mod name_map;
 pub mod no_memory;
 pub mod reserved_list;
+pub mod std_files;
+pub mod std_stream;
 pub mod steps;
+pub mod stream;
+pub mod system_clock;
+pub mod tcp;
 pub mod text;
+pub mod whole;
 
 pub use arc::Arc;
+pub use clock::Clock;
+pub use door::{Door, Gate};
 pub use element::{Attr, Element, Item};
+pub use failed::Failed;
+pub use files::{FileFault, Files};
 pub use line::{Line, Node, Param};
 pub use list::{List, Octets};
+pub use memory_clock::{FixedClock, SetClock};
+pub use memory_door::{MemoryDoor, OpenGate};
+pub use memory_files::MemoryFiles;
+pub use memory_link::MemoryLink;
+pub use memory_sink::MemorySink;
+pub use memory_source::MemorySource;
 pub use name_map::NameMap;
 pub use no_memory::NoMemory;
 pub use reserved_list::ReservedList;
+pub use std_files::StdFiles;
+pub use std_stream::{StdSink, StdSource};
 pub use steps::Steps;
+pub use stream::{Link, Sink, Source};
+pub use system_clock::SystemClock;
+pub use tcp::{TcpDoor, TcpLink};
 pub use text::{Name, Word};
+pub use whole::{ReadEnd, read_up_to, send_all, write_all};
 
+#[cfg(test)]
+mod outside_tests;
 #[cfg(test)]
 mod tests;

@@ -1,0 +1,250 @@
+//! Connections over TCP.
+ghost use Rattle.std.specs.Prelude.{◌≡◌, ◌≤◌, ◌^◌, [], false, Some, None, if◌then◌else◌};
+ghost use Rattle.cal_base.specs.Outside.{Rose};
+
+use crate::counted_stream::CountedStream;
+use crate::door::Door;
+use crate::failed::Failed;
+use crate::stream::{Link, Source};
+use crate::system_clock::SystemClock;
+use std::alloc::Global;
+use std::marker::Model;
+use std::net::{Net, TcpListener, TcpStream};
+use std::sync::Wait;
+use std::time::Duration;
+
+/// How many seconds a read or a write of a connection may wait for the other side.
+pub const LINK_TIMEOUT_SECONDS: u64 = 10;
+
+/// How many milliseconds `rest` of a door waits.
+pub const REST_MILLISECONDS: u64 = 100;
+
+/// A connection. It tells nothing of what is left until its end, nor of what was written.
+#[derive(Drop)]
+pub struct TcpLink {
+    stream: CountedStream<TcpStream>,
+    is_prepared: bool,
+}
+
+impl Model for TcpLink {
+    ghost use Rattle.cal_base.specs.Adapter.{StreamState};
+
+    ghost Value = { StreamState };
+
+    ghost view = { λ l. l.stream };
+}
+
+impl TcpLink {
+    /// A connection whose small writes the kernel does not hold back, and whose reads and writes
+    /// fail after `LINK_TIMEOUT_SECONDS` without an octet. Where the system does not grant this,
+    /// every call of the link fails, since one without a time-out could hold its session for ever.
+    pub fn new(stream: TcpStream) -> TcpLink
+        ensures { result ≡ record { faults = 0; allowance = 2 ^ 62; ended = false } }
+    {
+        let is_prepared = prepare(&stream);
+        TcpLink {
+            stream: CountedStream::new(stream),
+            is_prepared,
+        }
+    }
+}
+
+/// Whether the system took the options of a connection.
+fn prepare(stream: &TcpStream) -> bool {
+    let time = Duration::from_secs(LINK_TIMEOUT_SECONDS);
+    stream.set_nodelay(true).is_ok()
+        && stream.set_read_timeout(Some(time)).is_ok()
+        && stream.set_write_timeout(Some(time)).is_ok()
+}
+
+impl Link for TcpLink {
+    ghost faults = { λ l. l.faults };
+
+    ghost left = { λ l. if l.ended then Some [] else None };
+
+    ghost written = { λ _. None };
+
+    ghost allowance = { λ l. l.allowance };
+
+    fn read(&mut self, into: &mut [u8]) -> Result<usize, Failed> {
+        if !self.is_prepared {
+            return Err(self.stream.fail());
+        }
+        self.stream.read(into)
+    }
+
+    fn write(&mut self, piece: &[u8]) -> Result<usize, Failed> {
+        if !self.is_prepared {
+            return Err(self.stream.fail());
+        }
+        self.stream.write(piece)
+    }
+}
+
+/// A listener at an address of the network.
+#[derive(Drop)]
+pub struct TcpDoor<
+    R: Net<Listener = TcpListener, Stream = TcpStream> + std::rt::Clock + Copy + Drop,
+> {
+    rt: R,
+    listener: Option<TcpListener>,
+    faults: u64,
+    tries: u64,
+}
+
+impl<R: Net<Listener = TcpListener, Stream = TcpStream> + std::rt::Clock + Copy + Drop> Model
+    for TcpDoor<R> {
+    ghost use Rattle.cal_base.specs.Adapter.{ListenerState};
+
+    ghost Value = { ListenerState };
+
+    ghost view = { λ d. record { faults = d.faults; tries = d.tries } };
+}
+
+impl<R: Net<Listener = TcpListener, Stream = TcpStream> + std::rt::Clock + Copy + Drop> TcpDoor<R> {
+    /// A door that does not listen yet: until `open` each `another` and each `accept` fails.
+    pub fn new(rt: &R) -> TcpDoor<R>
+        ensures { result ≡ record { faults = 0; tries = 0 } }
+    {
+        TcpDoor {
+            rt: *rt,
+            listener: None,
+            faults: 0,
+            tries: 0,
+        }
+    }
+
+    fn fail(&mut self) -> Failed
+        ensures rose { Rose self.old.faults self.new.faults }
+        ensures never_falls { self.old.faults ≤ self.new.faults }
+        ensures tries_kept { self.new.tries ≡ self.old.tries }
+    {
+        self.faults = self.faults.saturating_add(1);
+        Failed
+    }
+}
+
+impl<R: Net<Listener = TcpListener, Stream = TcpStream> + std::rt::Clock + Copy + Drop + Send> Door
+    for TcpDoor<R> {
+    type Link = TcpLink;
+
+    type Clock = SystemClock<R>;
+
+    ghost faults = { λ d. d.faults };
+
+    ghost tries = { λ d. d.tries };
+
+    ghost moment = { λ _. None };
+
+    fn open(&mut self, address: &str) -> Result<(), Failed> {
+        let Ok(listener) = TcpListener::bind(&self.rt, address) else {
+            return Err(self.fail());
+        };
+        self.listener = Some(listener);
+        Ok(())
+    }
+
+    fn another(&mut self, _alloc: Global) -> Result<TcpDoor<R>, Failed> {
+        let Some(listener) = &self.listener else {
+            return Err(self.fail());
+        };
+        let Ok(listener) = listener.try_clone() else {
+            return Err(self.fail());
+        };
+        Ok(TcpDoor {
+            rt: self.rt,
+            listener: Some(listener),
+            faults: 0,
+            tries: 0,
+        })
+    }
+
+    fn accept<W: Wait>(&mut self, _rt: &W) -> Result<TcpLink, Failed> {
+        self.tries = self.tries.saturating_add(1);
+        let Some(listener) = &self.listener else {
+            return Err(self.fail());
+        };
+        let Ok((stream, _)) = listener.accept() else {
+            return Err(self.fail());
+        };
+        Ok(TcpLink::new(stream))
+    }
+
+    fn clock(&self) -> SystemClock<R> {
+        SystemClock::new(&self.rt)
+    }
+
+    /// Waits `REST_MILLISECONDS`.
+    fn rest<W: Wait>(&mut self, _rt: &W) {
+        self.rt.sleep(Duration::from_millis(REST_MILLISECONDS));
+    }
+}
+
+#[cfg(test)]
+mod tests {
+    use super::*;
+    use crate::clock::Clock;
+    use crate::list::Octets;
+    use crate::whole::send_all;
+    use std::io;
+    use std::io::{Read, Write};
+    use std::net::Shutdown;
+    use std::test::Fail;
+
+    /// What comes until nothing is left; a real connection gives its octets in any pieces, and not
+    /// more of them than there are octets.
+    fn received<L: Link>(alloc: Global, link: &mut L, most: usize) -> Result<Octets, Fail> {
+        let mut kept = Octets::new(alloc);
+        for _ in 0..most {
+            let mut place = [0u8; 16];
+            let n = link.read(&mut place).ok().ok_or("a read failed")?;
+            if n == 0 {
+                break;
+            }
+            kept.extend_from_slice(&place[..n])?;
+        }
+        Ok(kept)
+    }
+
+    #[test]
+    fn a_connection_is_accepted_and_closes(rt: HostRuntime) -> Result<(), Fail> {
+        let mut door = TcpDoor::new(&rt);
+        assert!(rt; door.accept(&rt).is_err());
+        assert!(rt; door.another(rt.alloc()).is_err());
+        assert_eq!(rt; door.open("no address"), Err(Failed));
+        assert_eq!(rt; door.open("127.0.0.1:0"), Ok(()));
+        let mut other = door.another(rt.alloc()).ok().ok_or("another door")?;
+        let address = match &door.listener {
+            Some(listener) => listener.local_addr()?,
+            None => Err(io::Error::from(io::ErrorKind::NotConnected))?,
+        };
+
+        let mut client = TcpStream::connect(&rt, address)?;
+        let mut link = other.accept(&rt).ok().ok_or("a link")?;
+        client.write_all(b"hello")?;
+        client.shutdown(Shutdown::Write)?;
+        let kept = received(rt.alloc(), &mut link, 6)?;
+        assert_eq!(rt; kept.as_slice(), b"hello".as_slice());
+        assert_eq!(rt; link.read(&mut [0u8; 16]), Ok(0));
+        assert_eq!(rt; send_all(&mut link, b"reply"), Ok(()));
+        drop(link);
+        let mut reply = [0u8; 5];
+        client.read_exact(&mut reply)?;
+        assert_eq!(rt; reply, *b"reply");
+
+        // The options of a connection are those that were asked for.
+        let _client = TcpStream::connect(&rt, address)?;
+        let (stream, _) = match &door.listener {
+            Some(listener) => listener.accept()?,
+            None => Err(io::Error::from(io::ErrorKind::NotConnected))?,
+        };
+        assert!(rt; prepare(&stream));
+        let time = Some(Duration::from_secs(LINK_TIMEOUT_SECONDS));
+        assert!(rt; stream.nodelay()?);
+        assert_eq!(rt; stream.read_timeout()?, time);
+        assert_eq!(rt; stream.write_timeout()?, time);
+        door.rest(&rt);
+        assert!(rt; 0 < door.clock().now());
+        Ok(())
+    }
+}
