@@ -1,0 +1,2 @@
+pub mod CalendarLaws
+pub mod JiffCalendar
