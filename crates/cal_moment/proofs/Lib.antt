@@ -1,2 +1,6 @@
 pub mod CalendarLaws
+pub mod DigitLemmas
+pub mod Fronts
 pub mod JiffCalendar
+pub mod NumberLemmas
+pub mod StopsLemmas

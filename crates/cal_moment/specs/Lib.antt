@@ -1,1 +1,4 @@
+pub mod BadPlace
 pub mod Calendar
+pub mod Stops
+pub mod Texts

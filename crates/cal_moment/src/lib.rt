@@ -11,6 +11,7 @@
 #![tactic(auto)]
 
 mod calendar;
+mod pieces;
 pub mod stamp;
 
 pub use calendar::{day_of, fields_of, weekday};

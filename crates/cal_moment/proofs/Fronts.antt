@@ -1,0 +1,25 @@
+-- Two cuts of one list.
+use Rattle.std.proofs.Common.{◌≡◌, ℕ, suc, ◌+◌, ◌⊎◌, inl, inr, List, [], ◌∷◌, ◌++◌, length, refl, sym, ap, arith}
+
+-- one of the fronts begins with the other
+pub fronts_cases : (a b c d : List ℕ) → a ++ b ≡ c ++ d → ((m : List ℕ) × (c ≡ a ++ m) × (b ≡ m ++ d)) ⊎ ((m : List ℕ) × (a ≡ c ++ m) × (d ≡ m ++ b))
+fronts_cases [] b c d e = inl (c, refl, e)
+fronts_cases (x ∷ a) b [] d e = inr (x ∷ a, refl, sym e)
+fronts_cases (x ∷ a) b (y ∷ c) d e =
+    let head : x ≡ y = cc in
+    let rest : a ++ b ≡ c ++ d = cc in
+    elim (fronts_cases a b c d rest) [
+      | inl w ↦ inl (w.0, cc, w.2)
+      | inr w ↦ inr (w.0, cc, w.2)
+    ]
+
+-- fronts of one length are the same
+pub fronts_same : (a b c d : List ℕ) → length a ≡ length c → a ++ b ≡ c ++ d → (a ≡ c) × (b ≡ d)
+fronts_same [] b [] d n e = (refl, e)
+fronts_same [] b (y ∷ c) d n e = absurd (omega arith)
+fronts_same (x ∷ a) b [] d n e = absurd (omega arith)
+fronts_same (x ∷ a) b (y ∷ c) d n e =
+    let head : x ≡ y = cc in
+    let rest : a ++ b ≡ c ++ d = cc in
+    let same = fronts_same a b c d (omega arith) rest in
+    (cc, same.1)
