@@ -15,6 +15,10 @@ pub days_before_month-end : (y : ℕ) → days_before_month y 13 ≡ year_length
 days_before_month-end y =
     elim (cases_Bool (is_leap y)) [ inl leap ↦ rw leap refl | inr common ↦ rw common refl ]
 
+-- a month has 28 to 31 days
+pub month_length-bounds : (y m : ℕ) → (28 ≤ month_length y m) × (month_length y m ≤ 31)
+month_length-bounds y m = grind arith
+
 -- later years begin later
 pub first_of_year-le : (x y : ℕ) → x ≤ y → first_of_year x ≤ first_of_year y
 first_of_year-le x y h = omega arith

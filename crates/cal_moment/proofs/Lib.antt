@@ -1,4 +1,5 @@
 pub mod CalendarLaws
+pub mod DateLemmas
 pub mod DigitLemmas
 pub mod Fronts
 pub mod JiffCalendar

@@ -5,7 +5,7 @@ use Rattle.std.proofs.Math.Nat.{pow-suc, mul-le-mul_right}
 use Rattle.cal_moment.specs.Texts.{digits}
 use Rattle.cal_moment.specs.Stops.{GoOnAlike, Stops, Opens, IsNumber, BeginsWithNoDigit}
 use Rattle.cal_moment.proofs.DigitLemmas.{digits_more, number_parts, tail_below, digit_below}
-use Rattle.cal_moment.proofs.StopsLemmas.{stops_here, stops_after, stops_same}
+use Rattle.cal_moment.proofs.StopsLemmas.{stops_here, stops_after, stops_in, stops_same}
 
 no_digit : (d : ℕ) (rest text : List ℕ) → d < 10 → BeginsWithNoDigit text → ¬ GoOnAlike ((48 + d) ∷ rest) text
 no_digit d rest [] h none alike = alike
@@ -65,3 +65,20 @@ module _ (width count : ℕ) (one_more : width ≡ suc count) where
   -- a first digit, and the place behind it where the number stops
   pub number_stops_more : (low high d : ℕ) (text left : List ℕ) → d ≤ 9 → d * 10 ^ count ≤ high → Stops (Opens (IsNumber count (low - d * 10 ^ count) (high - d * 10 ^ count))) text left → Stops (Opens (IsNumber width low high)) ((48 + d) ∷ text) left
   number_stops_more low high d text left digit begun s = rw one_more (number_more count low high d text left digit begun s)
+
+-- a text that begins with a number of the range
+pub record BeginsWithNumber (width low high : ℕ) (text : List ℕ) : Type 0 where
+  pub n : ℕ
+  pub rest : List ℕ
+  pub from : low ≤ n
+  pub until : n ≤ high
+  pub fits : n < 10 ^ width
+  pub split : text ≡ digits width n ++ rest
+
+-- where the number stops that each text of a set begins with, the set stops
+pub stops_number : (width low high : ℕ) (Texts : List ℕ → Type 0) (text left : List ℕ) → ((n : ℕ) → low ≤ n → n ≤ high → n < 10 ^ width → (rest : List ℕ) × Texts (digits width n ++ rest)) → ((t : List ℕ) → Texts t → BeginsWithNumber width low high t) → Stops (Opens (IsNumber width low high)) text left → Stops Texts text left
+stops_number width low high Texts text left complete only s =
+    stops_in (IsNumber width low high) Texts text left
+    (λ t number. let more = complete number.0 number.1 number.2 number.3 in (more.0, rw number.4 more.1))
+    (λ t whole. let b = only t whole in inl (digits width b.n, b.rest, (b.n, b.from, b.until, b.fits, refl), b.split))
+    s

@@ -11,6 +11,7 @@
 #![tactic(auto)]
 
 mod calendar;
+mod dates;
 mod pieces;
 pub mod stamp;
 

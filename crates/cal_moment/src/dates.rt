@@ -1,0 +1,45 @@
+//! Texts of dates (RFC 5545, 3.3.4).
+
+ghost use Rattle.std.specs.Prelude.{◌≡◌, ◌++◌, List, ℕ, ◌≤◌, IfOk, IfErr};
+ghost use Rattle.cal_moment.specs.BadPlace.{IsIn, IsBadAt};
+ghost use Rattle.cal_moment.specs.Texts.{SpellsDate, date_text};
+ghost use Rattle.cal_moment.specs.Calendar.{month_length, IsDate};
+ghost use Rattle.cal_moment.specs.Stops.{Opens, Stops};
+
+use crate::calendar::day_of;
+use crate::pieces::number;
+use crate::stamp::{Bad, Day};
+use jiff_core::civil;
+
+/// The days of a month of the years 1 to 9999.
+fn days_of_month(year: u32, month: u32) -> u32
+    requires year { year ≤ 9999 }
+    requires month { month ≤ 12 }
+    ensures value { result ≡ month_length year month }
+    ensures some { 28 ≤ result }
+    ensures bound { result ≤ 31 }
+{
+    u32::from(civil::days_in_month(year as i16, month as u8))
+}
+
+/// The day of a date that the calendar has.
+fn day_of_fields(year: u32, month: u32, day: u32) -> Day
+    requires { IsDate year month day }
+    ensures { SpellsDate (date_text year month day) result }
+{
+    match day_of(year as i32, month as u8, day as u8) {
+        Some(day) => day,
+        None => unreachable!(),
+    }
+}
+
+/// Reads a date at the front of a text.
+pub fn date_in_front(text: &[u8]) -> Result<(Day, &[u8]), &[u8]>
+    ensures ok { IfOk result (λ found. (front : List ℕ) × SpellsDate front found.0 × (text.now ≡ front ++ found.1.now)) }
+    ensures err { IfErr result (λ left. Stops (Opens (IsIn SpellsDate)) text.now left.now) }
+{
+    let (year, rest) = number(text, 4, 1, 9999)?;
+    let (month, rest) = number(rest, 2, 1, 12)?;
+    let (day, rest) = number(rest, 2, 1, days_of_month(year, month))?;
+    Ok((day_of_fields(year, month, day), rest))
+}
