@@ -1,14 +1,17 @@
 -- Where the text of a date stops.
-use Rattle.std.proofs.Common.{◌≡◌, ℕ, ◌+◌, ◌<◌, ◌≤◌, ◌^◌, List, [], ◌∷◌, ◌++◌, refl, sym, ap, ◌∙◌, arith}
+use Rattle.std.proofs.Common.{◌≡◌, ℕ, ◌+◌, ◌<◌, ◌≤◌, ◌^◌, List, [], ◌∷◌, ◌++◌, length, refl, sym, ap, ◌∙◌, arith, ◌≢◌, ℤ}
+use Rattle.std.proofs.lemmas.List.{append-nil}
+use Rattle.cal_moment.specs.declared.stamp.Day.{Day}
+use Rattle.cal_moment.proofs.Fronts.{fronts_same}
 use Rattle.std.specs.Int.{IsInRange}
 use Rattle.cal_moment.specs.BadPlace.{IsIn}
 use Rattle.cal_moment.specs.Calendar.{month_length, IsDate, day_of_date, day_since_1970}
 use Rattle.cal_moment.specs.Stops.{Stops, Opens, IsNumber}
 use Rattle.cal_moment.specs.Texts.{digits, date_text, SpellsDate}
 use Rattle.cal_moment.proofs.CalendarLaws.{month_length-bounds}
-use Rattle.cal_moment.proofs.DigitLemmas.{digits_then}
+use Rattle.cal_moment.proofs.DigitLemmas.{digits_then, digits_injective}
 use Rattle.cal_moment.proofs.NumberLemmas.{BeginsWithNumber, stops_number}
-use Rattle.cal_moment.proofs.StopsLemmas.{stops_after}
+use Rattle.cal_moment.proofs.StopsLemmas.{stops_after, stops_end}
 
 -- a text that begins with a date
 pub record BeginsWithDate (text : List ℕ) : Type 0 where
@@ -84,3 +87,26 @@ date_stops_day y m text left from until low high s =
         let short = month_length-bounds y m in
         record { n = b.day; rest = b.rest; from = b.day_in.0; until = b.day_in.1; fits = omega (arith, b.day_in, short); split = b.split })
       s)
+
+pub length-date : (text : List ℕ) → IsIn SpellsDate text → length text ≡ 8
+length-date text spells = ap length spells.1.spelled
+
+-- two dates at the front of one text are one
+pub dates_then : (a b c d : List ℕ) → IsIn SpellsDate a → IsIn SpellsDate c → a ++ b ≡ c ++ d → (a ≡ c) × (b ≡ d)
+dates_then a b c d first second e = fronts_same a b c d (length-date a first ∙ sym (length-date c second)) e
+
+-- nothing follows a date
+pub date_stops_end : (front left : List ℕ) → IsIn SpellsDate front → left ≢ [] → Stops (IsIn SpellsDate) (front ++ left) left
+date_stops_end front left spells some =
+    stops_end (IsIn SpellsDate) front left spells (λ next h. (dates_then front next (front ++ next) [] spells h (sym (append-nil (front ++ next)))).1) some
+
+-- a text spells one date
+pub one_date : (text : List ℕ) (a b : Day) → SpellsDate text a → SpellsDate text b → a ≡ b
+one_date text a b first second =
+    let years = digits_then 4 first.year second.year (digits 2 first.month ++ digits 2 first.day) (digits 2 second.month ++ digits 2 second.day) (omega (arith, first.date)) (omega (arith, second.date)) (sym first.spelled ∙ second.spelled) in
+    let months = digits_then 2 first.month second.month (digits 2 first.day) (digits 2 second.day) (omega (arith, first.date)) (omega (arith, second.date)) years.1 in
+    let short = month_length-bounds first.year first.month in
+    let also_short = month_length-bounds second.year second.month in
+    let days = digits_injective 2 first.day second.day (omega (arith, first.date, short)) (omega (arith, second.date, also_short)) months.1 in
+    let same : a.0 ≡ b.0 = first.number ∙ rw (years.0, months.0, days) (sym second.number) in
+    ap (λ (z : ℤ). record { 0 = z }) same

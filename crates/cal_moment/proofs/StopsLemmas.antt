@@ -63,6 +63,22 @@ stops_same A B text left to back s =
       apart = λ next h. s.apart next (back _ h);
     }
 
+-- where the texts of a set stop at the front of a text, the set stops
+pub stops_whole : (Texts : List ℕ → Type 0) (text left : List ℕ) → Stops (Opens Texts) text left → Stops Texts text left
+stops_whole Texts text left s =
+    stops_in Texts Texts text left (λ t h. ([], rw append-nil h)) (λ t h. inl (t, [], h, sym (append-nil t))) s
+
+-- a set that goes no further than this front stops behind it
+pub stops_end : (Texts : List ℕ → Type 0) (front left : List ℕ) → Texts front → ((next : List ℕ) → Texts (front ++ next) → next ≡ []) → left ≢ [] → Stops Texts (front ++ left) left
+stops_end Texts front left whole last some =
+    stops_after Texts front left left
+    (stops_here (λ t. Texts (front ++ t)) left [] (rw append-nil whole) (λ next h. not_alike next left (last next h) some))
+  where
+    not_alike : (next left : List ℕ) → next ≡ [] → left ≢ [] → ¬ GoOnAlike next left
+    not_alike [] [] e some alike = some refl
+    not_alike [] (d ∷ left) e some alike = alike
+    not_alike (c ∷ next) left e some alike = cc
+
 no_longer : (Texts : List ℕ → Type 0) (front left : List ℕ) → ((next : List ℕ) → Texts (front ++ next) → ¬ GoOnAlike next left) → (n : ℕ) → length front + (n + 1) ≤ length (front ++ left) → (rest : List ℕ) → ¬ Texts (take (length front + (n + 1)) (front ++ left) ++ rest)
 no_longer Texts front [] apart n h rest t =
     absurd (omega (arith, h, length-append {A = ℕ} front []))
@@ -82,3 +98,7 @@ bad_at Spells text left s =
         let more : n ≡ length s.front + (n - length s.front - 1 + 1) = omega arith in
         no_longer (IsIn Spells) s.front left s.apart (n - length s.front - 1) (rw (← more) k) begun.0 (rw more at begun.1);
     }
+
+-- what is left is a part of the text
+pub left-le : (Texts : List ℕ → Type 0) (text left : List ℕ) → Stops Texts text left → length left ≤ length text
+left-le Texts text left s = omega (arith, ap length s.split, length-append s.front left)

@@ -1,5 +1,5 @@
 -- How far a reader comes in a text: up to the octets that are left where no text of a set goes on.
-use Rattle.std.specs.Prelude.{◌≡◌, ℕ, ◌≤◌, ◌<◌, ◌^◌, List, [], ◌∷◌, ◌++◌, ◌⊎◌}
+use Rattle.std.specs.Prelude.{◌≡◌, ◌≢◌, ℕ, ◌≤◌, ◌<◌, ◌^◌, List, [], ◌∷◌, ◌++◌, ◌⊎◌}
 use Rattle.cal_moment.specs.Texts.{digits}
 
 -- two texts go on alike: with the same octet, or both with their end
@@ -30,3 +30,8 @@ IsNumber width low high text =
 abbrev pub BeginsWithNoDigit : List ℕ → Type 0
 BeginsWithNoDigit [] = Unit {0}
 BeginsWithNoDigit (c ∷ cs) = (c < 48) ⊎ (57 < c)
+
+-- the text begins with no sign
+abbrev pub BeginsWithNoSign : List ℕ → Type 0
+BeginsWithNoSign [] = Unit {0}
+BeginsWithNoSign (c ∷ cs) = (c ≢ 43) × (c ≢ 45)

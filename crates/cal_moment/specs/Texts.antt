@@ -40,24 +40,39 @@ pub record SpellsTime (text : List ℕ) (value : ℕ) : Type 0 where
   pub spelled : text ≡ time_text hour minute second
   pub number : value ≡ 3600 * hour + 60 * minute + min second 59
 
+-- Z behind a time of UTC
+abbrev pub utc_text : Bool → List ℕ
+utc_text utc = if utc then codes "Z" else []
+
 -- RFC 5545, 3.3.5: a date, T and a time of day, and then Z where it is of UTC
 pub record SpellsDateTime (text : List ℕ) (value : Local × Bool) : Type 0 where
   pub date : List ℕ
   pub time : List ℕ
   pub spells_date : SpellsDate date (record { 0 = value.0.day })
   pub spells_time : SpellsTime time value.0.second
-  pub spelled : text ≡ date ++ (codes "T" ++ (time ++ (if value.1 then codes "Z" else [])))
+  pub spelled : text ≡ date ++ (codes "T" ++ (time ++ utc_text value.1))
 
--- RFC 5545, 3.3.14: a sign, an hour, a minute and perhaps a second; its seconds
+-- nothing, which is second 0, or two digits of a second
+abbrev pub SpellsSecond : List ℕ → ℕ → Type 0
+SpellsSecond text second = ((text ≡ []) × (second ≡ 0)) ⊎ ((second ≤ 59) × (text ≡ digits 2 second))
+
+-- minus or plus
+abbrev pub sign_text : Bool → List ℕ
+sign_text negative = if negative then codes "-" else codes "+"
+
+-- a natural number, or its negative
+abbrev pub signed : Bool → ℕ → ℤ
+signed negative n = if negative then neg_ℤ (pos n) else pos n
+
+-- RFC 5545, 3.3.14: a sign, an hour, a minute and perhaps a second; all of it in seconds
 pub record SpellsOffset (text : List ℕ) (value : ℤ) : Type 0 where
+  pub negative : Bool
   pub hour : ℕ
   pub minute : ℕ
   pub second : ℕ
-  pub negative : Bool
-  pub seconds_text : List ℕ
+  pub second_text : List ℕ
   pub hour_in : hour ≤ 23
   pub minute_in : minute ≤ 59
-  pub second_in : second ≤ 59
-  pub left_out : (seconds_text ≡ digits 2 second) ⊎ ((seconds_text ≡ []) × (second ≡ 0))
-  pub spelled : text ≡ (if negative then codes "-" else codes "+") ++ (digits 2 hour ++ (digits 2 minute ++ seconds_text))
-  pub number : value ≡ (if negative then neg_ℤ (pos (3600 * hour + 60 * minute + second)) else pos (3600 * hour + 60 * minute + second))
+  pub spells_second : SpellsSecond second_text second
+  pub spelled : text ≡ sign_text negative ++ (digits 2 hour ++ (digits 2 minute ++ second_text))
+  pub number : value ≡ signed negative (3600 * hour + 60 * minute + second)

@@ -1,13 +1,14 @@
 //! Texts of dates (RFC 5545, 3.3.4).
 
 ghost use Rattle.std.specs.Prelude.{◌≡◌, ◌++◌, List, ℕ, ◌≤◌, IfOk, IfErr};
+ghost use Rattle.cal_moment.specs.declared.stamp.Day.{Day};
 ghost use Rattle.cal_moment.specs.BadPlace.{IsIn, IsBadAt};
 ghost use Rattle.cal_moment.specs.Texts.{SpellsDate, date_text};
 ghost use Rattle.cal_moment.specs.Calendar.{month_length, IsDate};
 ghost use Rattle.cal_moment.specs.Stops.{Opens, Stops};
 
 use crate::calendar::day_of;
-use crate::pieces::number;
+use crate::pieces::{bad, number};
 use crate::stamp::{Bad, Day};
 use jiff_core::civil;
 
@@ -42,4 +43,25 @@ pub fn date_in_front(text: &[u8]) -> Result<(Day, &[u8]), &[u8]>
     let (month, rest) = number(rest, 2, 1, 12)?;
     let (day, rest) = number(rest, 2, 1, days_of_month(year, month))?;
     Ok((day_of_fields(year, month, day), rest))
+}
+
+/// The day that the whole text spells.
+fn whole_date(text: &[u8]) -> Result<Day, &[u8]>
+    ensures ok { IfOk result (SpellsDate text.now) }
+    ensures err { IfErr result (λ left. Stops (IsIn SpellsDate) text.now left.now) }
+{
+    let (day, rest) = date_in_front(text)?;
+    if rest.is_empty() { Ok(day) } else { Err(rest) }
+}
+
+/// Reads a DATE: four digits of the year, two of the month and two of the day.
+pub fn read_date(text: &[u8]) -> Result<Day, Bad>
+    ensures ok { IfOk result (SpellsDate text.now) }
+    ensures only { (day : Day) → SpellsDate text.now day → result ≡ Ok day }
+    ensures err { IfErr result (λ fault. IsBadAt SpellsDate text.now fault.place) }
+{
+    match whole_date(text) {
+        Ok(day) => Ok(day),
+        Err(left) => Err(bad(text, left)),
+    }
 }

@@ -1,9 +1,11 @@
 //! The pieces of a text, read from its front: each reader gives the value and what is left, or, as
 //! an error, what is left from the first octet at which no such piece goes on.
 
-ghost use Rattle.std.specs.Prelude.{◌≡◌, ◌+◌, ◌^◌, ◌<◌, ◌≤◌, ◌∷◌, ◌++◌, IfOk, IfErr, IfSome, IfNone};
-ghost use Rattle.cal_moment.specs.Texts.{digits};
-ghost use Rattle.cal_moment.specs.Stops.{BeginsWithNoDigit, IsNumber, Opens, Stops};
+ghost use Rattle.std.specs.Prelude.{◌≡◌, ◌+◌, ◌-◌, ◌^◌, ◌<◌, ◌≤◌, ◌∷◌, ◌++◌, IfOk, IfErr, IfSome, IfNone, [], length, codes};
+ghost use Rattle.cal_moment.specs.Texts.{digits, sign_text};
+ghost use Rattle.cal_moment.specs.Stops.{BeginsWithNoDigit, BeginsWithNoSign, IsNumber, Opens, Stops};
+
+use crate::stamp::Bad;
 
 /// Reads one digit.
 pub fn digit(text: &[u8]) -> Option<(u8, &[u8])>
@@ -37,4 +39,37 @@ pub fn number(text: &[u8], width: u32, low: u32, high: u32) -> Result<(u32, &[u8
     }
     let (tail, rest) = number(rest, width - 1, low.saturating_sub(begun), high - begun)?;
     Ok((begun + tail, rest))
+}
+
+/// Reads one given octet.
+pub fn letter(text: &[u8], wanted: u8) -> Result<&[u8], &[u8]>
+    ensures ok { IfOk result (λ rest. text.now ≡ wanted ∷ rest.now) }
+    ensures err { IfErr result (λ left. Stops (Opens (λ t. t ≡ wanted ∷ [])) text.now left.now) }
+{
+    match text {
+        [first, rest @ ..] if *first == wanted => Ok(rest),
+        _ => Err(text),
+    }
+}
+
+/// Reads a sign, and whether it is a minus.
+pub fn sign(text: &[u8]) -> Option<(bool, &[u8])>
+    ensures some { IfSome result (λ found. text.now ≡ sign_text found.0 ++ found.1.now) }
+    ensures none { IfNone result (BeginsWithNoSign text.now) }
+{
+    match text {
+        [b'+', rest @ ..] => Some((false, rest)),
+        [b'-', rest @ ..] => Some((true, rest)),
+        _ => None,
+    }
+}
+
+/// The fault of a text whose octets from `left` on continue no text of the grammar.
+pub fn bad(text: &[u8], left: &[u8]) -> Bad
+    requires { length left.now ≤ length text.now }
+    ensures { result.place ≡ length text.now - length left.now }
+{
+    Bad {
+        place: (text.len() - left.len()) as u64,
+    }
 }
