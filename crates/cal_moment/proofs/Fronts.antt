@@ -1,5 +1,5 @@
 -- Two cuts of one list.
-use Rattle.std.proofs.Common.{◌≡◌, ℕ, suc, ◌+◌, ◌⊎◌, inl, inr, List, [], ◌∷◌, ◌++◌, length, refl, sym, ap, arith}
+use Rattle.std.proofs.Common.{◌≡◌, ◌≢◌, false, nat_eq, ℕ, suc, ◌+◌, ◌⊎◌, inl, inr, List, [], ◌∷◌, ◌++◌, length, refl, sym, ap, arith}
 
 -- one of the fronts begins with the other
 pub fronts_cases : (a b c d : List ℕ) → a ++ b ≡ c ++ d → ((m : List ℕ) × (c ≡ a ++ m) × (b ≡ m ++ d)) ⊎ ((m : List ℕ) × (a ≡ c ++ m) × (d ≡ m ++ b))
@@ -23,3 +23,8 @@ fronts_same (x ∷ a) b (y ∷ c) d n e =
     let rest : a ++ b ≡ c ++ d = cc in
     let same = fronts_same a b c d (omega arith) rest in
     (cc, same.1)
+
+-- what `is_empty` answers
+pub not_empty : (text : List ℕ) → nat_eq (length text) 0 ≡ false → text ≢ []
+not_empty [] e h = cc
+not_empty (c ∷ text) e h = cc

@@ -1,7 +1,9 @@
 pub mod CalendarLaws
 pub mod DateLemmas
+pub mod DateTimeLemmas
 pub mod DigitLemmas
 pub mod Fronts
 pub mod JiffCalendar
 pub mod NumberLemmas
 pub mod StopsLemmas
+pub mod TimeLemmas

@@ -3,7 +3,7 @@ use Rattle.std.proofs.Common.{◌≡◌, ◌≢◌, ℕ, suc, ◌+◌, ◌-◌, 
 use Rattle.std.proofs.Math.Seq.{take-append_seam, take-append-add}
 use Rattle.std.proofs.lemmas.List.{length-append, append-nil}
 use Rattle.cal_moment.specs.BadPlace.{IsIn, BeginsOne, IsBadAt}
-use Rattle.cal_moment.specs.Stops.{GoOnAlike, Stops, Opens}
+use Rattle.cal_moment.specs.Stops.{BeginsWithNo, GoOnAlike, Stops, Opens}
 use Rattle.cal_moment.proofs.Fronts.{fronts_cases}
 
 alike_self : (text : List ℕ) → GoOnAlike text text
@@ -14,6 +14,15 @@ alike_self (c ∷ text) = refl
 pub stops_here : (Texts : List ℕ → Type 0) (text more : List ℕ) → Texts more → ((next : List ℕ) → Texts next → ¬ GoOnAlike next text) → Stops Texts text text
 stops_here Texts text more begins apart =
     record { front = []; more = more; split = refl; begins = begins; apart = apart }
+
+-- a text that does not begin with the octet that all of the set begin with
+pub stops_letter : (Texts : List ℕ → Type 0) (octet : ℕ) (text more : List ℕ) → Texts (octet ∷ more) → ((next : List ℕ) → Texts next → (rest : List ℕ) × (next ≡ octet ∷ rest)) → BeginsWithNo octet text → Stops Texts text text
+stops_letter Texts octet text more begins only none =
+    stops_here Texts text (octet ∷ more) begins (λ next h. let o = only next h in rw o.1 (not_alike octet o.0 text none))
+  where
+    not_alike : (octet : ℕ) (rest text : List ℕ) → BeginsWithNo octet text → ¬ GoOnAlike (octet ∷ rest) text
+    not_alike octet rest [] none alike = alike
+    not_alike octet rest (c ∷ text) none alike = none alike
 
 -- the place in what is left is the place in the whole
 pub stops_after : (Texts : List ℕ → Type 0) (front text left : List ℕ) → Stops (λ t. Texts (front ++ t)) text left → Stops Texts (front ++ text) left

@@ -1,6 +1,6 @@
 -- How far a reader comes in a text: up to the octets that are left where no text of a set goes on.
-use Rattle.std.specs.Prelude.{◌≡◌, ◌≢◌, ℕ, ◌≤◌, ◌<◌, ◌^◌, List, [], ◌∷◌, ◌++◌, ◌⊎◌}
-use Rattle.cal_moment.specs.Texts.{digits}
+use Rattle.std.specs.Prelude.{◌≡◌, ◌≢◌, ℕ, Bool, ◌≤◌, ◌<◌, ◌^◌, List, [], ◌∷◌, ◌++◌, ◌⊎◌}
+use Rattle.cal_moment.specs.Texts.{digits, utc_text}
 
 -- two texts go on alike: with the same octet, or both with their end
 abbrev pub GoOnAlike : List ℕ → List ℕ → Type 0
@@ -26,6 +26,11 @@ abbrev pub IsNumber : ℕ → ℕ → ℕ → List ℕ → Type 0
 IsNumber width low high text =
     (n : ℕ) × (low ≤ n) × (n ≤ high) × (n < 10 ^ width) × (text ≡ digits width n)
 
+-- the text does not begin with this octet
+abbrev pub BeginsWithNo : ℕ → List ℕ → Type 0
+BeginsWithNo octet [] = Unit {0}
+BeginsWithNo octet (c ∷ cs) = octet ≢ c
+
 -- the text begins with no digit
 abbrev pub BeginsWithNoDigit : List ℕ → Type 0
 BeginsWithNoDigit [] = Unit {0}
@@ -35,3 +40,7 @@ BeginsWithNoDigit (c ∷ cs) = (c < 48) ⊎ (57 < c)
 abbrev pub BeginsWithNoSign : List ℕ → Type 0
 BeginsWithNoSign [] = Unit {0}
 BeginsWithNoSign (c ∷ cs) = (c ≢ 43) × (c ≢ 45)
+
+-- the end of a time
+abbrev pub IsUtcText : List ℕ → Type 0
+IsUtcText text = (utc : Bool) × (text ≡ utc_text utc)

@@ -14,6 +14,9 @@ mod calendar;
 mod dates;
 mod pieces;
 pub mod stamp;
+mod times;
 
 pub use calendar::{day_of, fields_of, weekday};
+pub use dates::read_date;
 pub use stamp::{Bad, Day, Length, Local, Period, PeriodEnd, Stamp, Utc};
+pub use times::read_date_time;

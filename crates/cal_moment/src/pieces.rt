@@ -3,7 +3,7 @@
 
 ghost use Rattle.std.specs.Prelude.{◌≡◌, ◌+◌, ◌-◌, ◌^◌, ◌<◌, ◌≤◌, ◌∷◌, ◌++◌, IfOk, IfErr, IfSome, IfNone, [], length, codes};
 ghost use Rattle.cal_moment.specs.Texts.{digits, sign_text};
-ghost use Rattle.cal_moment.specs.Stops.{BeginsWithNoDigit, BeginsWithNoSign, IsNumber, Opens, Stops};
+ghost use Rattle.cal_moment.specs.Stops.{BeginsWithNo, BeginsWithNoDigit, BeginsWithNoSign, IsNumber, Opens, Stops};
 
 use crate::stamp::Bad;
 
@@ -41,14 +41,14 @@ pub fn number(text: &[u8], width: u32, low: u32, high: u32) -> Result<(u32, &[u8
     Ok((begun + tail, rest))
 }
 
-/// Reads one given octet.
-pub fn letter(text: &[u8], wanted: u8) -> Result<&[u8], &[u8]>
-    ensures ok { IfOk result (λ rest. text.now ≡ wanted ∷ rest.now) }
-    ensures err { IfErr result (λ left. Stops (Opens (λ t. t ≡ wanted ∷ [])) text.now left.now) }
+/// Reads one given octet, and gives what is left.
+pub fn letter(text: &[u8], wanted: u8) -> Option<&[u8]>
+    ensures some { IfSome result (λ rest. text.now ≡ wanted ∷ rest.now) }
+    ensures none { IfNone result (BeginsWithNo wanted text.now) }
 {
     match text {
-        [first, rest @ ..] if *first == wanted => Ok(rest),
-        _ => Err(text),
+        [first, rest @ ..] if *first == wanted => Some(rest),
+        _ => None,
     }
 }
 
