@@ -83,6 +83,10 @@ epoch_day = 719_528
 abbrev pub IsCalendarDay : ℤ → Type 0
 IsCalendarDay day = (neg_ℤ (pos 719_162) ≤ℤ day) × (day ≤ℤ pos 2_932_896)
 
+-- seconds from 1970 of such a day
+abbrev pub IsCalendarMoment : ℤ → Type 0
+IsCalendarMoment seconds = (neg_ℤ (pos 62_135_596_800) ≤ℤ seconds) × (seconds ≤ℤ pos 253_402_300_799)
+
 -- the number of a day that is counted from 1970
 abbrev pub day_number : ℤ → ℕ
 day_number day = unsigned_abs (day +ℤ pos epoch_day)

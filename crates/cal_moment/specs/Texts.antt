@@ -5,7 +5,7 @@ use Rattle.std.specs.Int.{IsInRange}
 use Rattle.cal_moment.specs.declared.stamp.Day.{Day}
 use Rattle.cal_moment.specs.declared.stamp.Local.{Local}
 use Rattle.cal_moment.specs.declared.stamp.Length.{Length}
-use Rattle.cal_moment.specs.Calendar.{IsDate, day_of_date, day_since_1970}
+use Rattle.cal_moment.specs.Calendar.{IsDate, day_of_date, day_since_1970, year_of, month_of, day_of_month, day_of_moment, second_of_day, moment_of_seconds}
 
 -- so many digits of a number below 10 ^ count, leading zeros among them
 abbrev pub digits : ℕ → ℕ → List ℕ
@@ -51,6 +51,22 @@ pub record SpellsDateTime (text : List ℕ) (value : Local × Bool) : Type 0 whe
   pub spells_date : SpellsDate date (record { 0 = value.0.day })
   pub spells_time : SpellsTime time value.0.second
   pub spelled : text ≡ date ++ (codes "T" ++ (time ++ utc_text value.1))
+
+-- the one text that is written for a day, by its number from the year 0
+abbrev pub written_date : ℕ → List ℕ
+written_date day = date_text (year_of day) (month_of day) (day_of_month day)
+
+-- the one text that is written for a local time, by its moment from the year 0; its second is below 60
+abbrev pub written_local : ℕ → List ℕ
+written_local moment =
+    let second = second_of_day moment in
+    written_date (day_of_moment moment) ++ (codes "T" ++ time_text (second / 3600) (second / 60 % 60) (second % 60))
+
+-- the local time in UTC of seconds since 1970
+abbrev pub local_of_seconds : ℤ → Local
+local_of_seconds seconds =
+    let moment = moment_of_seconds seconds in
+    record { day = day_since_1970 (day_of_moment moment); second = second_of_day moment }
 
 -- nothing, which is second 0, or two digits of a second
 abbrev pub SpellsSecond : List ℕ → ℕ → Type 0

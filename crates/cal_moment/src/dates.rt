@@ -3,12 +3,12 @@
 ghost use Rattle.std.specs.Prelude.{◌≡◌, ◌++◌, List, ℕ, ◌≤◌, IfOk, IfErr};
 ghost use Rattle.cal_moment.specs.declared.stamp.Day.{Day};
 ghost use Rattle.cal_moment.specs.BadPlace.{IsIn, IsBadAt};
-ghost use Rattle.cal_moment.specs.Texts.{SpellsDate, date_text};
-ghost use Rattle.cal_moment.specs.Calendar.{month_length, IsDate};
+ghost use Rattle.cal_moment.specs.Texts.{SpellsDate, date_text, written_date};
+ghost use Rattle.cal_moment.specs.Calendar.{month_length, IsCalendarDay, IsDate, day_number};
 ghost use Rattle.cal_moment.specs.Stops.{Opens, Stops};
 
-use crate::calendar::day_of;
-use crate::pieces::{bad, number};
+use crate::calendar::{day_of, fields_of};
+use crate::pieces::{bad, decimal, number};
 use crate::stamp::{Bad, Day};
 use jiff_core::civil;
 
@@ -64,4 +64,33 @@ pub fn read_date(text: &[u8]) -> Result<Day, Bad>
         Ok(day) => Ok(day),
         Err(left) => Err(bad(text, left)),
     }
+}
+
+/// The eight octets of a date.
+fn date_octets(year: u32, month: u32, day: u32) -> [u8; 8]
+    requires year { year ≤ 9999 }
+    requires month { month ≤ 99 }
+    requires day { day ≤ 99 }
+    ensures { result ≡ date_text year month day }
+{
+    [
+        decimal(year / 1000),
+        decimal(year / 100 % 10),
+        decimal(year / 10 % 10),
+        decimal(year % 10),
+        decimal(month / 10),
+        decimal(month % 10),
+        decimal(day / 10),
+        decimal(day % 10),
+    ]
+}
+
+/// Writes a day of the years 1 to 9999 as a DATE, which spells it.
+pub fn write_date(day: Day) -> [u8; 8]
+    requires { IsCalendarDay day.0 }
+    ensures text { result ≡ written_date (day_number day.0) }
+    ensures read { SpellsDate result day }
+{
+    let (year, month, day) = fields_of(day);
+    date_octets(year as u32, u32::from(month), u32::from(day))
 }

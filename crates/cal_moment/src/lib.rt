@@ -17,6 +17,6 @@ pub mod stamp;
 mod times;
 
 pub use calendar::{day_of, fields_of, weekday};
-pub use dates::read_date;
+pub use dates::{read_date, write_date};
 pub use stamp::{Bad, Day, Length, Local, Period, PeriodEnd, Stamp, Utc};
-pub use times::read_date_time;
+pub use times::{read_date_time, write_local, write_utc};

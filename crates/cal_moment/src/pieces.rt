@@ -73,3 +73,11 @@ pub fn bad(text: &[u8], left: &[u8]) -> Bad
         place: (text.len() - left.len()) as u64,
     }
 }
+
+/// The octet of a digit.
+pub fn decimal(digit: u32) -> u8
+    requires { digit ≤ 9 }
+    ensures { result ≡ 48 + digit }
+{
+    b'0' + digit as u8
+}
