@@ -5,5 +5,6 @@ pub mod DigitLemmas
 pub mod Fronts
 pub mod JiffCalendar
 pub mod NumberLemmas
+pub mod OffsetLemmas
 pub mod StopsLemmas
 pub mod TimeLemmas
