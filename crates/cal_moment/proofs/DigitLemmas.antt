@@ -40,3 +40,17 @@ pub digits_then : (count m n : ℕ) (b d : List ℕ) → m < 10 ^ count → n < 
 digits_then count m n b d hm hn e =
     let same = fronts_same (digits count m) b (digits count n) d (length-digits count m ∙ sym (length-digits count n)) e in
     (digits_injective count m n hm hn same.0, same.1)
+
+-- one digit more at the end
+pub digits_push : (count d n : ℕ) → d ≤ 9 → n < 10 ^ count → digits (suc count) (10 * n + d) ≡ digits count n ++ ((48 + d) ∷ [])
+digits_push zero d n digit h = let none : 10 * n + d ≡ d = omega (arith, h) in let first : d / 1 ≡ d = omega arith in rw (none, first) refl
+digits_push (suc count) d n digit h =
+    let unit = 10 ^ count in
+    let q = n / unit in
+    let r = n % unit in
+    let parts = number_parts count n in
+    let tail = tail_below count n in
+    let power : 10 ^ suc count ≡ unit * 10 = pow-suc 10 count in
+    let next : 10 * n + d ≡ q * 10 ^ suc count + (10 * r + d) = rw power (omega (arith, parts)) in
+    let fits : 10 * r + d < 10 ^ suc count = omega (arith, tail, digit, power) in
+    rw next (digits_more (suc count) q (10 * r + d) fits ∙ ap (λ t. (48 + q) ∷ t) (digits_push count d r digit tail))

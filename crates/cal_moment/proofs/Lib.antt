@@ -1,4 +1,5 @@
 pub mod CalendarLaws
+pub mod CountLemmas
 pub mod DateLemmas
 pub mod DateTimeLemmas
 pub mod DigitLemmas

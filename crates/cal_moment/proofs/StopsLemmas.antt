@@ -61,6 +61,24 @@ stops_in Pieces Texts text left complete only s =
     empty_stops [] (c ∷ next) left some none alike = cc
     empty_stops (c ∷ front) next left some none alike = cc
 
+-- a wider set stops at the same place, where its other texts begin otherwise than this text: P tells by how a text begins
+pub stops_wider : (A B P : List ℕ → Type 0) (text left : List ℕ) → ((a b : List ℕ) → GoOnAlike a b → P b → P a) → ((t : List ℕ) → A t → B t) → ((t : List ℕ) → B t → A t ⊎ (¬ P t × P text)) → Stops A text left → Stops B text left
+stops_wider A B P text left by_begin wider only s =
+    record {
+      front = s.front;
+      more = s.more;
+      split = s.split;
+      begins = wider _ s.begins;
+      apart = λ next h alike. elim (only (s.front ++ next) h) [
+        | inl a ↦ s.apart next a alike
+        | inr other ↦ other.0 (by_begin (s.front ++ next) text (rw s.split (alike_behind s.front next left alike)) other.1)
+      ];
+    }
+  where
+    alike_behind : (front a b : List ℕ) → GoOnAlike a b → GoOnAlike (front ++ a) (front ++ b)
+    alike_behind [] a b alike = alike
+    alike_behind (c ∷ front) a b alike = refl
+
 -- two sets with the same texts stop at the same place
 pub stops_same : (A B : List ℕ → Type 0) (text left : List ℕ) → ((t : List ℕ) → A t → B t) → ((t : List ℕ) → B t → A t) → Stops A text left → Stops B text left
 stops_same A B text left to back s =

@@ -12,6 +12,7 @@
 
 mod calendar;
 mod dates;
+mod lengths;
 mod offsets;
 mod pieces;
 pub mod stamp;

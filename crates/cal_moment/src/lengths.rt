@@ -1,0 +1,84 @@
+//! Texts of lengths of time (RFC 5545, 3.3.6).
+
+ghost use Rattle.std.specs.Prelude.{◌≡◌, ◌≤◌, ◌<◌, ◌+◌, ◌*◌, ◌^◌, ◌∷◌, ◌++◌, ℕ, ℤ, List, length, IfOk, IfErr, IfSome, IfNone};
+ghost use Rattle.cal_moment.specs.declared.stamp.Length.{Length};
+ghost use Rattle.cal_moment.specs.BadPlace.{IsIn, IsBadAt};
+ghost use Rattle.cal_moment.specs.Texts.{digits, signed};
+ghost use Rattle.cal_moment.specs.LengthTexts.{SpellsBody, SpellsLength, SpellsTimes, time_units, unit_letter, unit_seconds};
+ghost use Rattle.cal_moment.specs.Stops.{BeginsWithNoDigit, Stops};
+ghost use Rattle.cal_moment.specs.LengthPieces.{AreApart, GoesOnToCount, IsLongestCount, SpellsBehind, SpellsBehindDays};
+
+use crate::pieces::{bad, digit, letter, sign};
+use crate::stamp::{Bad, Length};
+
+/// A unit of time with a letter of its own.
+#[derive(Clone, Copy)]
+enum TimeUnit {
+    Hour,
+    Minute,
+    Second,
+}
+
+/// The units of a time, in the order in which they are written.
+const TIME_UNITS: [TimeUnit; 3] = [TimeUnit::Hour, TimeUnit::Minute, TimeUnit::Second];
+
+impl TimeUnit {
+    /// Its letter.
+    fn letter(self) -> u8
+        ensures { result ≡ unit_letter self }
+    {
+        match self {
+            TimeUnit::Hour => b'H',
+            TimeUnit::Minute => b'M',
+            TimeUnit::Second => b'S',
+        }
+    }
+
+    /// Its seconds.
+    fn seconds(self) -> u64
+        ensures value { result ≡ unit_seconds self }
+        ensures bound { result ≤ 3600 }
+    {
+        match self {
+            TimeUnit::Hour => 3600,
+            TimeUnit::Minute => 60,
+            TimeUnit::Second => 1,
+        }
+    }
+}
+
+/// The least number of ten digits.
+const BILLION: u64 = 1_000_000_000;
+
+/// Goes on with a number of so many digits, to one of at most nine.
+fn more_digits(text: &[u8], value: u64, width: u32) -> (u64, &[u8])
+    requires width { width ≤ 9 }
+    requires fits { value < 10 ^ width }
+    ensures { GoesOnToCount width value text.now result.0 result.1.now }
+{
+    if width == 9 {
+        return (value, text);
+    }
+    match digit(text) {
+        Some((next, rest)) => more_digits(rest, 10 * value + u64::from(next), width + 1),
+        None => (value, text),
+    }
+}
+
+/// Reads a number of one to nine digits, as many as there are.
+fn count(text: &[u8]) -> Option<(u64, &[u8])>
+    ensures some { IfSome result (λ found. IsLongestCount text.now found.0 found.1.now) }
+    ensures bound { IfSome result (λ found. found.0 < BILLION) }
+    ensures none { IfNone result (BeginsWithNoDigit text.now) }
+{
+    let (first, rest) = digit(text)?;
+    Some(more_digits(rest, u64::from(first), 1))
+}
+
+/// The first of some units, and the later ones.
+fn first_unit(units: &[TimeUnit]) -> (TimeUnit, &[TimeUnit])
+    requires { 0 < length units.now }
+    ensures { units.now ≡ result.0 ∷ result.1.now }
+{
+    (units[0], &units[1..])
+}
