@@ -44,7 +44,8 @@ digits_are (suc count) n h =
 count_digits : (number : List ℕ) (n : ℕ) → SpellsCount number n → AreDigits number
 count_digits number n s = rw s.spelled (digits_are s.width n s.fits)
 
-count_length : (number : List ℕ) (n : ℕ) → SpellsCount number n → (1 ≤ length number) × (length number ≤ 9)
+-- a number has one to nine digits
+pub count_length : (number : List ℕ) (n : ℕ) → SpellsCount number n → (1 ≤ length number) × (length number ≤ 9)
 count_length number n s =
     let width = ap length s.spelled ∙ length-digits s.width n in omega (arith, width, s.some, s.most)
 

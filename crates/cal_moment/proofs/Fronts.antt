@@ -1,5 +1,6 @@
 -- Two cuts of one list.
-use Rattle.std.proofs.Common.{◌≡◌, ◌≢◌, false, nat_eq, ℕ, suc, ◌+◌, ◌⊎◌, inl, inr, List, [], ◌∷◌, ◌++◌, length, refl, sym, ap, arith}
+use Rattle.std.proofs.Common.{◌≡◌, ◌≢◌, true, false, nat_eq, ℕ, suc, ◌+◌, ◌⊎◌, inl, inr, List, [], ◌∷◌, ◌++◌, length, refl, sym, ap, arith}
+use Rattle.std.proofs.lemmas.Bool.{eqb-true}
 
 -- one of the fronts begins with the other
 pub fronts_cases : (a b c d : List ℕ) → a ++ b ≡ c ++ d → ((m : List ℕ) × (c ≡ a ++ m) × (b ≡ m ++ d)) ⊎ ((m : List ℕ) × (a ≡ c ++ m) × (d ≡ m ++ b))
@@ -25,6 +26,10 @@ fronts_same (x ∷ a) b (y ∷ c) d n e =
     (cc, same.1)
 
 -- what `is_empty` answers
-pub not_empty : (text : List ℕ) → nat_eq (length text) 0 ≡ false → text ≢ []
+pub not_empty : {X : Type 0} (xs : List X) → nat_eq (length xs) 0 ≡ false → xs ≢ []
 not_empty [] e h = cc
-not_empty (c ∷ text) e h = cc
+not_empty (x ∷ xs) e h = cc
+
+pub empty_is : {X : Type 0} (xs : List X) → nat_eq (length xs) 0 ≡ true → xs ≡ []
+empty_is [] e = refl
+empty_is (x ∷ xs) e = absurd (omega (arith, eqb-true (length (x ∷ xs)) 0 e))

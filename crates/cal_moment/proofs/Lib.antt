@@ -7,5 +7,6 @@ pub mod Fronts
 pub mod JiffCalendar
 pub mod NumberLemmas
 pub mod OffsetLemmas
+pub mod PartLemmas
 pub mod StopsLemmas
 pub mod TimeLemmas

@@ -82,3 +82,90 @@ fn first_unit(units: &[TimeUnit]) -> (TimeUnit, &[TimeUnit])
 {
     (units[0], &units[1..])
 }
+
+/// Reads what follows a number of a time that is read to its end: the letter of one of the units,
+/// and numbers of the later ones. Gives the seconds of it all.
+fn parts_behind<'a>(number: u64, text: &'a [u8], units: &[TimeUnit]) -> Result<u64, &'a [u8]>
+    requires number { number < BILLION }
+    requires some { 0 < length units.now }
+    requires apart { AreApart units.now }
+    requires most { length units.now ≤ 3 }
+    ensures ok { IfOk result (SpellsBehind units.now number text.now) }
+    ensures bound { IfOk result (λ seconds. seconds ≤ 3600 * BILLION * length units.now) }
+    ensures err { IfErr result (λ left. Stops (IsIn (SpellsBehind units.now number)) text.now left.now) }
+{
+    let (unit, later) = first_unit(units);
+    let Some(rest) = letter(text, unit.letter()) else {
+        if later.is_empty() {
+            return Err(text);
+        }
+        return parts_behind(number, text, later);
+    };
+    let seconds = number * unit.seconds();
+    if rest.is_empty() {
+        return Ok(seconds);
+    }
+    if later.is_empty() {
+        return Err(rest);
+    }
+    let Some((next, behind)) = count(rest) else {
+        return Err(rest);
+    };
+    let others = parts_behind(next, behind, later)?;
+    Ok(seconds + others)
+}
+
+/// The seconds of the times that the whole text spells.
+fn whole_times(text: &[u8]) -> Result<u64, &[u8]>
+    ensures ok { IfOk result (SpellsTimes text.now) }
+    ensures bound { IfOk result (λ seconds. seconds ≤ 10800 * BILLION) }
+    ensures err { IfErr result (λ left. Stops (IsIn SpellsTimes) text.now left.now) }
+{
+    let Some((number, rest)) = count(text) else {
+        return Err(text);
+    };
+    parts_behind(number, rest, &TIME_UNITS)
+}
+
+/// The seconds behind the D of days: none, or T and times.
+fn whole_behind_days(text: &[u8]) -> Result<u64, &[u8]>
+    ensures ok { IfOk result (SpellsBehindDays text.now) }
+    ensures bound { IfOk result (λ seconds. seconds ≤ 10800 * BILLION) }
+    ensures err { IfErr result (λ left. Stops (IsIn SpellsBehindDays) text.now left.now) }
+{
+    if text.is_empty() {
+        return Ok(0);
+    }
+    let Some(times) = letter(text, b'T') else {
+        return Err(text);
+    };
+    whole_times(times)
+}
+
+/// The days and the seconds that the whole text behind the P spells.
+fn whole_body(text: &[u8]) -> Result<(u64, u64), &[u8]>
+    ensures ok { IfOk result (λ found. SpellsBody text.now found.0 found.1) }
+    ensures days { IfOk result (λ found. found.0 < 7 * BILLION) }
+    ensures seconds { IfOk result (λ found. found.1 ≤ 10800 * BILLION) }
+    ensures err { IfErr result (λ left. Stops (IsIn (λ t value. SpellsBody t value.0 value.1)) text.now left.now) }
+{
+    if let Some(times) = letter(text, b'T') {
+        let seconds = whole_times(times)?;
+        return Ok((0, seconds));
+    }
+    let Some((number, rest)) = count(text) else {
+        return Err(text);
+    };
+    if let Some(end) = letter(rest, b'W') {
+        return if end.is_empty() {
+            Ok((7 * number, 0))
+        } else {
+            Err(end)
+        };
+    }
+    let Some(rest) = letter(rest, b'D') else {
+        return Err(rest);
+    };
+    let seconds = whole_behind_days(rest)?;
+    Ok((number, seconds))
+}
