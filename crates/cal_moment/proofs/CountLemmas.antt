@@ -98,7 +98,8 @@ pub record WithCount (Behind : ℕ → List ℕ → Type 0) (text : List ℕ) : 
   pub behind : Behind n rest
   pub split : text ≡ number ++ rest
 
-zero_counts : SpellsCount (48 ∷ []) 0
+-- 0
+pub zero_counts : SpellsCount (48 ∷ []) 0
 zero_counts = record { width = 1; some = omega arith; most = omega arith; fits = omega arith; spelled = refl }
 
 no_digit_alike : (a b : List ℕ) → GoOnAlike a b → BeginsWithNoDigit b → BeginsWithNoDigit a

@@ -1,3 +1,4 @@
+pub mod BodyLemmas
 pub mod CalendarLaws
 pub mod CountLemmas
 pub mod DateLemmas
@@ -5,6 +6,7 @@ pub mod DateTimeLemmas
 pub mod DigitLemmas
 pub mod Fronts
 pub mod JiffCalendar
+pub mod LengthLemmas
 pub mod NumberLemmas
 pub mod OffsetLemmas
 pub mod PartLemmas

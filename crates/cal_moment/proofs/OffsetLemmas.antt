@@ -46,7 +46,7 @@ cons_tail : (x y : ℕ) (b d : List ℕ) → x ∷ b ≡ y ∷ d → b ≡ d
 cons_tail x y b d e = cc
 
 -- two signs at the front of one text are one
-signs_then : (m n : Bool) (b d : List ℕ) → sign_text m ++ b ≡ sign_text n ++ d → (m ≡ n) × (b ≡ d)
+pub signs_then : (m n : Bool) (b d : List ℕ) → sign_text m ++ b ≡ sign_text n ++ d → (m ≡ n) × (b ≡ d)
 signs_then true true b d e = (refl, cons_tail 45 45 b d e)
 signs_then true false b d e = absurd (omega (arith, cons_head 45 43 b d e))
 signs_then false true b d e = absurd (omega (arith, cons_head 43 45 b d e))
@@ -67,7 +67,7 @@ behind_of : (h m : ℕ) → h ≤ 23 → m ≤ 59 → BehindSign (digits 2 h ++ 
 behind_of h m hour minute =
     record { hour = h; minute = m; second = 0; second_text = []; hour_in = hour; minute_in = minute; spells_second = inl (refl, refl); split = refl }
 
-sign_not_alike : (negative : Bool) (rest text : List ℕ) → BeginsWithNoSign text → ¬ GoOnAlike (sign_text negative ++ rest) text
+pub sign_not_alike : (negative : Bool) (rest text : List ℕ) → BeginsWithNoSign text → ¬ GoOnAlike (sign_text negative ++ rest) text
 sign_not_alike true rest [] none alike = alike
 sign_not_alike false rest [] none alike = alike
 sign_not_alike true rest (c ∷ text) none alike = none.1 (sym alike)

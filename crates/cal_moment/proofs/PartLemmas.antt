@@ -111,7 +111,7 @@ some_behind [] n some = absurd (some refl)
 some_behind (unit ∷ units) n some =
     (unit_letter unit ∷ [], (n * unit_seconds unit + 0, inr ([], 0, parts_none units, refl, refl)))
 
-not_empty_alike : (a b : List ℕ) → GoOnAlike a b → b ≢ [] → a ≢ []
+pub not_empty_alike : (a b : List ℕ) → GoOnAlike a b → b ≢ [] → a ≢ []
 not_empty_alike [] [] alike some = some
 not_empty_alike [] (d ∷ b) alike some = absurd alike
 not_empty_alike (c ∷ a) b alike some = λ e. cc
@@ -136,7 +136,7 @@ parts_stop_count units text more some none =
     let b = some_behind units 0 more in
     parts_stop units text text some (stops_no_count (Behind units) text b.0 b.1 none)
 
-no_alike : (octet : ℕ) (a b : List ℕ) → GoOnAlike a b → BeginsWithNo octet b → BeginsWithNo octet a
+pub no_alike : (octet : ℕ) (a b : List ℕ) → GoOnAlike a b → BeginsWithNo octet b → BeginsWithNo octet a
 no_alike octet [] b alike none = tt
 no_alike octet (c ∷ a) [] alike none = absurd alike
 no_alike octet (c ∷ a) (d ∷ b) alike none = rw alike none
@@ -220,3 +220,50 @@ times_stop_count text none =
 pub times_join : (text : List ℕ) (n : ℕ) (rest : List ℕ) (seconds : ℕ) → IsLongestCount text n rest → SpellsBehind time_units n rest seconds → SpellsTimes text seconds
 times_join text n rest seconds count behind =
     (count_some text n rest count, rw count.split (parts_join time_units count.number n rest seconds count.spells behind))
+
+not_nothing : (units : List TimeUnit) (text : List ℕ) (seconds : ℕ) → text ≡ [] → IsSplit units text seconds → ⊥
+not_nothing units text seconds none w =
+    let width = count_length w.number w.n w.count in
+    absurd (omega (arith, width, length-append w.number w.rest, ap length w.split, ap length none))
+
+-- parts have one sum, where what follows a number has one
+one_parts : (units : List TimeUnit) → ((n : ℕ) (text : List ℕ) (a b : ℕ) → SpellsBehind units n text a → SpellsBehind units n text b → a ≡ b) → (text : List ℕ) (a b : ℕ) → SpellsParts units text a → SpellsParts units text b → a ≡ b
+one_parts units one text a b first second =
+    elim (parts_split units text a first) [
+      | inl none ↦ elim (parts_split units text b second) [
+        | inl also ↦ none.1 ∙ sym also.1
+        | inr w ↦ absurd (not_nothing units text b none.0 w)
+      ]
+      | inr v ↦ elim (parts_split units text b second) [
+        | inl none ↦ absurd (not_nothing units text a none.0 v)
+        | inr w ↦ (let same = counts_then v.number v.rest w.number w.rest v.n w.n v.count w.count (letters units v.n v.rest (a, v.behind)) (letters units w.n w.rest (b, w.behind)) (sym v.split ∙ w.split) in
+            one w.n w.rest a b (rw same.0 at (rw same.1 at v.behind)) w.behind)
+      ]
+    ]
+
+other_head : (unit : TimeUnit) (units : List TimeUnit) (n : ℕ) (text : List ℕ) (seconds : ℕ) (rest : List ℕ) → ¬ HasLetter units (unit_letter unit) → SpellsBehind units n text seconds → text ≡ unit_letter unit ∷ rest → ⊥
+other_head unit units n text seconds rest apart later e =
+    let head = behind_head units n text seconds later in
+    let same : unit_letter unit ≡ head.octet = cc (e, head.split) in
+    apart (rw same head.has)
+
+one_behind : (units : List TimeUnit) → AreApart units → (n : ℕ) (text : List ℕ) (a b : ℕ) → SpellsBehind units n text a → SpellsBehind units n text b → a ≡ b
+one_behind [] apart n text a b first second = absurd first
+one_behind (unit ∷ units) apart n text a b first second =
+    elim first [
+      | inl v ↦ elim second [
+        | inl w ↦ one_behind units apart.1 n text a b v w
+        | inr w ↦ absurd (other_head unit units n text a w.0 apart.0 v w.3)
+      ]
+      | inr v ↦ elim second [
+        | inl w ↦ absurd (other_head unit units n text b v.0 apart.0 w v.3)
+        | inr w ↦ (let same : w.0 ≡ v.0 = cc (v.3, w.3) in
+            let others = one_parts units (one_behind units apart.1) v.0 v.1 w.1 v.2 (rw same at w.2) in
+            omega (arith, v.4, w.4, others))
+      ]
+    ]
+
+-- times have one sum of seconds
+pub one_times : (text : List ℕ) (a b : ℕ) → SpellsTimes text a → SpellsTimes text b → a ≡ b
+one_times text a b first second =
+    one_parts time_units (one_behind time_units time_units_apart) text a b first.1 second.1

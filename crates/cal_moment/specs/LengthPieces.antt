@@ -1,9 +1,9 @@
 -- The pieces in which a length of time is read.
-use Rattle.std.specs.Prelude.{◌≡◌, ℕ, ◌+◌, ◌*◌, ◌^◌, ◌<◌, ◌≤◌, List, [], ◌∷◌, ◌++◌, ◌⊎◌, length}
+use Rattle.std.specs.Prelude.{◌≡◌, ℕ, Bool, false, ◌+◌, ◌*◌, ◌^◌, ◌<◌, ◌≤◌, List, [], ◌∷◌, ◌++◌, ◌⊎◌, length}
 use Rattle.cal_moment.specs.declared.lengths.TimeUnit.{TimeUnit}
-use Rattle.cal_moment.specs.Texts.{digits}
-use Rattle.cal_moment.specs.LengthTexts.{SpellsCount, SpellsParts, SpellsTimes, unit_letter, unit_seconds}
-use Rattle.cal_moment.specs.Stops.{BeginsWithNoDigit}
+use Rattle.cal_moment.specs.Texts.{digits, sign_text}
+use Rattle.cal_moment.specs.LengthTexts.{SpellsBody, SpellsCount, SpellsParts, SpellsTimes, unit_letter, unit_seconds}
+use Rattle.cal_moment.specs.Stops.{BeginsWithNoDigit, BeginsWithNoSign}
 
 -- a number with so many digits goes on, with those of a text, to one of at most nine, as far as there are
 pub record GoesOnToCount (width value : ℕ) (text : List ℕ) (n : ℕ) (rest : List ℕ) : Type 0 where
@@ -41,3 +41,12 @@ AreApart (unit ∷ units) = ¬ HasLetter units (unit_letter unit) × AreApart un
 abbrev pub SpellsBehindDays : List ℕ → ℕ → Type 0
 SpellsBehindDays text seconds =
     ((text ≡ []) × (seconds ≡ 0)) ⊎ ((times : List ℕ) × SpellsTimes times seconds × (text ≡ 84 ∷ times))
+
+-- the text can stand behind the P
+abbrev pub IsBody : List ℕ → Type 0
+IsBody text = (days seconds : ℕ) × SpellsBody text days seconds
+
+-- the text is a sign and what is left, or begins with none, which is plus
+abbrev pub CutsSign : List ℕ → Bool → List ℕ → Type 0
+CutsSign text negative rest =
+    (text ≡ sign_text negative ++ rest) ⊎ ((text ≡ rest) × (negative ≡ false) × BeginsWithNoSign rest)

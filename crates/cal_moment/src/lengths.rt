@@ -6,7 +6,7 @@ ghost use Rattle.cal_moment.specs.BadPlace.{IsIn, IsBadAt};
 ghost use Rattle.cal_moment.specs.Texts.{digits, signed};
 ghost use Rattle.cal_moment.specs.LengthTexts.{SpellsBody, SpellsLength, SpellsTimes, time_units, unit_letter, unit_seconds};
 ghost use Rattle.cal_moment.specs.Stops.{BeginsWithNoDigit, Stops};
-ghost use Rattle.cal_moment.specs.LengthPieces.{AreApart, GoesOnToCount, IsLongestCount, SpellsBehind, SpellsBehindDays};
+ghost use Rattle.cal_moment.specs.LengthPieces.{AreApart, CutsSign, GoesOnToCount, IsBody, IsLongestCount, SpellsBehind, SpellsBehindDays};
 
 use crate::pieces::{bad, digit, letter, sign};
 use crate::stamp::{Bad, Length};
@@ -147,7 +147,7 @@ fn whole_body(text: &[u8]) -> Result<(u64, u64), &[u8]>
     ensures ok { IfOk result (λ found. SpellsBody text.now found.0 found.1) }
     ensures days { IfOk result (λ found. found.0 < 7 * BILLION) }
     ensures seconds { IfOk result (λ found. found.1 ≤ 10800 * BILLION) }
-    ensures err { IfErr result (λ left. Stops (IsIn (λ t value. SpellsBody t value.0 value.1)) text.now left.now) }
+    ensures err { IfErr result (λ left. Stops IsBody text.now left.now) }
 {
     if let Some(times) = letter(text, b'T') {
         let seconds = whole_times(times)?;
@@ -168,4 +168,51 @@ fn whole_body(text: &[u8]) -> Result<(u64, u64), &[u8]>
     };
     let seconds = whole_behind_days(rest)?;
     Ok((number, seconds))
+}
+
+/// Cuts a sign off a text, and says whether it is a minus; none is plus.
+fn optional_sign(text: &[u8]) -> (bool, &[u8])
+    ensures { CutsSign text.now result.0 result.1.now }
+{
+    sign(text).unwrap_or((false, text))
+}
+
+/// A number with its sign.
+fn signed_number(negative: bool, number: u64) -> i64
+    requires { number ≤ 10800 * BILLION }
+    ensures { result ≡ signed negative number }
+{
+    if negative {
+        -(number as i64)
+    } else {
+        number as i64
+    }
+}
+
+/// The length that the whole text spells.
+fn whole_length(text: &[u8]) -> Result<Length, &[u8]>
+    ensures ok { IfOk result (SpellsLength text.now) }
+    ensures err { IfErr result (λ left. Stops (IsIn SpellsLength) text.now left.now) }
+{
+    let (negative, rest) = optional_sign(text);
+    let Some(body) = letter(rest, b'P') else {
+        return Err(rest);
+    };
+    let (days, seconds) = whole_body(body)?;
+    Ok(Length {
+        days: signed_number(negative, days),
+        seconds: signed_number(negative, seconds),
+    })
+}
+
+/// Reads a DURATION. Weeks are seven days each; hours and minutes are seconds.
+pub fn read_length(text: &[u8]) -> Result<Length, Bad>
+    ensures ok { IfOk result (SpellsLength text.now) }
+    ensures only { (length : Length) → SpellsLength text.now length → result ≡ Ok length }
+    ensures err { IfErr result (λ fault. IsBadAt SpellsLength text.now fault.place) }
+{
+    match whole_length(text) {
+        Ok(length) => Ok(length),
+        Err(left) => Err(bad(text, left)),
+    }
 }

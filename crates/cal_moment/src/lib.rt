@@ -20,6 +20,7 @@ mod times;
 
 pub use calendar::{day_of, fields_of, weekday};
 pub use dates::{read_date, write_date};
+pub use lengths::read_length;
 pub use offsets::read_offset;
 pub use stamp::{Bad, Day, Length, Local, Period, PeriodEnd, Stamp, Utc};
 pub use times::{read_date_time, write_local, write_utc};
