@@ -1,10 +1,10 @@
 -- Where the text behind the P of a length stops.
-use Rattle.std.proofs.Common.{◌≡◌, ◌≢◌, ℕ, ◌+◌, ◌*◌, ◌<◌, ◌≤◌, ◌⊎◌, inl, inr, Bool, true, false, List, [], ◌∷◌, ◌++◌, refl, sym, ap, subst, ◌∙◌, arith}
+use Rattle.std.proofs.Common.{◌≡◌, ◌≢◌, ℕ, ◌*◌, ◌⊎◌, inl, inr, List, [], ◌∷◌, ◌++◌, refl, sym, ap, ◌∙◌, arith}
 use Rattle.cal_moment.specs.BadPlace.{IsIn}
 use Rattle.cal_moment.specs.LengthPieces.{IsBody, IsLongestCount, SpellsBehindDays}
 use Rattle.cal_moment.specs.LengthTexts.{SpellsBody, SpellsCount, SpellsTimes}
 use Rattle.cal_moment.specs.LengthTexts.SpellsBody.{weeks, days_alone, times_alone, days_and_times}
-use Rattle.cal_moment.specs.Stops.{BeginsWithNo, BeginsWithNoDigit, GoOnAlike, Stops}
+use Rattle.cal_moment.specs.Stops.{BeginsWithNo, BeginsWithNoDigit, Stops}
 use Rattle.cal_moment.proofs.CountLemmas.{BeginsWithLetter, WithCount, counts_then, stops_behind_count, stops_no_count, with_count_digit}
 use Rattle.cal_moment.proofs.PartLemmas.{no_alike, not_empty_alike, one_times}
 use Rattle.cal_moment.proofs.StopsLemmas.{stops_after, stops_end, stops_here, stops_same, stops_wider}
@@ -88,12 +88,12 @@ pub body_stops_times : (times left : List ℕ) → Stops (IsIn SpellsTimes) time
 body_stops_times times left s =
     stops_after IsBody (84 ∷ []) times left
     (stops_same (IsIn SpellsTimes) (λ t. IsBody (84 ∷ t)) times left
-      (λ t times. (0, times.0, times_alone t times.1 refl refl))
-      (λ t body. elim (body_form (84 ∷ t) body.0 body.1 body.2) [
-        | inl times ↦ (let same : t ≡ times.0 = cc (times.2) in (body.1, rw same times.1))
-        | inr w ↦ absurd (no_time_counted t body.0 body.1 w)
-      ])
-      s)
+    (λ t times. (0, times.0, times_alone t times.1 refl refl))
+    (λ t body. elim (body_form (84 ∷ t) body.0 body.1 body.2) [
+      | inl times ↦ (let same : t ≡ times.0 = cc (times.2) in (body.1, rw same times.1))
+      | inr w ↦ absurd (no_time_counted t body.0 body.1 w)
+    ])
+    s)
 
 no_week : (a b : List ℕ) → 87 ∷ a ≡ 68 ∷ b → ⊥
 no_week a b e = let head : ◌≡◌ {A = ℕ} 87 68 = cc in omega (arith, head)
@@ -109,12 +109,12 @@ pub body_stops_days : (n : ℕ) (text left : List ℕ) → Stops (IsIn SpellsBeh
 body_stops_days n text left s =
     stops_after (Behind n) (68 ∷ []) text left
     (stops_same (IsIn SpellsBehindDays) (λ t. Behind n (68 ∷ t)) text left
-      (λ t days. (n, days.0, inr (t, refl, refl, days.1)))
-      (λ t h. elim h.2 [
-        | inl week ↦ absurd (no_week [] t (sym week.0))
-        | inr day ↦ (let same : t ≡ day.0 = cc (day.1) in (h.1, rw same day.3))
-      ])
-      s)
+    (λ t days. (n, days.0, inr (t, refl, refl, days.1)))
+    (λ t h. elim h.2 [
+      | inl week ↦ absurd (no_week [] t (sym week.0))
+      | inr day ↦ (let same : t ≡ day.0 = cc (day.1) in (h.1, rw same day.3))
+    ])
+    s)
 
 -- neither W nor D
 pub body_stops_letter : (n : ℕ) (text : List ℕ) → BeginsWithNo 87 text → BeginsWithNo 68 text → Stops (Behind n) text text
@@ -138,12 +138,12 @@ pub days_stop_times : (times left : List ℕ) → Stops (IsIn SpellsTimes) times
 days_stop_times times left s =
     stops_after (IsIn SpellsBehindDays) (84 ∷ []) times left
     (stops_same (IsIn SpellsTimes) (λ t. IsIn SpellsBehindDays (84 ∷ t)) times left
-      (λ t times. (times.0, inr (t, times.1, refl)))
-      (λ t days. elim days.1 [
-        | inl end ↦ cc (end.0)
-        | inr times ↦ (let same : t ≡ times.0 = cc (times.2) in (days.0, rw same times.1))
-      ])
-      s)
+    (λ t times. (times.0, inr (t, times.1, refl)))
+    (λ t days. elim days.1 [
+      | inl end ↦ cc (end.0)
+      | inr times ↦ (let same : t ≡ times.0 = cc (times.2) in (days.0, rw same times.1))
+    ])
+    s)
 
 -- what the readers find is in the grammar
 pub times_body : (text times : List ℕ) (seconds : ℕ) → text ≡ 84 ∷ times → SpellsTimes times seconds → SpellsBody text 0 seconds

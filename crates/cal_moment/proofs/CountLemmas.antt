@@ -1,5 +1,5 @@
 -- Where a number of one to nine digits ends.
-use Rattle.std.proofs.Common.{◌≡◌, ◌≢◌, ℕ, zero, suc, ◌+◌, ◌-◌, ◌*◌, ◌/◌, ◌%◌, ◌^◌, ◌<◌, ◌≤◌, ◌⊎◌, inl, inr, List, [], ◌∷◌, ◌++◌, length, refl, sym, ap, subst, ◌∙◌, arith, add-one, append_assoc}
+use Rattle.std.proofs.Common.{◌≡◌, ℕ, zero, suc, ◌+◌, ◌*◌, ◌/◌, ◌%◌, ◌^◌, ◌<◌, ◌≤◌, ◌⊎◌, inl, inr, List, [], ◌∷◌, ◌++◌, length, refl, sym, ap, subst, ◌∙◌, arith, add-one, append_assoc}
 use Rattle.cal_moment.specs.LengthPieces.{GoesOnToCount, IsLongestCount}
 use Rattle.cal_moment.specs.LengthTexts.{SpellsCount}
 use Rattle.cal_moment.specs.Stops.{BeginsWithNoDigit, GoOnAlike, Stops}
@@ -113,16 +113,19 @@ module _ (Behind : ℕ → List ℕ → Type 0) where
   stops_behind_count text n rest left letters count s =
       rw count.split
       (stops_after (WithCount Behind) count.number rest left
-        (stops_wider (Behind n) (λ t. WithCount Behind (count.number ++ t)) BeginsWithNoDigit rest left no_digit_alike
-          (λ t h. record { number = count.number; n = n; rest = t; spells = count.spells; behind = h; split = refl })
-          (λ t w. elim (digits_cases count.number t w.number w.rest (count_digits count.number n count.spells) (count_digits w.number w.n w.spells) (letter_no_digit w.rest (letters w.n w.rest w.behind)) w.split) [
-            | inl same ↦ inl (same_behind t w same.0 same.1)
-            | inr longer ↦ inr (longer.1, elim count.ended [
-              | inl nine ↦ absurd (omega (arith, nine, longer.0, count_length w.number w.n w.spells))
-              | inr none ↦ none
-            ])
-          ])
-          s))
+      (stops_wider (Behind n) (λ t. WithCount Behind (count.number ++ t)) BeginsWithNoDigit rest left no_digit_alike
+      (λ t h. record { number = count.number; n = n; rest = t; spells = count.spells; behind = h; split = refl })
+      (λ t w. elim (digits_cases count.number t w.number w.rest (count_digits count.number n count.spells) (count_digits w.number w.n w.spells) (letter_no_digit w.rest (letters w.n w.rest w.behind)) w.split) [
+        | inl same ↦ inl (same_behind t w same.0 same.1)
+        | inr longer ↦ inr (
+          longer.1,
+          elim count.ended [
+            | inl nine ↦ absurd (omega (arith, nine, longer.0, count_length w.number w.n w.spells))
+            | inr none ↦ none
+          ],
+        )
+      ])
+      s))
     where
       same_behind : (t : List ℕ) (w : WithCount Behind (count.number ++ t)) → count.number ≡ w.number → t ≡ w.rest → Behind n t
       same_behind t w number same =

@@ -1,5 +1,5 @@
 -- Where the text of a date stops.
-use Rattle.std.proofs.Common.{◌≡◌, ℕ, ◌+◌, ◌<◌, ◌≤◌, ◌^◌, List, [], ◌∷◌, ◌++◌, length, refl, sym, ap, ◌∙◌, arith, ◌≢◌, ℤ}
+use Rattle.std.proofs.Common.{◌≡◌, ℕ, ◌<◌, ◌≤◌, ◌^◌, List, [], ◌++◌, length, refl, sym, ap, ◌∙◌, arith, ◌≢◌, ℤ}
 use Rattle.std.proofs.lemmas.List.{append-nil}
 use Rattle.cal_moment.specs.declared.stamp.Day.{Day}
 use Rattle.cal_moment.proofs.Fronts.{fronts_same}
@@ -10,7 +10,7 @@ use Rattle.cal_moment.specs.Stops.{Stops, Opens, IsNumber}
 use Rattle.cal_moment.specs.Texts.{digits, date_text, SpellsDate}
 use Rattle.cal_moment.proofs.CalendarLaws.{month_length-bounds}
 use Rattle.cal_moment.proofs.DigitLemmas.{digits_then, digits_injective}
-use Rattle.cal_moment.proofs.NumberLemmas.{BeginsWithNumber, stops_number}
+use Rattle.cal_moment.proofs.NumberLemmas.{stops_number}
 use Rattle.cal_moment.proofs.StopsLemmas.{stops_after, stops_end}
 
 -- a text that begins with a date
@@ -52,17 +52,17 @@ date_stops_year text left s =
     stops_number 4 1 9999 (Opens (IsIn SpellsDate)) text left
     (λ y from until fits. (digits 2 1 ++ (digits 2 1 ++ []), opens_date y 1 1 [] ((from, until), omega arith, (omega arith, omega (arith, month_length-bounds y 1)))))
     (λ t opens. let b = date_opens t opens in
-      record { n = b.year; rest = digits 2 b.month ++ (digits 2 b.day ++ b.rest); from = b.date.0.0; until = b.date.0.1; fits = omega (arith, b.date); split = b.split })
+    record { n = b.year; rest = digits 2 b.month ++ (digits 2 b.day ++ b.rest); from = b.date.0.0; until = b.date.0.1; fits = omega (arith, b.date); split = b.split })
     s
 
 pub date_stops_month : (y : ℕ) (text left : List ℕ) → 1 ≤ y → y ≤ 9999 → Stops (Opens (IsNumber 2 1 12)) text left → Stops (Opens (IsIn SpellsDate)) (digits 4 y ++ text) left
 date_stops_month y text left from until s =
     stops_after (Opens (IsIn SpellsDate)) (digits 4 y) text left
     (stops_number 2 1 12 (λ t. Opens (IsIn SpellsDate) (digits 4 y ++ t)) text left
-      (λ m low high fits. (digits 2 1 ++ [], opens_date y m 1 [] ((from, until), (low, high), (omega arith, omega (arith, month_length-bounds y m)))))
-      (λ t opens. let b = behind_year y t (digits 4 y ++ t) (omega arith) refl (date_opens (digits 4 y ++ t) opens) in
-        record { n = b.month; rest = digits 2 b.day ++ b.rest; from = b.date.1.0; until = b.date.1.1; fits = omega (arith, b.date); split = b.split })
-      s)
+    (λ m low high fits. (digits 2 1 ++ [], opens_date y m 1 [] ((from, until), (low, high), (omega arith, omega (arith, month_length-bounds y m)))))
+    (λ t opens. let b = behind_year y t (digits 4 y ++ t) (omega arith) refl (date_opens (digits 4 y ++ t) opens) in
+    record { n = b.month; rest = digits 2 b.day ++ b.rest; from = b.date.1.0; until = b.date.1.1; fits = omega (arith, b.date); split = b.split })
+    s)
 
 -- and with a day behind its month
 record BeginsWithDay (year month : ℕ) (text : List ℕ) : Type 0 where
@@ -80,13 +80,13 @@ pub date_stops_day : (y m : ℕ) (text left : List ℕ) → 1 ≤ y → y ≤ 99
 date_stops_day y m text left from until low high s =
     stops_after (Opens (IsIn SpellsDate)) (digits 4 y ++ digits 2 m) text left
     (stops_number 2 1 (month_length y m) (λ t. Opens (IsIn SpellsDate) (digits 4 y ++ (digits 2 m ++ t))) text left
-      (λ d first last fits. ([], opens_date y m d [] ((from, until), (low, high), (first, last))))
-      (λ t opens.
-        let whole = behind_year y (digits 2 m ++ t) (digits 4 y ++ (digits 2 m ++ t)) (omega arith) refl (date_opens (digits 4 y ++ (digits 2 m ++ t)) opens) in
-        let b = behind_month y m t (digits 2 m ++ t) (omega arith) refl whole in
-        let short = month_length-bounds y m in
-        record { n = b.day; rest = b.rest; from = b.day_in.0; until = b.day_in.1; fits = omega (arith, b.day_in, short); split = b.split })
-      s)
+    (λ d first last fits. ([], opens_date y m d [] ((from, until), (low, high), (first, last))))
+    (λ t opens.
+    let whole = behind_year y (digits 2 m ++ t) (digits 4 y ++ (digits 2 m ++ t)) (omega arith) refl (date_opens (digits 4 y ++ (digits 2 m ++ t)) opens) in
+    let b = behind_month y m t (digits 2 m ++ t) (omega arith) refl whole in
+    let short = month_length-bounds y m in
+    record { n = b.day; rest = b.rest; from = b.day_in.0; until = b.day_in.1; fits = omega (arith, b.day_in, short); split = b.split })
+    s)
 
 pub length-date : (text : List ℕ) → IsIn SpellsDate text → length text ≡ 8
 length-date text spells = ap length spells.1.spelled

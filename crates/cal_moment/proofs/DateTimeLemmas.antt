@@ -1,6 +1,5 @@
 -- Where the text of a date and a time stops.
-use Rattle.std.proofs.Common.{◌≡◌, ◌≢◌, ℕ, Bool, true, false, List, [], ◌∷◌, ◌++◌, inl, refl, sym, ap, ◌∙◌, append_assoc}
-use Rattle.std.proofs.lemmas.List.{append-nil}
+use Rattle.std.proofs.Common.{◌≡◌, ◌≢◌, ℕ, Bool, true, false, List, [], ◌∷◌, ◌++◌, inl, refl, sym, ap, ◌∙◌}
 use Rattle.cal_moment.specs.BadPlace.{IsIn}
 use Rattle.cal_moment.specs.Stops.{BeginsWithNo, GoOnAlike, IsUtcText, Stops, Opens}
 use Rattle.cal_moment.specs.Texts.{time_text, utc_text, SpellsDate, SpellsTime, SpellsDateTime}
@@ -44,9 +43,10 @@ behind_date front text date whole =
     record { time = w.time; utc = whole.0.1; spells_time = (whole.0.0.second, w.spells_time); split = (dates_then front text w.date (84 ∷ (w.time ++ utc_text whole.0.1)) date (record { 0 = whole.0.0.day }, w.spells_date) w.spelled).1 }
 
 with_date : (front text : List ℕ) → IsIn SpellsDate front → BehindDate text → IsIn SpellsDateTime (front ++ text)
-with_date front text date b =
-    ((record { day = date.0.0; second = b.spells_time.0 }, b.utc),
-      record { date = front; time = b.time; spells_date = date.1; spells_time = b.spells_time.1; spelled = ap (λ t. front ++ t) b.split })
+with_date front text date b = (
+  (record { day = date.0.0; second = b.spells_time.0 }, b.utc),
+  record { date = front; time = b.time; spells_date = date.1; spells_time = b.spells_time.1; spelled = ap (λ t. front ++ t) b.split },
+)
 
 pub date_time_stops_date : (text left : List ℕ) → Stops (Opens (IsIn SpellsDate)) text left → Stops (IsIn SpellsDateTime) text left
 date_time_stops_date text left s =
@@ -60,28 +60,28 @@ module _ (front : List ℕ) (date : IsIn SpellsDate front) where
   date_time_stops_letter text none =
       stops_after (IsIn SpellsDateTime) front text text
       (stops_letter (λ t. IsIn SpellsDateTime (front ++ t)) 84 text (time_text 0 0 0)
-        (with_date front (84 ∷ time_text 0 0 0) date (record { time = time_text 0 0 0; utc = false; spells_time = midnight; split = refl }))
-        (λ next whole. let b = behind_date front next date whole in (b.time ++ utc_text b.utc, b.split))
-        none)
+      (with_date front (84 ∷ time_text 0 0 0) date (record { time = time_text 0 0 0; utc = false; spells_time = midnight; split = refl }))
+      (λ next whole. let b = behind_date front next date whole in (b.time ++ utc_text b.utc, b.split))
+      none)
 
   pub date_time_stops_time : (text left : List ℕ) → Stops (Opens (IsIn SpellsTime)) text left → Stops (IsIn SpellsDateTime) (front ++ (84 ∷ text)) left
   date_time_stops_time text left s =
       stops_after (IsIn SpellsDateTime) front (84 ∷ text) left
       (stops_after (λ t. IsIn SpellsDateTime (front ++ t)) (84 ∷ []) text left
-        (stops_in (IsIn SpellsTime) (λ t. IsIn SpellsDateTime (front ++ (84 ∷ t))) text left
-          (λ t time. ([], with_date front (84 ∷ (t ++ [])) date (record { time = t; utc = false; spells_time = time; split = refl })))
-          (λ t whole. let b = behind_date front (84 ∷ t) date whole in
-            let rest : t ≡ b.time ++ utc_text b.utc = cc in
-            inl (b.time, utc_text b.utc, b.spells_time, rest))
-          s))
+      (stops_in (IsIn SpellsTime) (λ t. IsIn SpellsDateTime (front ++ (84 ∷ t))) text left
+      (λ t time. ([], with_date front (84 ∷ (t ++ [])) date (record { time = t; utc = false; spells_time = time; split = refl })))
+      (λ t whole. let b = behind_date front (84 ∷ t) date whole in
+      let rest : t ≡ b.time ++ utc_text b.utc = cc in
+      inl (b.time, utc_text b.utc, b.spells_time, rest))
+      s))
 
   pub date_time_stops_utc : (time text left : List ℕ) → IsIn SpellsTime time → Stops IsUtcText text left → Stops (IsIn SpellsDateTime) (front ++ (84 ∷ (time ++ text))) left
   date_time_stops_utc time text left spells s =
       stops_after (IsIn SpellsDateTime) front (84 ∷ (time ++ text)) left
       (stops_after (λ t. IsIn SpellsDateTime (front ++ t)) (84 ∷ time) text left
-        (stops_same IsUtcText (λ t. IsIn SpellsDateTime (front ++ (84 ∷ (time ++ t)))) text left
-          (λ t z. with_date front (84 ∷ (time ++ t)) date (record { time = time; utc = z.0; spells_time = spells; split = ap (λ t. 84 ∷ (time ++ t)) z.1 }))
-          (λ t whole. let b = behind_date front (84 ∷ (time ++ t)) date whole in
-            let rest : time ++ t ≡ b.time ++ utc_text b.utc = cc in
-            (b.utc, (times_then time t b.time (utc_text b.utc) spells b.spells_time rest).1))
-          s))
+      (stops_same IsUtcText (λ t. IsIn SpellsDateTime (front ++ (84 ∷ (time ++ t)))) text left
+      (λ t z. with_date front (84 ∷ (time ++ t)) date (record { time = time; utc = z.0; spells_time = spells; split = ap (λ t. 84 ∷ (time ++ t)) z.1 }))
+      (λ t whole. let b = behind_date front (84 ∷ (time ++ t)) date whole in
+      let rest : time ++ t ≡ b.time ++ utc_text b.utc = cc in
+      (b.utc, (times_then time t b.time (utc_text b.utc) spells b.spells_time rest).1))
+      s))

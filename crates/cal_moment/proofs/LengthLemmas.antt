@@ -1,10 +1,10 @@
 -- Where the text of a length stops.
-use Rattle.std.proofs.Common.{◌≡◌, ◌≢◌, ℕ, ◌+◌, ◌≤◌, ◌⊎◌, inl, inr, Bool, true, false, List, [], ◌∷◌, ◌++◌, refl, sym, ap, subst, ◌∙◌, arith, ℤ}
+use Rattle.std.proofs.Common.{◌≡◌, ℕ, inl, inr, Bool, true, false, List, [], ◌∷◌, ◌++◌, refl, sym, ap, subst, ◌∙◌, arith, ℤ}
 use Rattle.cal_moment.specs.BadPlace.{IsIn}
 use Rattle.cal_moment.specs.declared.stamp.Length.{Length}
 use Rattle.cal_moment.specs.LengthPieces.{CutsSign, IsBody}
 use Rattle.cal_moment.specs.LengthTexts.{SpellsBody, SpellsLength, SpellsSign}
-use Rattle.cal_moment.specs.Stops.{BeginsWithNo, BeginsWithNoSign, GoOnAlike, Stops}
+use Rattle.cal_moment.specs.Stops.{BeginsWithNo, BeginsWithNoSign, Stops}
 use Rattle.cal_moment.specs.Texts.{sign_text, signed}
 use Rattle.cal_moment.proofs.BodyLemmas.{one_body, weeks_body}
 use Rattle.cal_moment.proofs.CountLemmas.{zero_counts}
@@ -32,9 +32,10 @@ lengths_then a c m n b d first second e =
     ]
 
 with_body : (sign : List ℕ) (negative : Bool) (body : List ℕ) → SpellsSign sign negative → IsBody body → IsIn SpellsLength (sign ++ (80 ∷ body))
-with_body sign negative body s b =
-    (record { days = signed negative b.0; seconds = signed negative b.1 },
-      record { sign = sign; negative = negative; body = body; days = b.0; seconds = b.1; spells_sign = s; spells_body = b.2; spelled = refl; days_number = refl; seconds_number = refl })
+with_body sign negative body s b = (
+  record { days = signed negative b.0; seconds = signed negative b.1 },
+  record { sign = sign; negative = negative; body = body; days = b.0; seconds = b.1; spells_sign = s; spells_body = b.2; spelled = refl; days_number = refl; seconds_number = refl },
+)
 
 behind_sign : (sign : List ℕ) (negative : Bool) (body : List ℕ) → SpellsSign sign negative → IsIn SpellsLength (sign ++ (80 ∷ body)) → IsBody body
 behind_sign sign negative body s whole =
@@ -52,11 +53,11 @@ length_stops_body text negative body left cut s =
     let sign = cut_sign text negative (80 ∷ body) cut in
     rw sign.2
     (stops_after (IsIn SpellsLength) sign.0 (80 ∷ body) left
-      (stops_after (λ t. IsIn SpellsLength (sign.0 ++ t)) (80 ∷ []) body left
-        (stops_same IsBody (λ t. IsIn SpellsLength (sign.0 ++ (80 ∷ t))) body left
-          (λ t b. with_body sign.0 negative t sign.1 b)
-          (λ t whole. behind_sign sign.0 negative t sign.1 whole)
-          s)))
+    (stops_after (λ t. IsIn SpellsLength (sign.0 ++ t)) (80 ∷ []) body left
+    (stops_same IsBody (λ t. IsIn SpellsLength (sign.0 ++ (80 ∷ t))) body left
+    (λ t b. with_body sign.0 negative t sign.1 b)
+    (λ t whole. behind_sign sign.0 negative t sign.1 whole)
+    s)))
 
 -- no weeks
 zero_weeks : IsBody (48 ∷ 87 ∷ [])
@@ -66,23 +67,23 @@ stops_no_letter : (negative : Bool) (text : List ℕ) → BeginsWithNo 80 text �
 stops_no_letter negative text none =
     stops_after (IsIn SpellsLength) (sign_text negative) text text
     (stops_letter (λ t. IsIn SpellsLength (sign_text negative ++ t)) 80 text (48 ∷ 87 ∷ [])
-      (with_body (sign_text negative) negative (48 ∷ 87 ∷ []) (inl refl) zero_weeks)
-      (λ next whole. let w = whole.1 in
-        elim w.spells_sign [
-          | inl sign ↦ (w.body, (signs_then negative w.negative next (80 ∷ w.body) (rw sign at w.spelled)).1)
-          | inr nothing ↦ absurd (no_sign negative next w.body (rw nothing.0 at w.spelled))
-        ])
-      none)
+    (with_body (sign_text negative) negative (48 ∷ 87 ∷ []) (inl refl) zero_weeks)
+    (λ next whole. let w = whole.1 in
+    elim w.spells_sign [
+      | inl sign ↦ (w.body, (signs_then negative w.negative next (80 ∷ w.body) (rw sign at w.spelled)).1)
+      | inr nothing ↦ absurd (no_sign negative next w.body (rw nothing.0 at w.spelled))
+    ])
+    none)
 
 stops_no_sign : (text : List ℕ) → BeginsWithNoSign text → BeginsWithNo 80 text → Stops (IsIn SpellsLength) text text
 stops_no_sign text no_sign none =
     stops_here (IsIn SpellsLength) text (80 ∷ 48 ∷ 87 ∷ [])
     (with_body [] false (48 ∷ 87 ∷ []) (inr (refl, refl)) zero_weeks)
     (λ next whole alike. let w = whole.1 in
-      elim w.spells_sign [
-        | inl sign ↦ sign_not_alike w.negative (80 ∷ w.body) text no_sign (rw (w.spelled, sign) at alike)
-        | inr nothing ↦ (rw (w.spelled, nothing.0) at (no_alike 80 next text alike none)) refl
-      ])
+    elim w.spells_sign [
+      | inl sign ↦ sign_not_alike w.negative (80 ∷ w.body) text no_sign (rw (w.spelled, sign) at alike)
+      | inr nothing ↦ (rw (w.spelled, nothing.0) at (no_alike 80 next text alike none)) refl
+    ])
 
 -- neither P nor a sign that is not read yet
 pub length_stops_letter : (text : List ℕ) (negative : Bool) (rest : List ℕ) → CutsSign text negative rest → BeginsWithNo 80 rest → Stops (IsIn SpellsLength) text rest

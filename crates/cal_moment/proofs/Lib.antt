@@ -4,6 +4,7 @@ pub mod CountLemmas
 pub mod DateLemmas
 pub mod DateTimeLemmas
 pub mod DigitLemmas
+mod Examples
 pub mod Fronts
 pub mod JiffCalendar
 pub mod LengthLemmas

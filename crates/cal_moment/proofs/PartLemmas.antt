@@ -1,14 +1,14 @@
 -- Where the parts of a time stop.
-use Rattle.std.proofs.Common.{◌≡◌, ◌≢◌, ℕ, suc, ◌+◌, ◌*◌, ◌<◌, ◌≤◌, ◌⊎◌, inl, inr, List, [], ◌∷◌, ◌++◌, length, refl, sym, ap, subst, ◌∙◌, arith, append_assoc}
+use Rattle.std.proofs.Common.{◌≡◌, ◌≢◌, ℕ, ◌+◌, ◌*◌, ◌<◌, ◌⊎◌, inl, inr, List, [], ◌∷◌, ◌++◌, length, refl, sym, ap, ◌∙◌, arith}
 use Rattle.std.proofs.lemmas.List.{length-append}
 use Rattle.cal_moment.specs.BadPlace.{IsIn}
 use Rattle.cal_moment.specs.declared.lengths.TimeUnit.{TimeUnit}
 use Rattle.cal_moment.specs.declared.lengths.TimeUnit.TheVariants.{Hour, Minute, Second}
 use Rattle.cal_moment.specs.LengthPieces.{AreApart, HasLetter, IsLongestCount, SpellsBehind}
-use Rattle.cal_moment.specs.LengthTexts.{SpellsCount, SpellsPart, SpellsParts, SpellsTimes, time_units, unit_letter, unit_seconds}
+use Rattle.cal_moment.specs.LengthTexts.{SpellsCount, SpellsParts, SpellsTimes, time_units, unit_letter, unit_seconds}
 use Rattle.cal_moment.specs.Stops.{BeginsWithNo, BeginsWithNoDigit, GoOnAlike, Stops}
 use Rattle.cal_moment.proofs.CountLemmas.{BeginsWithLetter, WithCount, count_length, counts_then, stops_behind_count, stops_no_count, with_count_digit}
-use Rattle.cal_moment.proofs.StopsLemmas.{stops_after, stops_end, stops_here, stops_letter, stops_same, stops_wider}
+use Rattle.cal_moment.proofs.StopsLemmas.{stops_after, stops_end, stops_letter, stops_same, stops_wider}
 
 letter_above : (unit : TimeUnit) → 57 < unit_letter unit
 letter_above Hour = omega arith
@@ -49,15 +49,15 @@ parts_join (unit ∷ units) number n rest seconds count behind =
     elim behind [
       | inl later ↦ inl (parts_join units number n rest seconds count later)
       | inr here ↦ inr (record {
-          number = number;
-          n = n;
-          rest = here.0;
-          others = here.1;
-          spells_number = count;
-          spells_rest = here.2;
-          spelled = ap (λ t. number ++ t) here.3;
-          total = here.4;
-        })
+        number = number;
+        n = n;
+        rest = here.0;
+        others = here.1;
+        spells_number = count;
+        spells_rest = here.2;
+        spelled = ap (λ t. number ++ t) here.3;
+        total = here.4;
+      })
     ]
 
 -- a number, and what follows it
@@ -79,13 +79,13 @@ parts_split (unit ∷ units) text seconds parts =
         | inr w ↦ inr (record { number = w.number; n = w.n; rest = w.rest; count = w.count; behind = inl w.behind; split = w.split })
       ]
       | inr here ↦ inr (record {
-          number = here.number;
-          n = here.n;
-          rest = unit_letter unit ∷ here.rest;
-          count = here.spells_number;
-          behind = inr (here.rest, here.others, here.spells_rest, refl, here.total);
-          split = here.spelled;
-        })
+        number = here.number;
+        n = here.n;
+        rest = unit_letter unit ∷ here.rest;
+        count = here.spells_number;
+        behind = inr (here.rest, here.others, here.spells_rest, refl, here.total);
+        split = here.spelled;
+      })
     ]
 
 -- what may follow any number
@@ -177,9 +177,9 @@ pub behind_stops_parts : (unit : TimeUnit) (units : List TimeUnit) (n : ℕ) (te
 behind_stops_parts unit units n text left apart s =
     stops_after (IsIn (SpellsBehind (unit ∷ units) n)) (unit_letter unit ∷ []) text left
     (stops_same (IsIn (SpellsParts units)) (λ t. IsIn (SpellsBehind (unit ∷ units) n) (unit_letter unit ∷ t)) text left
-      (λ t parts. (n * unit_seconds unit + parts.0, inr (t, parts.0, parts.1, refl, refl)))
-      (λ t h. behind_unit unit units n t apart h)
-      s)
+    (λ t parts. (n * unit_seconds unit + parts.0, inr (t, parts.0, parts.1, refl, refl)))
+    (λ t h. behind_unit unit units n t apart h)
+    s)
 
 -- nothing follows the last unit
 pub behind_stops_end : (unit : TimeUnit) (n : ℕ) (left : List ℕ) → left ≢ [] → Stops (IsIn (SpellsBehind (unit ∷ []) n)) (unit_letter unit ∷ left) left
@@ -189,10 +189,13 @@ behind_stops_end unit n left some =
     some
 
 pub time_units_apart : AreApart time_units
-time_units_apart =
-    (λ h. elim h [ inl minute ↦ omega (arith, minute) | inr h ↦ elim h [ inl second ↦ omega (arith, second) | inr none ↦ none ] ],
-      (λ h. elim h [ inl second ↦ omega (arith, second) | inr none ↦ none ],
-        (λ none. none, tt)))
+time_units_apart = (
+  λ h. elim h [ inl minute ↦ omega (arith, minute) | inr h ↦ elim h [ inl second ↦ omega (arith, second) | inr none ↦ none ] ],
+  (
+    λ h. elim h [ inl second ↦ omega (arith, second) | inr none ↦ none ],
+    (λ none. none, tt),
+  ),
+)
 
 -- a text that begins with a number is not empty
 count_some : (text : List ℕ) (n : ℕ) (rest : List ℕ) → IsLongestCount text n rest → text ≢ []

@@ -1,8 +1,8 @@
 -- How the places at which pieces of a text stop come together to the place of the whole.
-use Rattle.std.proofs.Common.{◌≡◌, ◌≢◌, ℕ, suc, ◌+◌, ◌-◌, ◌<◌, ◌≤◌, ◌⊎◌, inl, inr, List, [], ◌∷◌, ◌++◌, length, take, refl, sym, ap, ◌∙◌, subst, arith, append_assoc, add-one}
+use Rattle.std.proofs.Common.{◌≡◌, ◌≢◌, ℕ, ◌+◌, ◌-◌, ◌≤◌, ◌⊎◌, inl, inr, List, [], ◌∷◌, ◌++◌, length, take, refl, sym, ap, ◌∙◌, arith, append_assoc, add-one}
 use Rattle.std.proofs.Math.Seq.{take-append_seam, take-append-add}
 use Rattle.std.proofs.lemmas.List.{length-append, append-nil}
-use Rattle.cal_moment.specs.BadPlace.{IsIn, BeginsOne, IsBadAt}
+use Rattle.cal_moment.specs.BadPlace.{IsIn, IsBadAt}
 use Rattle.cal_moment.specs.Stops.{BeginsWithNo, GoOnAlike, Stops, Opens}
 use Rattle.cal_moment.proofs.Fronts.{fronts_cases}
 
@@ -39,11 +39,11 @@ stops_after Texts front text left s =
 pub stops_in : (Pieces Texts : List ℕ → Type 0) (text left : List ℕ) → ((t : List ℕ) → Pieces t → (rest : List ℕ) × Texts (t ++ rest)) → ((t : List ℕ) → Texts t → Opens Pieces t ⊎ ((t ≡ []) × (text ≢ []))) → Stops (Opens Pieces) text left → Stops Texts text left
 stops_in Pieces Texts text left complete only s =
     let begun : (more : List ℕ) × Texts (s.front ++ more) =
-        elim (fronts_cases s.front s.more s.begins.0 s.begins.1 s.begins.3) [
-          | inl w ↦ (let c = complete s.begins.0 s.begins.2 in
-              (w.0 ++ c.0, rw (← append_assoc, ← w.1) c.1))
-          | inr w ↦ absurd (s.apart left (s.begins.0, w.0 ++ left, s.begins.2, ap (λ t. t ++ left) w.1 ∙ append_assoc s.begins.0 w.0 left) (alike_self left))
-        ] in
+    elim (fronts_cases s.front s.more s.begins.0 s.begins.1 s.begins.3) [
+      | inl w ↦ (let c = complete s.begins.0 s.begins.2 in
+          (w.0 ++ c.0, rw (← append_assoc, ← w.1) c.1))
+      | inr w ↦ absurd (s.apart left (s.begins.0, w.0 ++ left, s.begins.2, ap (λ t. t ++ left) w.1 ∙ append_assoc s.begins.0 w.0 left) (alike_self left))
+    ] in
     record {
       front = s.front;
       more = begun.0;
@@ -122,8 +122,8 @@ bad_at Spells text left s =
       within = omega (arith, length-append s.front left);
       begins = rw take-append_seam (s.more, s.begins);
       longest = λ n h k begun.
-        let more : n ≡ length s.front + (n - length s.front - 1 + 1) = omega arith in
-        no_longer (IsIn Spells) s.front left s.apart (n - length s.front - 1) (rw (← more) k) begun.0 (rw more at begun.1);
+          let more : n ≡ length s.front + (n - length s.front - 1 + 1) = omega arith in
+          no_longer (IsIn Spells) s.front left s.apart (n - length s.front - 1) (rw (← more) k) begun.0 (rw more at begun.1);
     }
 
 -- what is left is a part of the text

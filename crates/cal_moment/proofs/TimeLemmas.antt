@@ -1,5 +1,5 @@
 -- Where the text of a time of day stops.
-use Rattle.std.proofs.Common.{◌≡◌, ℕ, ◌+◌, ◌*◌, ◌<◌, ◌≤◌, ◌^◌, List, [], ◌∷◌, ◌++◌, length, refl, sym, ap, ◌∙◌, arith, min}
+use Rattle.std.proofs.Common.{◌≡◌, ℕ, ◌+◌, ◌*◌, ◌≤◌, List, [], ◌++◌, length, refl, sym, ap, ◌∙◌, arith, min}
 use Rattle.cal_moment.specs.BadPlace.{IsIn}
 use Rattle.cal_moment.specs.Stops.{Stops, Opens, IsNumber}
 use Rattle.cal_moment.specs.Texts.{digits, time_text, SpellsTime}
@@ -49,24 +49,24 @@ time_stops_hour text left s =
     stops_number 2 0 23 (Opens (IsIn SpellsTime)) text left
     (λ h low high fits. (digits 2 0 ++ (digits 2 0 ++ []), opens_time h 0 0 [] high (omega arith) (omega arith)))
     (λ t opens. let b = time_opens t opens in
-      record { n = b.hour; rest = digits 2 b.minute ++ (digits 2 b.second ++ b.rest); from = omega arith; until = b.hour_in; fits = omega (arith, b.hour_in); split = b.split })
+    record { n = b.hour; rest = digits 2 b.minute ++ (digits 2 b.second ++ b.rest); from = omega arith; until = b.hour_in; fits = omega (arith, b.hour_in); split = b.split })
     s
 
 pub time_stops_minute : (h : ℕ) (text left : List ℕ) → h ≤ 23 → Stops (Opens (IsNumber 2 0 59)) text left → Stops (Opens (IsIn SpellsTime)) (digits 2 h ++ text) left
 time_stops_minute h text left hour s =
     stops_after (Opens (IsIn SpellsTime)) (digits 2 h) text left
     (stops_number 2 0 59 (λ t. Opens (IsIn SpellsTime) (digits 2 h ++ t)) text left
-      (λ m low high fits. (digits 2 0 ++ [], opens_time h m 0 [] hour high (omega arith)))
-      (λ t opens. behind_hour h t hour opens)
-      s)
+    (λ m low high fits. (digits 2 0 ++ [], opens_time h m 0 [] hour high (omega arith)))
+    (λ t opens. behind_hour h t hour opens)
+    s)
 
 pub time_stops_second : (h m : ℕ) (text left : List ℕ) → h ≤ 23 → m ≤ 59 → Stops (Opens (IsNumber 2 0 60)) text left → Stops (Opens (IsIn SpellsTime)) (digits 2 h ++ (digits 2 m ++ text)) left
 time_stops_second h m text left hour minute s =
     stops_after (Opens (IsIn SpellsTime)) (digits 2 h ++ digits 2 m) text left
     (stops_number 2 0 60 (λ t. Opens (IsIn SpellsTime) (digits 2 h ++ (digits 2 m ++ t))) text left
-      (λ s low high fits. ([], opens_time h m s [] hour minute high))
-      (λ t opens. behind_minute h m t hour minute opens)
-      s)
+    (λ s low high fits. ([], opens_time h m s [] hour minute high))
+    (λ t opens. behind_minute h m t hour minute opens)
+    s)
 
 length-time : (text : List ℕ) → IsIn SpellsTime text → length text ≡ 6
 length-time text spells = ap length spells.1.spelled

@@ -1,10 +1,8 @@
 -- The texts of dates, times, lengths and offsets, and what each spells (RFC 5545, 3.3.4, 3.3.5, 3.3.6 and 3.3.14).
 -- Each definition goes over whole texts. A digit d is the octet 48 + d.
-use Rattle.std.specs.Prelude.{◌≡◌, ◌≢◌, ℕ, zero, suc, ◌+◌, ◌-◌, ◌*◌, ◌/◌, ◌%◌, ◌^◌, ◌<◌, ◌≤◌, Bool, true, false, if◌then◌else◌, List, [], ◌∷◌, ◌++◌, codes, min, ℤ, pos, neg_ℤ, ◌⊎◌}
-use Rattle.std.specs.Int.{IsInRange}
+use Rattle.std.specs.Prelude.{◌≡◌, ℕ, zero, suc, ◌+◌, ◌*◌, ◌/◌, ◌%◌, ◌^◌, ◌≤◌, Bool, if◌then◌else◌, List, [], ◌∷◌, ◌++◌, codes, min, ℤ, pos, neg_ℤ, ◌⊎◌}
 use Rattle.cal_moment.specs.declared.stamp.Day.{Day}
 use Rattle.cal_moment.specs.declared.stamp.Local.{Local}
-use Rattle.cal_moment.specs.declared.stamp.Length.{Length}
 use Rattle.cal_moment.specs.Calendar.{IsDate, day_of_date, day_since_1970, year_of, month_of, day_of_month, day_of_moment, second_of_day, moment_of_seconds}
 
 -- so many digits of a number below 10 ^ count, leading zeros among them

@@ -47,10 +47,7 @@ fn whole_offset(text: &[u8]) -> Result<i32, &[u8]>
     let (hour, rest) = number(rest, 2, 0, 23)?;
     let (minute, rest) = number(rest, 2, 0, 59)?;
     let second = whole_second(rest)?;
-    Ok(signed_seconds(
-        negative,
-        3600 * hour + 60 * minute + second,
-    ))
+    Ok(signed_seconds(negative, 3600 * hour + 60 * minute + second))
 }
 
 /// Reads a UTC-OFFSET, in seconds: positive east of Greenwich, and below a day in size.

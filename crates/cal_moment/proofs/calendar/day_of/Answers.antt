@@ -11,7 +11,7 @@ day_is c =
     let m : date.month ≡ c.args.month = omega (arith, signed_casts, c.in-Ok.ensures.value) in
     let d : date.day ≡ c.args.day = omega (arith, signed_casts, c.in-Ok.ensures.value) in
     let late : neg_ℤ (pos 719_162) ≤ℤ c.to_unix_epoch_day.result =
-        rw c.to_unix_epoch_day.ensures.value (day_is_late date (omega (arith, signed_arith))) in
+    rw c.to_unix_epoch_day.ensures.value (day_is_late date (omega (arith, signed_arith))) in
     (late, rw (y, m, d) at (day_of_jiff date c.to_unix_epoch_day.result late (sym c.to_unix_epoch_day.ensures.value)))
 
 pub returns-in-Ok-clause-value : goal.returns-in-Ok-clause-value

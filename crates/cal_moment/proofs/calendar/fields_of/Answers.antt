@@ -1,10 +1,7 @@
-use Rattle.std.proofs.Common.{arith, ◌≡◌, FitsSigned, w32, to_z-of_z, sym}
+use Rattle.std.proofs.Common.{arith, FitsSigned, w32, to_z-of_z, sym}
 use Rattle.std.specs.Int.{w16}
-use Rattle.jiff_core.specs.Date.{epoch_day}
 use Rattle.jiff_core.proofs.SignedLemmas.{signed_arith, signed_casts}
-use Rattle.cal_moment.specs.declared.stamp.Day.{Day}
-use Rattle.jiff_core.specs.declared.civil.date.Date.{Date}
-use Rattle.cal_moment.proofs.JiffCalendar.{IsDayOf, day_of_jiff}
+use Rattle.cal_moment.proofs.JiffCalendar.{day_of_jiff}
 use Rattle.cal_moment.proofs.calendar.fields_of.Goals as goal
 
 pub returns-clause-date : goal.returns-clause-date

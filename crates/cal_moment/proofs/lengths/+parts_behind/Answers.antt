@@ -1,4 +1,4 @@
-use Rattle.std.proofs.Common.{◌≡◌, ◌+◌, ◌*◌, ◌∙◌, [], ◌++◌, sym, inr, refl, arith}
+use Rattle.std.proofs.Common.{◌∙◌, [], sym, inr, refl, arith}
 use Rattle.std.proofs.lemmas.Result.{err_from_is_err_and, MatchResult-weaker}
 use Rattle.cal_moment.proofs.Fronts.{not_empty, empty_is}
 use Rattle.cal_moment.proofs.PartLemmas.{parts_none, parts_join, behind_stops_letter, behind_stops_later, behind_stops_end, behind_stops_parts, parts_stop_behind, parts_stop_count}
@@ -17,7 +17,7 @@ returns-in_default-clause-err t c =
     let none = rw c.letter.ensures at c.in_default.ensures.none in
     rw first
     (MatchResult-weaker c.parts_behind.result c.parts_behind.ensures.err (λ seconds any. any)
-      (λ left s. behind_stops_later c.first_unit-unit.result.0 c.first_unit-unit.result.1.now c.args.number c.args.text.now left.now none s))
+    (λ left s. behind_stops_later c.first_unit-unit.result.0 c.first_unit-unit.result.1.now c.args.number c.args.text.now left.now none s))
 
 pub returns-then-is_empty-2-clause-ok : goal.returns-then-is_empty-2-clause-ok
 returns-then-is_empty-2-clause-ok t c =
@@ -41,7 +41,7 @@ returns-in_default-count-clause-err t c =
     let some = not_empty c.in-Some.rest.now (sym c.is_empty-2.ensures ∙ c.if-is_empty-2.false) in
     rw (first, c.in-Some.ensures.some, c.letter.ensures)
     (behind_stops_parts c.first_unit-unit.result.0 c.first_unit-unit.result.1.now c.args.number c.in-Some.rest.now c.in-Some.rest.now (rw first at c.requires.apart)
-      (parts_stop_count c.first_unit-unit.result.1.now c.in-Some.rest.now more some c.in_default-count.ensures.none))
+    (parts_stop_count c.first_unit-unit.result.1.now c.in-Some.rest.now more some c.in_default-count.ensures.none))
 
 pub returns-in_err-others-clause-err : goal.returns-in_err-others-clause-err
 returns-in_err-others-clause-err t c =
@@ -50,7 +50,7 @@ returns-in_err-others-clause-err t c =
     let some = not_empty c.in-Some.rest.now (sym c.is_empty-2.ensures ∙ c.if-is_empty-2.false) in
     rw (p.1, p.2, first, c.in-Some.ensures.some, c.letter.ensures)
     (behind_stops_parts c.first_unit-unit.result.0 c.first_unit-unit.result.1.now c.args.number c.in-Some.rest.now c.in_err-others.field-0.0.now (rw first at c.requires.apart)
-      (parts_stop_behind c.first_unit-unit.result.1.now c.in-Some.rest.now c.in-Some-count.next c.in-Some-count.behind.now c.in_err-others.field-0.0.now some c.in-Some-count.ensures.some c.in_err-others.ensures.err))
+    (parts_stop_behind c.first_unit-unit.result.1.now c.in-Some.rest.now c.in-Some-count.next c.in-Some-count.behind.now c.in_err-others.field-0.0.now some c.in-Some-count.ensures.some c.in_err-others.ensures.err))
 
 pub returns-clause-ok : goal.returns-clause-ok
 returns-clause-ok t c =

@@ -38,7 +38,7 @@ returns-in_err-seconds-2-clause-err c =
     let p = err_from_is_err_and c.from_residual-in_err-seconds-2.result c.from_residual-in_err-seconds-2.ensures.1 in
     rw (p.1, p.2)
     (body_stops_behind c.args.text.now c.in-Some-count.number c.in-Some-count.rest.now c.in_err-seconds-2.field-0.0.now c.in_default.ensures.none c.in-Some-count.ensures.some
-      (rw c.in-Some-letter-2.ensures.some (body_stops_days c.in-Some-count.number c.in-Some-letter-2.rest.now c.in_err-seconds-2.field-0.0.now c.in_err-seconds-2.ensures.err)))
+    (rw c.in-Some-letter-2.ensures.some (body_stops_days c.in-Some-count.number c.in-Some-letter-2.rest.now c.in_err-seconds-2.field-0.0.now c.in_err-seconds-2.ensures.err)))
 
 pub returns-clause-ok : goal.returns-clause-ok
 returns-clause-ok c =

@@ -1,4 +1,4 @@
-use Rattle.std.proofs.Common.{FitsSigned, w64, to_z-of_z, rules, arith}
+use Rattle.std.proofs.Common.{FitsSigned, w64, to_z-of_z, arith}
 use Rattle.std.proofs.lemmas.Int.{ints}
 use Rattle.std.proofs.lemmas.Result.{err_from_is_err_and}
 use Rattle.cal_moment.proofs.LengthLemmas.{length_stops_body, length_stops_letter, length_spells}

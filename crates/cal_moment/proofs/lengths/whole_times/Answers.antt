@@ -1,5 +1,5 @@
 use Rattle.std.proofs.lemmas.Result.{MatchResult-weaker}
-use Rattle.cal_moment.proofs.PartLemmas.{times_join, times_stop_behind, times_stop_count, time_units_apart}
+use Rattle.cal_moment.proofs.PartLemmas.{times_join, times_stop_behind, times_stop_count}
 use Rattle.cal_moment.proofs.lengths.whole_times.Goals as goal
 
 pub returns-in_default-clause-err : goal.returns-in_default-clause-err

@@ -1,6 +1,5 @@
-use Rattle.std.proofs.Common.{◌≡◌, ◌-◌, ◌+◌, ◌*◌, ◌^◌, ◌<◌, ◌≤◌, ◌∷◌, ◌++◌, suc, inl, inr, arith, refl, sym, ap}
+use Rattle.std.proofs.Common.{◌-◌, inl, inr, arith}
 use Rattle.std.proofs.lemmas.Result.{err_from_is_err_and}
-use Rattle.cal_moment.specs.Stops.{IsNumber, Opens, Stops}
 use Rattle.cal_moment.proofs.NumberLemmas.{number_stops_no_digit, number_stops_digit, number_stops_more, number_read}
 use Rattle.cal_moment.proofs.pieces.+number.Goals as goal
 use Rattle.cal_moment.proofs.pieces.+number.Goals.{then-high-begun-via-then-high-begun, then-high-begun-via-else-high-begun+then-begun-unit}
@@ -29,7 +28,7 @@ returns-in_err-tail-clause-err t c =
     let begun = rw (unit, from) at c.if-high-begun.false in
     rw (p.1, p.2, c.in-Some.ensures.some.1)
     (number_stops_more c.args.width (c.args.width - 1) (omega arith) c.args.low c.args.high c.in-Some.first c.in-Some.rest.now c.in_err-tail.field-0.0.now c.in-Some.ensures.some.0 begun
-      (rw (low, unit, from) at c.in_err-tail.ensures.err))
+    (rw (low, unit, from) at c.in_err-tail.ensures.err))
 
 pub returns-clause-ok : goal.returns-clause-ok
 returns-clause-ok t c =

@@ -28,8 +28,8 @@ pub returns-clause-ok : goal.returns-clause-ok
 returns-clause-ok c =
     let hour = c.in_ok-hour.ensures.ok in
     let minute = c.in_ok-minute.ensures.ok in
-    let second = c.in_ok-second.ensures.ok in
-    (omega (arith, hour.1, minute.1, c.min.ensures),
+    let second = c.in_ok-second.ensures.ok in (
+      omega (arith, hour.1, minute.1, c.min.ensures),
       time_text c.in_ok-hour.hour c.in_ok-minute.minute c.in_ok-second.second,
       record {
         hour = c.in_ok-hour.hour;
@@ -41,4 +41,5 @@ returns-clause-ok c =
         spelled = refl;
         number = ap (λ s. 3600 * c.in_ok-hour.hour + 60 * c.in_ok-minute.minute + s) c.min.ensures;
       },
-      rw (hour.3, minute.3, second.3) refl)
+      rw (hour.3, minute.3, second.3) refl,
+    )
