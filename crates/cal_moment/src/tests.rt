@@ -29,7 +29,16 @@ fn counts_days(rt: HostRuntime) -> Result<(), Fail> {
         assert_eq!(rt; fields_of(found), (year, month, day));
         assert_eq!(rt; weekday(found), week, "{year}-{month}-{day}");
     }
-    for (year, month, day) in [(0, 12, 31), (10_000, 1, 1), (1900, 2, 29), (2023, 4, 31), (2023, 0, 1), (2023, 13, 1), (2023, 1, 0), (-1, 1, 1)] {
+    for (year, month, day) in [
+        (0, 12, 31),
+        (10_000, 1, 1),
+        (1900, 2, 29),
+        (2023, 4, 31),
+        (2023, 0, 1),
+        (2023, 13, 1),
+        (2023, 1, 0),
+        (-1, 1, 1),
+    ] {
         assert_eq!(rt; day_of(year, month, day), None, "{year}-{month}-{day}");
     }
     Ok(())
@@ -38,7 +47,20 @@ fn counts_days(rt: HostRuntime) -> Result<(), Fail> {
 /// Each day of a year, from its first day and that one's day of the week.
 fn counts_year(rt: &impl Abort, year: i32, first: i32, february: u8) -> Result<(), Fail> {
     let mut number = first;
-    for (month, days) in [(1, 31), (2, february), (3, 31), (4, 30), (5, 31), (6, 30), (7, 31), (8, 31), (9, 30), (10, 31), (11, 30), (12, 31)] {
+    for (month, days) in [
+        (1, 31),
+        (2, february),
+        (3, 31),
+        (4, 30),
+        (5, 31),
+        (6, 30),
+        (7, 31),
+        (8, 31),
+        (9, 30),
+        (10, 31),
+        (11, 30),
+        (12, 31),
+    ] {
         for day in 1..=days {
             let found = day_of(year, month, day).ok_or("no such date")?;
             assert_eq!(rt; found.0, number, "{year}-{month}-{day}");
@@ -75,7 +97,11 @@ fn reads_values(rt: HostRuntime) {
         (b"+P1D".as_slice(), 1, 0),
         (b"-P1DT1S".as_slice(), -1, -1),
         (b"PT1H1S".as_slice(), 0, 3601),
-        (b"PT999999999H999999999M999999999S".as_slice(), 0, 3_660_999_996_339),
+        (
+            b"PT999999999H999999999M999999999S".as_slice(),
+            0,
+            3_660_999_996_339,
+        ),
         (b"P000000001W".as_slice(), 7, 0),
     ] {
         assert_eq!(rt; read_length(text), Ok(Length { days, seconds }));
