@@ -3,6 +3,10 @@
 use Rattle.std.specs.Prelude.{◌≡◌, ℕ, zero, suc, ◌+◌, ◌-◌, ◌*◌, ◌/◌, ◌%◌, Bool, not, ◌&&◌, ◌||◌, ◌==◌, nat_lt, if◌then◌else◌, List, [], ◌∷◌, count_by, ℤ, pos, neg_ℤ, ◌+ℤ◌, ◌-ℤ◌, ◌≤ℤ◌, unsigned_abs}
 use Rattle.std.specs.Int.{IsInRange}
 
+-- a number from the lowest to the highest
+abbrev pub IsBetween : ℤ → ℤ → ℤ → Type 0
+IsBetween low high n = (low ≤ℤ n) × (n ≤ℤ high)
+
 -- every fourth year, but of the centuries only every fourth
 abbrev pub is_leap : ℕ → Bool
 is_leap y = (y % 4 == 0) && (not (y % 100 == 0) || (y % 400 == 0))
@@ -81,11 +85,11 @@ epoch_day = 719_528
 
 -- a day since 1970 that lies in the years 1 to 9999
 abbrev pub IsCalendarDay : ℤ → Type 0
-IsCalendarDay day = (neg_ℤ (pos 719_162) ≤ℤ day) × (day ≤ℤ pos 2_932_896)
+IsCalendarDay = IsBetween (neg_ℤ (pos 719_162)) (pos 2_932_896)
 
 -- seconds from 1970 of such a day
 abbrev pub IsCalendarMoment : ℤ → Type 0
-IsCalendarMoment seconds = (neg_ℤ (pos 62_135_596_800) ≤ℤ seconds) × (seconds ≤ℤ pos 253_402_300_799)
+IsCalendarMoment = IsBetween (neg_ℤ (pos 62_135_596_800)) (pos 253_402_300_799)
 
 -- the number of a day that is counted from 1970
 abbrev pub day_number : ℤ → ℕ

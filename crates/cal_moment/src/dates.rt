@@ -26,7 +26,8 @@ fn days_of_month(year: u32, month: u32) -> u32
 /// The day of a date that the calendar has.
 fn day_of_fields(year: u32, month: u32, day: u32) -> Day
     requires { IsDate year month day }
-    ensures { SpellsDate (date_text year month day) result }
+    ensures spelled { SpellsDate (date_text year month day) result }
+    ensures range { IsCalendarDay result.0 }
 {
     match day_of(year as i32, month as u8, day as u8) {
         Some(day) => day,
@@ -37,6 +38,7 @@ fn day_of_fields(year: u32, month: u32, day: u32) -> Day
 /// Reads a date at the front of a text.
 pub fn date_in_front(text: &[u8]) -> Result<(Day, &[u8]), &[u8]>
     ensures ok { IfOk result (λ found. (front : List ℕ) × SpellsDate front found.0 × (text.now ≡ front ++ found.1.now)) }
+    ensures range { IfOk result (λ found. IsCalendarDay found.0.0) }
     ensures err { IfErr result (λ left. Stops (Opens (IsIn SpellsDate)) text.now left.now) }
 {
     let (year, rest) = number(text, 4, 1, 9999)?;
@@ -48,6 +50,7 @@ pub fn date_in_front(text: &[u8]) -> Result<(Day, &[u8]), &[u8]>
 /// The day that the whole text spells.
 fn whole_date(text: &[u8]) -> Result<Day, &[u8]>
     ensures ok { IfOk result (SpellsDate text.now) }
+    ensures range { IfOk result (λ day. IsCalendarDay day.0) }
     ensures err { IfErr result (λ left. Stops (IsIn SpellsDate) text.now left.now) }
 {
     let (day, rest) = date_in_front(text)?;
@@ -57,6 +60,7 @@ fn whole_date(text: &[u8]) -> Result<Day, &[u8]>
 /// Reads a DATE: four digits of the year, two of the month and two of the day.
 pub fn read_date(text: &[u8]) -> Result<Day, Bad>
     ensures ok { IfOk result (SpellsDate text.now) }
+    ensures range { IfOk result (λ day. IsCalendarDay day.0) }
     ensures only { (day : Day) → SpellsDate text.now day → result ≡ Ok day }
     ensures err { IfErr result (λ fault. IsBadAt SpellsDate text.now fault.place) }
 {

@@ -1,7 +1,8 @@
 //! Texts of lengths of time (RFC 5545, 3.3.6).
 
-ghost use Rattle.std.specs.Prelude.{◌≡◌, ◌≤◌, ◌<◌, ◌+◌, ◌*◌, ◌^◌, ◌∷◌, ◌++◌, ℕ, ℤ, List, length, IfOk, IfErr, IfSome, IfNone};
+ghost use Rattle.std.specs.Prelude.{◌≡◌, ◌≤◌, ◌<◌, ◌+◌, ◌*◌, ◌^◌, ◌∷◌, ◌++◌, ℕ, ℤ, pos, neg_ℤ, List, length, IfOk, IfErr, IfSome, IfNone};
 ghost use Rattle.cal_moment.specs.declared.stamp.Length.{Length};
+ghost use Rattle.cal_moment.specs.Calendar.{IsBetween};
 ghost use Rattle.cal_moment.specs.BadPlace.{IsIn, IsBadAt};
 ghost use Rattle.cal_moment.specs.Texts.{digits, signed};
 ghost use Rattle.cal_moment.specs.LengthTexts.{SpellsBody, SpellsLength, SpellsTimes, time_units, unit_letter, unit_seconds};
@@ -145,7 +146,7 @@ fn whole_behind_days(text: &[u8]) -> Result<u64, &[u8]>
 /// The days and the seconds that the whole text behind the P spells.
 fn whole_body(text: &[u8]) -> Result<(u64, u64), &[u8]>
     ensures ok { IfOk result (λ found. SpellsBody text.now found.0 found.1) }
-    ensures days { IfOk result (λ found. found.0 < 7 * BILLION) }
+    ensures days { IfOk result (λ found. found.0 ≤ 6_999_999_993) }
     ensures seconds { IfOk result (λ found. found.1 ≤ 10800 * BILLION) }
     ensures err { IfErr result (λ left. Stops IsBody text.now left.now) }
 {
@@ -180,7 +181,8 @@ fn optional_sign(text: &[u8]) -> (bool, &[u8])
 /// A number with its sign.
 fn signed_number(negative: bool, number: u64) -> i64
     requires { number ≤ 10800 * BILLION }
-    ensures { result ≡ signed negative number }
+    ensures value { result ≡ signed negative number }
+    ensures range { IsBetween (neg_ℤ (pos number)) (pos number) result }
 {
     if negative {
         -(number as i64)
@@ -192,6 +194,8 @@ fn signed_number(negative: bool, number: u64) -> i64
 /// The length that the whole text spells.
 fn whole_length(text: &[u8]) -> Result<Length, &[u8]>
     ensures ok { IfOk result (SpellsLength text.now) }
+    ensures days { IfOk result (λ length. IsBetween (neg_ℤ (pos 6_999_999_993)) (pos 6_999_999_993) length.days) }
+    ensures seconds { IfOk result (λ length. IsBetween (neg_ℤ (pos 10_800_000_000_000)) (pos 10_800_000_000_000) length.seconds) }
     ensures err { IfErr result (λ left. Stops (IsIn SpellsLength) text.now left.now) }
 {
     let (negative, rest) = optional_sign(text);
@@ -208,6 +212,8 @@ fn whole_length(text: &[u8]) -> Result<Length, &[u8]>
 /// Reads a DURATION. Weeks are seven days each; hours and minutes are seconds.
 pub fn read_length(text: &[u8]) -> Result<Length, Bad>
     ensures ok { IfOk result (SpellsLength text.now) }
+    ensures days { IfOk result (λ length. IsBetween (neg_ℤ (pos 6_999_999_993)) (pos 6_999_999_993) length.days) }
+    ensures seconds { IfOk result (λ length. IsBetween (neg_ℤ (pos 10_800_000_000_000)) (pos 10_800_000_000_000) length.seconds) }
     ensures only { (length : Length) → SpellsLength text.now length → result ≡ Ok length }
     ensures err { IfErr result (λ fault. IsBadAt SpellsLength text.now fault.place) }
 {

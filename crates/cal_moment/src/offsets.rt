@@ -1,6 +1,7 @@
 //! Texts of offsets from UTC (RFC 5545, 3.3.14).
 
-ghost use Rattle.std.specs.Prelude.{◌≡◌, ◌≤◌, ◌<◌, ◌+◌, ◌*◌, ℤ, IfOk, IfErr};
+ghost use Rattle.std.specs.Prelude.{◌≡◌, ◌≤◌, ◌<◌, ◌+◌, ◌*◌, ℤ, pos, neg_ℤ, IfOk, IfErr};
+ghost use Rattle.cal_moment.specs.Calendar.{IsBetween};
 ghost use Rattle.cal_moment.specs.BadPlace.{IsIn, IsBadAt};
 ghost use Rattle.cal_moment.specs.Texts.{SpellsOffset, SpellsSecond, signed};
 ghost use Rattle.cal_moment.specs.Stops.{Stops};
@@ -27,7 +28,8 @@ fn whole_second(text: &[u8]) -> Result<u32, &[u8]>
 /// A number of seconds with its sign.
 fn signed_seconds(negative: bool, seconds: u32) -> i32
     requires { seconds < 86400 }
-    ensures { result ≡ signed negative seconds }
+    ensures value { result ≡ signed negative seconds }
+    ensures range { IsBetween (neg_ℤ (pos 86399)) (pos 86399) result }
 {
     if negative {
         -(seconds as i32)
@@ -39,6 +41,7 @@ fn signed_seconds(negative: bool, seconds: u32) -> i32
 /// The offset that the whole text spells, in seconds.
 fn whole_offset(text: &[u8]) -> Result<i32, &[u8]>
     ensures ok { IfOk result (SpellsOffset text.now) }
+    ensures range { IfOk result (IsBetween (neg_ℤ (pos 86399)) (pos 86399)) }
     ensures err { IfErr result (λ left. Stops (IsIn SpellsOffset) text.now left.now) }
 {
     let Some((negative, rest)) = sign(text) else {
@@ -53,6 +56,7 @@ fn whole_offset(text: &[u8]) -> Result<i32, &[u8]>
 /// Reads a UTC-OFFSET, in seconds: positive east of Greenwich, and below a day in size.
 pub fn read_offset(text: &[u8]) -> Result<i32, Bad>
     ensures ok { IfOk result (SpellsOffset text.now) }
+    ensures range { IfOk result (IsBetween (neg_ℤ (pos 86399)) (pos 86399)) }
     ensures only { (seconds : ℤ) → SpellsOffset text.now seconds → result ≡ Ok seconds }
     ensures err { IfErr result (λ fault. IsBadAt SpellsOffset text.now fault.place) }
 {

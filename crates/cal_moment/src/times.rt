@@ -19,7 +19,8 @@ const SECONDS_TO_EPOCH: i64 = 62_135_596_800;
 
 /// Reads a time of day at the front of a text, as the second of the day.
 pub fn time_in_front(text: &[u8]) -> Result<(u32, &[u8]), &[u8]>
-    ensures ok { IfOk result (λ found. (found.0 < 86400) × (front : List ℕ) × SpellsTime front found.0 × (text.now ≡ front ++ found.1.now)) }
+    ensures ok { IfOk result (λ found. (front : List ℕ) × SpellsTime front found.0 × (text.now ≡ front ++ found.1.now)) }
+    ensures range { IfOk result (λ found. found.0 < 86400) }
     ensures err { IfErr result (λ left. Stops (Opens (IsIn SpellsTime)) text.now left.now) }
 {
     let (hour, rest) = number(text, 2, 0, 23)?;
@@ -46,6 +47,8 @@ fn whole_utc(text: &[u8]) -> Result<bool, &[u8]>
 /// The local time that the whole text spells, and whether it is of UTC.
 fn whole_date_time(text: &[u8]) -> Result<(Local, bool), &[u8]>
     ensures ok { IfOk result (SpellsDateTime text.now) }
+    ensures day { IfOk result (λ found. IsCalendarDay found.0.day) }
+    ensures second { IfOk result (λ found. found.0.second < 86400) }
     ensures err { IfErr result (λ left. Stops (IsIn SpellsDateTime) text.now left.now) }
 {
     let (day, rest) = date_in_front(text)?;
@@ -60,6 +63,8 @@ fn whole_date_time(text: &[u8]) -> Result<(Local, bool), &[u8]>
 /// Reads a DATE-TIME, and whether it ends in the Z of UTC. Second 60 is read as 59.
 pub fn read_date_time(text: &[u8]) -> Result<(Local, bool), Bad>
     ensures ok { IfOk result (SpellsDateTime text.now) }
+    ensures day { IfOk result (λ found. IsCalendarDay found.0.day) }
+    ensures second { IfOk result (λ found. found.0.second < 86400) }
     ensures only { (value : Local × Bool) → SpellsDateTime text.now value → result ≡ Ok value }
     ensures err { IfErr result (λ fault. IsBadAt SpellsDateTime text.now fault.place) }
 {

@@ -20,4 +20,4 @@ returns-clause-ok c =
     let days_fit : FitsSigned w64 c.signed_number.result = omega (arith, ints) in
     let seconds_fit : FitsSigned w64 c.signed_number-2.result = omega (arith, ints) in
     simp to_z-of_z
-    (length_spells c.args.text.now c.optional_sign-negative.result.0 c.in-Some.body.now c.in_ok-days.days c.in_ok-days.seconds (record { days = c.signed_number.result; seconds = c.signed_number-2.result }) cut c.in_ok-days.ensures.ok c.signed_number.ensures c.signed_number-2.ensures)
+    (length_spells c.args.text.now c.optional_sign-negative.result.0 c.in-Some.body.now c.in_ok-days.days c.in_ok-days.seconds (record { days = c.signed_number.result; seconds = c.signed_number-2.result }) cut c.in_ok-days.ensures.ok c.signed_number.ensures.value c.signed_number-2.ensures.value)

@@ -29,7 +29,6 @@ returns-clause-ok c =
     let hour = c.in_ok-hour.ensures.ok in
     let minute = c.in_ok-minute.ensures.ok in
     let second = c.in_ok-second.ensures.ok in (
-      omega (arith, hour.1, minute.1, c.min.ensures),
       time_text c.in_ok-hour.hour c.in_ok-minute.minute c.in_ok-second.second,
       record {
         hour = c.in_ok-hour.hour;

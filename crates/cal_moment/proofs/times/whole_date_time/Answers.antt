@@ -19,8 +19,8 @@ returns-in_err-utc-clause-err c =
     let p = err_from_is_err_and c.from_residual-in_err-utc.result c.from_residual-in_err-utc.ensures.1 in
     let date = c.in_ok-day.ensures.ok in
     let time = c.in_ok-second.ensures.ok in
-    rw (p.1, p.2, date.2, c.in-Some.ensures.some, time.3)
-    (date_time_stops_utc date.0 (c.in_ok-day.day, date.1) time.1 c.in_ok-second.rest.now c.in_err-utc.field-0.0.now (c.in_ok-second.second, time.2) c.in_err-utc.ensures.err)
+    rw (p.1, p.2, date.2, c.in-Some.ensures.some, time.2)
+    (date_time_stops_utc date.0 (c.in_ok-day.day, date.1) time.0 c.in_ok-second.rest.now c.in_err-utc.field-0.0.now (c.in_ok-second.second, time.1) c.in_err-utc.ensures.err)
 
 pub returns-in_default-clause-err : goal.returns-in_default-clause-err
 returns-in_default-clause-err c =
