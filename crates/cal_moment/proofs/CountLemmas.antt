@@ -1,5 +1,5 @@
 -- Where a number of one to nine digits ends.
-use Rattle.std.proofs.Common.{◌≡◌, ℕ, zero, suc, ◌+◌, ◌*◌, ◌/◌, ◌%◌, ◌^◌, ◌<◌, ◌≤◌, ◌⊎◌, inl, inr, List, [], ◌∷◌, ◌++◌, length, refl, sym, ap, subst, ◌∙◌, arith, add-one, append_assoc}
+use Rattle.std.proofs.Common.{◌≡◌, ℕ, zero, suc, ◌+◌, ◌*◌, ◌%◌, ◌^◌, ◌<◌, ◌≤◌, ◌⊎◌, inl, inr, List, [], ◌∷◌, ◌++◌, length, refl, sym, ap, subst, ◌∙◌, arith, add-one, append_assoc}
 use Rattle.cal_moment.specs.LengthPieces.{GoesOnToCount, IsLongestCount}
 use Rattle.cal_moment.specs.LengthTexts.{SpellsCount}
 use Rattle.cal_moment.specs.Stops.{BeginsWithNoDigit, GoOnAlike, Stops}
@@ -18,17 +18,6 @@ goes_on width value d n text rest digit fits g =
       fits = g.fits;
       same = sym (append_assoc (digits width value) ((48 + d) ∷ []) text) ∙ ap (λ t. t ++ text) (sym pushed) ∙ rw add-one at g.same;
       ended = g.ended;
-    }
-
--- a first digit begins the longest number
-pub longest_count : (d n : ℕ) (text rest : List ℕ) → d ≤ 9 → GoesOnToCount 1 d text n rest → IsLongestCount ((48 + d) ∷ text) n rest
-longest_count d n text rest digit g =
-    let first : d / 1 ≡ d = omega arith in
-    record {
-      number = digits g.whole n;
-      spells = record { width = g.whole; some = g.from; most = g.most; fits = g.fits; spelled = refl };
-      split = rw first at g.same;
-      ended = rw length-digits g.ended;
     }
 
 abbrev AreDigits : List ℕ → Type 0

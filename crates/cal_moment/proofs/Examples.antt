@@ -1,13 +1,12 @@
 -- What the definitions say of single days and texts.
-use Rattle.std.proofs.Common.{◌≡◌, ℕ, ◌+◌, ◌*◌, ◌/◌, ◌≤◌, Bool, true, false, List, [], ◌∷◌, ◌++◌, refl, arith, inl, inr, ℤ, pos, neg_ℤ}
+use Rattle.std.proofs.Common.{◌≡◌, ℕ, ◌+◌, ◌*◌, ◌/◌, ◌≤◌, true, false, List, [], ◌∷◌, ◌++◌, refl, arith, inl, inr, pos, neg_ℤ}
 use Rattle.std.specs.Prelude.{codes}
-use Rattle.cal_moment.specs.declared.stamp.Day.{Day}
 use Rattle.cal_moment.specs.BadPlace.{IsIn, IsBadAt}
-use Rattle.cal_moment.specs.Calendar.{is_leap, month_length, day_of_date, year_of, month_of, day_of_month, weekday_of, epoch_day, day_since_1970, moment_of_date, seconds_since_1970}
-use Rattle.cal_moment.specs.LengthTexts.{SpellsLength, SpellsBody}
+use Rattle.cal_moment.specs.Calendar.{is_leap, day_of_date, year_of, month_of, day_of_month, weekday_of, epoch_day, day_since_1970, moment_of_date, seconds_since_1970}
+use Rattle.cal_moment.specs.LengthTexts.{SpellsLength}
 use Rattle.cal_moment.specs.LengthTexts.SpellsBody.{weeks}
-use Rattle.cal_moment.specs.Stops.{GoOnAlike, Stops}
-use Rattle.cal_moment.specs.Texts.{digits, SpellsDate, SpellsTime, SpellsOffset, date_text, time_text, written_local}
+use Rattle.cal_moment.specs.Stops.{GoOnAlike}
+use Rattle.cal_moment.specs.Texts.{digits, SpellsDate, SpellsTime, SpellsOffset, written_local}
 use Rattle.cal_moment.proofs.DateLemmas.{date_spells, length-date}
 use Rattle.cal_moment.proofs.DigitLemmas.{digits_then}
 use Rattle.cal_moment.proofs.StopsLemmas.{bad_at}

@@ -125,7 +125,3 @@ bad_at Spells text left s =
           let more : n ≡ length s.front + (n - length s.front - 1 + 1) = omega arith in
           no_longer (IsIn Spells) s.front left s.apart (n - length s.front - 1) (rw (← more) k) begun.0 (rw more at begun.1);
     }
-
--- what is left is a part of the text
-pub left-le : (Texts : List ℕ → Type 0) (text left : List ℕ) → Stops Texts text left → length left ≤ length text
-left-le Texts text left s = omega (arith, ap length s.split, length-append s.front left)

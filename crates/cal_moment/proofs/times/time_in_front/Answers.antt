@@ -1,4 +1,4 @@
-use Rattle.std.proofs.Common.{◌+◌, ◌*◌, refl, ap, arith}
+use Rattle.std.proofs.Common.{◌+◌, ◌*◌, refl, ap}
 use Rattle.std.proofs.lemmas.Result.{err_from_is_err_and}
 use Rattle.cal_moment.specs.Texts.{time_text}
 use Rattle.cal_moment.proofs.TimeLemmas.{time_stops_hour, time_stops_minute, time_stops_second}
