@@ -1,0 +1,15 @@
+mod Dates
+pub mod EndLemmas
+pub mod EventLemmas
+pub mod FrameLemmas
+pub mod LineLemmas
+pub mod QueryLemmas
+pub mod RequestLemmas
+pub mod UtcLemmas
+mod Samples
+mod TextExamples
+mod ReplyExamples
+mod StepExamples
+mod FrameExamples
+mod QueryExamples
+mod ScriptExamples

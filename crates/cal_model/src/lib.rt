@@ -1,0 +1,40 @@
+//! The data that all layers share, and what the server is held to.
+//!
+//! Given: the base types and the dates of the crates below. Gives: the types of calendar objects,
+//! recurrence, filters, requests, replies and stored collections, and in `specs/` the definitions
+//! that every public call above is measured by: the state of the server, what a request does to it
+//! and what the reply to it is, the octets of a reply, and what a script prints. Used by: every
+//! crate above.
+#![tactic(auto)]
+
+pub mod filter;
+pub mod object;
+pub mod path;
+pub mod privilege;
+pub mod property;
+pub mod reply;
+pub mod report;
+pub mod request;
+pub mod row;
+pub mod rule;
+pub mod selection;
+pub mod store;
+#[cfg(test)]
+mod tests;
+pub mod zone;
+
+pub use filter::{
+    Collation, CompFilter, Filter, ParamFilter, ParamTest, PropFilter, PropTest, TextMatch,
+};
+pub use object::{Alarm, Class, Component, Extent, Kind, Object, Related, Trigger};
+pub use path::{ObjectPath, Path};
+pub use privilege::{Acl, Grant, PrivilegeSet, Who};
+pub use property::{PropName, PropSet, Props};
+pub use reply::{Cond, Etag, Media, Refusal, Reply, date_value};
+pub use report::ReportRequest;
+pub use request::{Content, Event, Method, Request, Tags};
+pub use row::{Range, Row, RowKind};
+pub use rule::{DayPart, Freq, Rule, Until};
+pub use selection::{CompPick, PropPick, Recur, Selection};
+pub use store::CalendarData;
+pub use zone::{Onset, ZonePart, ZoneTable};

@@ -1,0 +1,114 @@
+//! Calendar objects (RFC 5545, 3.4 and 3.6; RFC 4791, 4.1).
+
+use crate::rule::Rule;
+use crate::zone::ZoneTable;
+use cal_base::{List, Node, Octets};
+use cal_moment::{Length, Period, Stamp, Utc};
+
+/// The kinds of components that a calendar stores.
+#[derive(Clone, Copy, PartialEq, Eq)]
+pub enum Kind {
+    /// VEVENT.
+    Event,
+    /// VTODO.
+    Todo,
+    /// VJOURNAL.
+    Journal,
+    /// VFREEBUSY.
+    FreeBusy,
+}
+
+/// How a component says when it ends.
+#[derive(Clone, Copy, PartialEq, Eq)]
+pub enum Extent {
+    /// At the value of DTEND.
+    End(Stamp),
+    /// A DURATION after its start.
+    Lasting(Length),
+    /// It says nothing and starts at a moment: it has no length.
+    Point,
+    /// It says nothing and starts with a day: it lasts that day.
+    WholeDay,
+    /// At the value of DUE.
+    Due(Stamp),
+    /// It has neither a start nor an end.
+    None,
+}
+
+/// How busy a component makes its owner (RFC 4791, 7.10).
+#[derive(Clone, Copy, PartialEq, Eq)]
+pub enum Class {
+    Busy,
+    Unavailable,
+    Tentative,
+}
+
+/// The end of a component that an alarm is tied to (RFC 5545, 3.2.14).
+#[derive(Clone, Copy, PartialEq, Eq)]
+pub enum Related {
+    Start,
+    End,
+}
+
+/// When an alarm goes off first (RFC 5545, 3.8.6.3).
+#[derive(Clone, Copy, PartialEq, Eq)]
+pub enum Trigger {
+    /// At a moment.
+    At(Utc),
+    /// A length after the start or the end of each instance.
+    From(Related, Length),
+}
+
+/// An alarm that has a TRIGGER (RFC 5545, 3.6.6).
+#[derive(Clone, Copy, PartialEq, Eq)]
+pub struct Alarm {
+    pub trigger: Trigger,
+    /// How many times it goes off after the first time.
+    pub repeat: u32,
+    /// The length between two of these.
+    pub gap: Length,
+}
+
+/// A VEVENT, VTODO, VJOURNAL or VFREEBUSY of an object. Its number is its place among the
+/// components of its object, counted from 0.
+#[derive(Clone, Drop, PartialEq, Eq)]
+pub struct Component {
+    pub kind: Kind,
+    /// Its place among the children of the object's tree, counted from 0.
+    pub child: u32,
+    /// DTSTART.
+    pub start: Option<Stamp>,
+    pub extent: Extent,
+    /// RECURRENCE-ID: the instance that this component takes the place of.
+    pub recurrence_id: Option<Stamp>,
+    /// The RRULE lines in order.
+    pub rules: List<Rule>,
+    /// The RDATE values that are dates or moments.
+    pub dates: List<Stamp>,
+    /// The RDATE values that are periods.
+    pub periods: List<Period>,
+    /// The EXDATE values.
+    pub except: List<Stamp>,
+    pub completed: Option<Utc>,
+    pub created: Option<Utc>,
+    /// The class of its instances; none for a component that counts as free.
+    pub busy: Option<Class>,
+    /// The FREEBUSY periods, in UTC. One without a class is free.
+    pub stored_busy: List<(Option<Class>, Period)>,
+    pub alarms: List<Alarm>,
+}
+
+/// A calendar object: what a calendar stores under one name.
+#[derive(Drop, PartialEq, Eq)]
+pub struct Object {
+    /// The one kind of its components.
+    pub kind: Kind,
+    /// The one UID of its components.
+    pub uid: Octets,
+    /// Its VCALENDAR.
+    pub tree: Node,
+    /// Its VTIMEZONEs in order. A zone's number is its place here, counted from 0.
+    pub zones: List<ZoneTable>,
+    /// Its components of the four kinds in the order of the text.
+    pub components: List<Component>,
+}
