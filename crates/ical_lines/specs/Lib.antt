@@ -1,0 +1,2 @@
+pub mod GroupReading
+pub mod UnquotedParts

@@ -1,0 +1,8 @@
+pub mod NestingSteps
+pub mod FaultsFromFront
+pub mod ComponentLines
+pub mod BuiltTrees
+pub mod PrintedTrees
+pub mod CleanTexts
+pub mod BuildSteps
+pub mod Printed
