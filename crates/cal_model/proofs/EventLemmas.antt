@@ -1,12 +1,12 @@
--- When the event of a PUT of the one form takes place: as its text says.
-use Rattle.std.proofs.Common.{◌≡◌, ℕ, zero, suc, ◌+◌, ◌/◌, ◌%◌, ◌^◌, Bool, true, false, List, [], ◌∷◌, ◌++◌, codes, find, option_map, option_and_then, bytes_eq, Some, ℤ, refl, sym, ap, subst, ◌∙◌, arith, inl, inr, not, ◌==◌, true≢false}
+-- The content lines of a PUT of the one form.
+use Rattle.std.proofs.Common.{◌≡◌, ℕ, zero, suc, ◌+◌, ◌/◌, ◌%◌, ◌^◌, Bool, true, false, List, [], ◌∷◌, ◌++◌, codes, filter_map, Some, ℤ, refl, sym, ap, subst, ◌∙◌, arith, inl, inr, not, ◌==◌, true≢false}
 use Rattle.std.specs.List.{list_all}
 use Rattle.std.proofs.lemmas.Bool.{and_parts, and_from, cases_Bool, eqb-true}
 use Rattle.std.proofs.lemmas.List.Folds.{list_all-append}
 use Rattle.cal_base.specs.declared.line.Line.{Line}
+use Rattle.cal_base.specs.ContentLines.{line_of, lines_of}
 use Rattle.cal_moment.specs.Texts.{digits, date_text, time_text}
 use Rattle.cal_model.specs.EventTexts.{EventText, IsEventText, is_name_octet, is_printable, event_lines, event_octets}
-use Rattle.cal_model.specs.EventTimes.{start_of, end_of}
 use Rattle.cal_model.specs.UtcTexts.{moment_text, utc_of}
 use Rattle.cal_model.proofs.LineLemmas.{is_inner, is_plain, lines_of-lines_text}
 use Rattle.cal_model.proofs.UtcLemmas.{spelled_whole, SpellsDateTime-utc_of}
@@ -65,15 +65,7 @@ lines_plain event h =
     (and_from _ _ (and_from _ _ end refl)
     (and_from _ _ (and_from _ _ summary refl) refl)))
 
--- The event of the body starts and ends when its text says.
-pub start_of-event_octets : (event : EventText) → IsEventText event → start_of (event_octets event) ≡ utc_of event.start
-unfolding start_of event_octets
-start_of-event_octets event h =
-    ap (λ lines. option_and_then utc_of (option_map (λ (line : Line). line.value) (find (λ (line : Line). bytes_eq line.name (codes "DTSTART")) lines)))
-    (lines_of-lines_text (event_lines event) (lines_plain event h))
-
-pub end_of-event_octets : (event : EventText) → IsEventText event → end_of (event_octets event) ≡ utc_of event.end
-unfolding end_of event_octets
-end_of-event_octets event h =
-    ap (λ lines. option_and_then utc_of (option_map (λ (line : Line). line.value) (find (λ (line : Line). bytes_eq line.name (codes "DTEND")) lines)))
-    (lines_of-lines_text (event_lines event) (lines_plain event h))
+-- The content lines of the body are its lines.
+pub lines_of-event_octets : (event : EventText) → IsEventText event → lines_of (event_octets event) ≡ filter_map line_of (event_lines event)
+unfolding event_octets
+lines_of-event_octets event h = lines_of-lines_text (event_lines event) (lines_plain event h)

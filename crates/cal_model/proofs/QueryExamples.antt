@@ -1,6 +1,8 @@
 -- Queries of one form as requests, and the replies to them.
 use Rattle.std.specs.Prelude.{◌≡◌, refl, [], ◌∷◌, length, codes}
 use Rattle.std.specs.Fmt.{digits}
+use Rattle.std.specs.Str.{is_utf8, chars}
+use lib.Utf8.{encode}
 use Rattle.hex.specs.Hex.{encode_with}
 use Rattle.sha2.specs.Sha256.{first_words, schedule, rounds, compress, hash_after, digest_bytes, sha256}
 use Rattle.std.proofs.Common.{arith}
@@ -24,16 +26,16 @@ use Rattle.cal_model.proofs.StepExamples.{with_stand_up, found_reply, found_body
 
 -- the event of 09:00 to 10:00 is found
 pub found : query_reply (codes "alice") (codes "calendar") ((codes "one.ics", stand_up_octets) ∷ []) (range_of nine ten) ≡ found_reply found_body
-unfolding etag_of encode_with first_words schedule rounds compress hash_after digest_bytes sha256 start_of end_of utc_of object_response segment reason digits document xml_text attribute_text
+unfolding etag_of encode_with first_words schedule rounds compress hash_after digest_bytes sha256 start_of end_of utc_of object_response segment reason digits document xml_text attribute_text is_utf8 chars encode
 found = refl
 
 -- it is missed from 10:00 on, and up to 09:00
 pub missed_after : query_reply (codes "alice") (codes "calendar") ((codes "one.ics", stand_up_octets) ∷ []) (range_of ten eleven) ≡ found_reply empty_body
-unfolding start_of end_of utc_of document attribute_text
+unfolding start_of end_of utc_of document attribute_text is_utf8 chars encode
 missed_after = refl
 
 pub missed_before : query_reply (codes "alice") (codes "calendar") ((codes "one.ics", stand_up_octets) ∷ []) (range_of eight nine) ≡ found_reply empty_body
-unfolding start_of end_of utc_of document attribute_text
+unfolding start_of end_of utc_of document attribute_text is_utf8 chars encode
 missed_before = refl
 
 -- the request of a query changes nothing, and has this reply

@@ -1,5 +1,7 @@
 -- What requests do: a first PUT, a replacement, a home without room, and queries that find an event or miss it by a touch.
 use Rattle.std.specs.Prelude.{◌≡◌, refl, ℕ, ◌+◌, ◌-◌, true, false, List, [], ◌∷◌, length, Some, None, codes, pos}
+use Rattle.std.specs.Str.{is_utf8, chars}
+use lib.Utf8.{encode}
 use Rattle.hex.specs.Hex.{encode_with}
 use Rattle.sha2.specs.Sha256.{first_words, schedule, rounds, compress, hash_after, digest_bytes, sha256}
 use Rattle.cal_base.specs.NameMap.{Named}
@@ -30,11 +32,11 @@ event_etag = refl
 
 -- when it takes place
 pub event_start : start_of stand_up_octets ≡ Some (pos nine)
-unfolding start_of utc_of
+unfolding start_of utc_of is_utf8 chars encode
 event_start = refl
 
 pub event_end : end_of stand_up_octets ≡ Some (pos ten)
-unfolding end_of utc_of
+unfolding end_of utc_of is_utf8 chars encode
 event_end = refl
 
 -- the first PUT
@@ -75,25 +77,25 @@ put_over = refl
 -- Overlaps: 09:00 to 10:00
 
 pub same_hour : overlaps (range_of nine ten) stand_up_octets ≡ true
-unfolding start_of end_of utc_of
+unfolding start_of end_of utc_of is_utf8 chars encode
 same_hour = refl
 
 -- one second is enough
 pub first_second : overlaps (range_of eight (nine + 1)) stand_up_octets ≡ true
-unfolding start_of end_of utc_of
+unfolding start_of end_of utc_of is_utf8 chars encode
 first_second = refl
 
 pub last_second : overlaps (range_of (ten - 1) eleven) stand_up_octets ≡ true
-unfolding start_of end_of utc_of
+unfolding start_of end_of utc_of is_utf8 chars encode
 last_second = refl
 
 -- a touch is none
 pub hour_before : overlaps (range_of eight nine) stand_up_octets ≡ false
-unfolding start_of end_of utc_of
+unfolding start_of end_of utc_of is_utf8 chars encode
 hour_before = refl
 
 pub hour_after : overlaps (range_of ten eleven) stand_up_octets ≡ false
-unfolding start_of end_of utc_of
+unfolding start_of end_of utc_of is_utf8 chars encode
 hour_after = refl
 
 -- an event with no length overlaps a range that it lies within, and neither touches
@@ -101,11 +103,11 @@ abbrev pub instant_octets : List ℕ
 instant_octets = event_octets (record stand_up { end = codes "20250310T090000Z" })
 
 pub instant_within : overlaps (range_of eight ten) instant_octets ≡ true
-unfolding start_of end_of utc_of event_octets
+unfolding start_of end_of utc_of event_octets is_utf8 chars encode
 instant_within = refl
 
 pub instant_at_start : overlaps (range_of nine ten) instant_octets ≡ false
-unfolding start_of end_of utc_of event_octets
+unfolding start_of end_of utc_of event_octets is_utf8 chars encode
 instant_at_start = refl
 
 -- Queries

@@ -1,14 +1,19 @@
 -- When an event takes place: the moments in its lines DTSTART and DTEND (RFC 5545, 3.8.2.4 and 3.8.2.2), and whether it overlaps a range (RFC 4791, 9.9).
 -- So far only an object with one event whose two lines are in UTC; nothing recurs.
-use Rattle.std.specs.Prelude.{ℕ, Bool, false, ◌&&◌, List, find, bytes_eq, codes, Option, Some, None, option_map, option_and_then, ℤ, int_lt}
-use Rattle.cal_base.specs.ContentLines.{lines_of}
+use Rattle.std.specs.Prelude.{ℕ, Bool, false, ◌&&◌, List, [], find, bytes_eq, codes, Option, Some, None, option_map, option_and_then, ℤ, int_lt}
+use Rattle.std.specs.Result.{result_unwrap_or}
+use Rattle.cal_base.specs.ContentLines.{read_lines}
 use Rattle.cal_base.specs.declared.line.Line.{Line}
 use Rattle.cal_model.specs.declared.row.Range.{Range}
 use Rattle.cal_model.specs.UtcTexts.{utc_of}
 
+-- the lines of a text; a text with a fault has none
+abbrev pub lines_in : List ℕ → List Line
+lines_in octets = result_unwrap_or (read_lines octets) []
+
 -- the value of the first line of that name
 abbrev pub value_of : List ℕ → List ℕ → Option (List ℕ)
-value_of name octets = option_map (λ (line : Line). line.value) (find (λ (line : Line). bytes_eq line.name name) (lines_of octets))
+value_of name octets = option_map (λ (line : Line). line.value) (find (λ (line : Line). bytes_eq line.name name) (lines_in octets))
 
 -- when the event of an object starts and ends, in seconds since 1970
 unfoldable pub start_of : List ℕ → Option ℤ

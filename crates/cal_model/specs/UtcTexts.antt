@@ -7,7 +7,7 @@ use Rattle.cal_moment.specs.Texts.{date_text, time_text}
 abbrev pub number_at : ℕ → ℕ → List ℕ → ℕ
 number_at place count text = fold (λ n octet. n * 10 + (octet - 48)) 0 (take count (drop place text))
 
--- the calendar has the date, and the clock the time; 60 is a leap second
+-- the calendar of the years 1 to 9999 has the date, and the clock the time; 60 is a leap second
 abbrev pub is_date_time : ℕ → ℕ → ℕ → ℕ → ℕ → ℕ → Bool
 is_date_time year month day hour minute second =
     nat_le 1 year && nat_le year 9999 && nat_le 1 month && nat_le month 12 && nat_le 1 day && nat_le day (month_length year month)

@@ -1,0 +1,6 @@
+mod Appends
+mod EventLemmas
+mod MomentLemmas
+mod PutLemmas
+mod QueryLemmas
+mod TextLemmas
