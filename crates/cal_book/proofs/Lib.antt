@@ -1,0 +1,4 @@
+pub mod OneHomeLemmas
+pub mod StoredLemmas
+pub mod XmlLemmas
+pub mod MultistatusLemmas
