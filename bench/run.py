@@ -1,0 +1,114 @@
+#!/usr/bin/env python3
+"""Times the programs over generated input, and prints the figures. It needs only Python.
+
+Build the programs once before: `rt run` in crates/caldav_server and in crates/lines_bench.
+"""
+import os, resource, subprocess, sys, tempfile, time
+
+TOP = os.path.dirname(os.path.dirname(os.path.abspath(__file__)))
+SERVER = os.path.join(TOP, "crates/caldav_server/out/caldav_server")
+LINES = os.path.join(TOP, "crates/lines_bench/out/lines_bench")
+USERS = b"user alice ba7816bf8f01cfea414140de5dae2223b00361a396177a9cb410ff61f20015ad\n"
+
+
+def frame(payload):
+    return b"bytes 0 1741600000 %d\n%s\n" % (len(payload), payload)
+
+
+def put(number):
+    """The PUT of one event of half an hour on a day of 2025 or later."""
+    name = b"o%06d" % number
+    day = 1 + number % 28
+    month = 1 + number // 28 % 12
+    year = 2025 + number // 336 % 60
+    date = b"%04d%02d%02d" % (year, month, day)
+    body = b"\r\n".join([
+        b"BEGIN:VCALENDAR", b"VERSION:2.0", b"PRODID:-//a//EN", b"BEGIN:VEVENT", b"UID:" + name,
+        b"DTSTAMP:20250101T000000Z", b"DTSTART:" + date + b"T090000Z", b"DTEND:" + date + b"T093000Z",
+        b"SUMMARY:Stand-up", b"END:VEVENT", b"END:VCALENDAR", b"",
+    ])
+    head = b"\r\n".join([
+        b"PUT /calendars/alice/calendar/" + name + b".ics HTTP/1.1", b"Host: h",
+        b"Authorization: Basic YWxpY2U6YWJj", b"Content-Type: text/calendar",
+        b"Content-Length: %d" % len(body), b"", b"",
+    ])
+    return frame(head + body)
+
+
+def query(start, end):
+    body = (
+        b'<C:calendar-query xmlns:D="DAV:" xmlns:C="urn:ietf:params:xml:ns:caldav">'
+        b"<D:prop><D:getetag/><C:calendar-data/></D:prop>"
+        b'<C:filter><C:comp-filter name="VCALENDAR"><C:comp-filter name="VEVENT">'
+        b'<C:time-range start="' + start + b'" end="' + end + b'"/>'
+        b"</C:comp-filter></C:comp-filter></C:filter></C:calendar-query>"
+    )
+    head = b"\r\n".join([
+        b"REPORT /calendars/alice/calendar/ HTTP/1.1", b"Host: h", b"Authorization: Basic YWxpY2U6YWJj",
+        b"Content-Type: application/xml", b"Content-Length: %d" % len(body), b"", b"",
+    ])
+    return frame(head + body)
+
+
+NONE = query(b"20240101T000000Z", b"20240102T000000Z")
+ONE = query(b"20250101T000000Z", b"20250101T093000Z")
+ALL = query(b"20250101T000000Z", b"20990101T000000Z")
+
+
+def run(program, words, text):
+    """Seconds, the greatest memory of any run so far in MiB, and the output."""
+    with tempfile.TemporaryFile() as given, tempfile.TemporaryFile() as taken:
+        given.write(text)
+        given.seek(0)
+        begin = time.perf_counter()
+        status = subprocess.run([program, *words], stdin=given, stdout=taken).returncode
+        seconds = time.perf_counter() - begin
+        taken.seek(0)
+        output = taken.read()
+    if status:
+        sys.exit(f"{program} ended with status {status}")
+    return seconds, resource.getrusage(resource.RUSAGE_CHILDREN).ru_maxrss / 1024, output
+
+
+def scripts():
+    print(f"{'script':34} {'seconds':>8} {'us each':>8} {'MiB':>6} {'octets out':>12} {'objects shown':>14}")
+    with tempfile.TemporaryDirectory() as folder:
+        users = os.path.join(folder, "users")
+        with open(users, "wb") as file:
+            file.write(USERS)
+        words = ["script", "--users", users]
+        base = {}
+        for count in (2000, 20000):
+            puts = b"".join(put(n) for n in range(count))
+            seconds, memory, output = run(SERVER, words, puts)
+            base[count] = seconds
+            print(f"{f'{count} PUTs':34} {seconds:8.3f} {seconds / count * 1e6:8.1f} {memory:6.0f} {len(output):12d}")
+            for label, text in (("nothing", NONE), ("one day", ONE), ("all", ALL)):
+                times = 20 if count == 20000 else 200
+                seconds, memory, output = run(SERVER, words, puts + text * times)
+                each = (seconds - base[count]) / times * 1e6
+                shown = output.count(b"<D:response>") // times
+                print(f"{f'{times} queries of {count} for {label}':34} {seconds:8.3f} {each:8.0f} {memory:6.0f} {len(output):12d} {shown:14d}")
+
+
+def lines():
+    print(f"{'text':34} {'octets':>8} {'seconds':>8} {'ns/octet':>9}  answer")
+    size = 262144
+    for scale in (1, 4):
+        n = size * scale
+        texts = {
+            "one line": b"SUMMARY:" + b"a" * (n - 10) + b"\r\n",
+            "one line, an octet a fold": b"SUMMARY:" + b"a\r\n " * ((n - 11) // 4) + b"a\r\n",
+            "many lines": b"A:\r\n" * (n // 4),
+        }
+        for name, text in texts.items():
+            best = min(run(LINES, [], text)[0] for _ in range(5))
+            answer = run(LINES, [], text)[2].decode().strip()
+            print(f"{name:34} {len(text):8d} {best:8.4f} {best / len(text) * 1e9:9.1f}  {answer}")
+
+
+for program in (SERVER, LINES):
+    if not os.path.exists(program):
+        sys.exit(f"{program} is not built: run `rt run` in its crate's folder first")
+scripts()
+lines()
