@@ -1,0 +1,96 @@
+//! The command `script`.
+ghost use Rattle.std.specs.Prelude.{◌≡◌, ◌≢◌, ◌≤◌, ◌⊎◌, ◌↔◌, None, IfSome};
+ghost use Rattle.cal_base.specs.Outside.{Rose};
+ghost use Rattle.cal_model.specs.UsersFile.{IsUsersFile, alice_alone};
+ghost use Rattle.cal_script.specs.ScriptEnds.{users_path, RefusesStart, RunsFrames, EndsInPart, HasPlace, RanToEnd, MetBadFrame, StoppedReading, WroteFront};
+
+use crate::running::{FrameEnd, run_frames};
+use crate::users::{UsersFault, check_users};
+use crate::words::users_path;
+use cal_base::{Files, List, Sink, Source, Word};
+use std::alloc::Global;
+
+/// How a script ended.
+#[derive(Debug, Clone, Copy, PartialEq, Eq)]
+pub struct ScriptEnd {
+    /// 0 the input was read to its end and every reply was written; 2 the words are others; 3 the
+    /// users file is too long or has a bad line; 4 a file or the input failed; 5 the output failed;
+    /// 6 a frame is bad or cut; 7 there was no memory.
+    pub status: u8,
+    /// At status 0 the octets of input, at status 6 the place of the frame in them, and else 0.
+    pub place: u64,
+}
+
+/// Runs the command: looks at its words, then at the users file, and then answers the frames of the
+/// input in order, each as soon as it is whole.
+///
+/// Where the input tells what is left to read and the output what was written, the output is what a
+/// script may print for the frames of the input (status 0), for those before the place (6), for
+/// those that were taken (4), or a front of that (5 and 7).
+pub fn run_script<F: Files, I: Source, O: Sink>(
+    alloc: Global,
+    words: &List<Word>,
+    files: &mut F,
+    input: &mut I,
+    output: &mut O,
+) -> ScriptEnd
+    ensures known { (result.status ≡ 0) ⊎ ((2 ≤ result.status) × (result.status ≤ 7)) }
+
+    // The words and the users file.
+    ensures words { (result.status ≡ 2) ↔ (users_path words.now ≡ None) }
+    ensures users_refused { result.status ≡ 3 → IfSome (users_path words.now) (λ path. IfSome (F.content files.old path) (λ octets. ¬ IsUsersFile octets alice_alone)) }
+    ensures users_taken { RunsFrames result.status → IfSome (users_path words.now) (λ path. IfSome (F.content files.old path) (λ octets. IsUsersFile octets alice_alone)) }
+    ensures refused { RefusesStart result.status → (input.new ≡ input.old) × (output.new ≡ output.old) }
+
+    // The frames.
+    ensures done { result.status ≡ 0 → RanToEnd (I.left input.old) (I.left input.new) (O.written output.old) (O.written output.new) result.place }
+    ensures bad_frame { result.status ≡ 6 → MetBadFrame (I.left input.old) (O.written output.old) (O.written output.new) result.place }
+    ensures input_fault { result.status ≡ 4 → Rose (F.faults files.old) (F.faults files.new) ⊎ Rose (I.faults input.old) (I.faults input.new) }
+    ensures stopped { result.status ≡ 4 → StoppedReading (I.left input.old) (I.left input.new) (O.written output.old) (O.written output.new) }
+    ensures output_fault { result.status ≡ 5 → Rose (O.faults output.old) (O.faults output.new) }
+    ensures in_part { EndsInPart result.status → WroteFront (I.left input.old) (O.written output.old) (O.written output.new) }
+    ensures placed { HasPlace result.status ⊎ (result.place ≡ 0) }
+
+    // No count falls.
+    ensures files_never_fall { F.faults files.old ≤ F.faults files.new }
+    ensures input_never_falls { I.faults input.old ≤ I.faults input.new }
+    ensures output_never_falls { O.faults output.old ≤ O.faults output.new }
+{
+    let Some(path) = users_path(words) else {
+        return ScriptEnd {
+            status: 2,
+            place: 0,
+        };
+    };
+    match check_users(alloc, files, path.as_str()) {
+        Ok(()) => {}
+        Err(UsersFault::Line) => return ScriptEnd {
+            status: 3,
+            place: 0,
+        },
+        Err(UsersFault::Files) => return ScriptEnd {
+            status: 4,
+            place: 0,
+        },
+        Err(UsersFault::NoMemory) => return ScriptEnd {
+            status: 7,
+            place: 0,
+        },
+    }
+    match run_frames(alloc, input, output) {
+        FrameEnd::Done(place) => ScriptEnd { status: 0, place },
+        FrameEnd::Input => ScriptEnd {
+            status: 4,
+            place: 0,
+        },
+        FrameEnd::Output => ScriptEnd {
+            status: 5,
+            place: 0,
+        },
+        FrameEnd::Frame(place) => ScriptEnd { status: 6, place },
+        FrameEnd::NoMemory => ScriptEnd {
+            status: 7,
+            place: 0,
+        },
+    }
+}

@@ -1,0 +1,152 @@
+//! Whole runs over memory.
+
+use crate::script::{ScriptEnd, run_script};
+use cal_base::{List, MemoryFiles, MemorySink, MemorySource, NoMemory, Octets, Word};
+use std::alloc::Global;
+use std::test::Fail;
+
+/// A number that no call of a test has.
+const NO_CALL: u64 = 99;
+
+/// The line of the one users file.
+const USERS: &str = "user alice ba7816bf8f01cfea414140de5dae2223b00361a396177a9cb410ff61f20015ad\n";
+
+/// One octet that is no request, twice, and the reply to it: the second comes on a closed
+/// connection.
+const NO_REQUESTS: &str = "bytes 0 1741600000 1\nx\nbytes 0 1741600000 1\nx\n";
+
+const TURNED_AWAY: &str =
+    "reply 0 107\nHTTP/1.1 501 Not Implemented\r\nDate: Mon, 10 Mar 2025 09:46:40 GMT\r\nConnection: close\r\nContent-Length: 0\r\n\r\n\n";
+
+/// Which calls of a run fail, by their numbers from 0.
+#[derive(Clone, Copy)]
+struct Failing {
+    read: u64,
+    write: u64,
+}
+
+const NONE_FAILING: Failing = Failing {
+    read: NO_CALL,
+    write: NO_CALL,
+};
+
+fn word_list(alloc: Global, words: &[&str]) -> Result<List<Word>, NoMemory> {
+    let mut list = List::new(alloc);
+    for word in words {
+        list.push(Word::of(alloc, word)?)?;
+    }
+    Ok(list)
+}
+
+/// Files with this one as `users`.
+fn files_with(alloc: Global, content: &[u8]) -> Result<MemoryFiles, NoMemory> {
+    let mut files = List::new(alloc);
+    let path = Octets::of(alloc, b"users")?;
+    files.push((path, Octets::of(alloc, content)?))?;
+    Ok(MemoryFiles::new(files, List::new(alloc)))
+}
+
+/// How a run ends, and what it writes.
+fn run(
+    alloc: Global,
+    words: &[&str],
+    users: &[u8],
+    input: &[u8],
+    failing: Failing,
+) -> Result<(ScriptEnd, MemorySink), NoMemory> {
+    let mut files = files_with(alloc, users)?;
+    let octets = Octets::of(alloc, input)?;
+    let mut source = MemorySource::new(octets, List::of(alloc, &[failing.read])?, 1 << 62);
+    let mut sink = MemorySink::new(alloc, List::of(alloc, &[failing.write])?);
+    let words = word_list(alloc, words)?;
+    let end = run_script(alloc, &words, &mut files, &mut source, &mut sink);
+    Ok((end, sink))
+}
+
+#[test]
+fn frames_and_faults_give_their_statuses(rt: HostRuntime) -> Result<(), Fail> {
+    let words: [&str; 3] = ["script", "--users", "users"];
+    let second_write = Failing {
+        read: NO_CALL,
+        write: 1,
+    };
+    let second_read = Failing {
+        read: 1,
+        write: NO_CALL,
+    };
+    let first_write = Failing {
+        read: NO_CALL,
+        write: 0,
+    };
+    for (input, failing, status, place, output) in [
+        ("", NONE_FAILING, 0, 0, ""),
+        (NO_REQUESTS, NONE_FAILING, 0, 46, TURNED_AWAY),
+        (NO_REQUESTS, second_read, 4, 0, TURNED_AWAY),
+        (NO_REQUESTS, first_write, 5, 0, ""),
+        (NO_REQUESTS, second_write, 5, 0, "reply 0 107\n"),
+        ("bytes 0 0 0\n\nbytes 0 00 0\n\n", NONE_FAILING, 6, 13, ""),
+        ("bytes 0  0 0\n\n", NONE_FAILING, 6, 0, ""),
+        ("bytes 16 0 0\n\n", NONE_FAILING, 6, 0, ""),
+        ("bytes 0 253402300800 0\n\n", NONE_FAILING, 6, 0, ""),
+        ("bytes 0 0 1048577\n", NONE_FAILING, 6, 0, ""),
+        ("bytes 0 0 0\n\nbytes 0 0 1\nxy", NONE_FAILING, 6, 13, ""),
+        ("bytes 0 0 0\n\nbytes 0 0 1", NONE_FAILING, 6, 13, ""),
+        ("bytes 0 0 0\n\nbytes 0 0 2\nx", NONE_FAILING, 6, 13, ""),
+        ("bytes 0 0 0\n\nbytes 0 0 0\n", NONE_FAILING, 6, 13, ""),
+    ] {
+        let (end, sink) = run(
+            rt.alloc(),
+            &words,
+            USERS.as_bytes(),
+            input.as_bytes(),
+            failing,
+        )?;
+        assert_eq!(rt; end, ScriptEnd { status, place }, "{input}");
+        assert_eq!(rt; sink.written(), output.as_bytes(), "{input}");
+    }
+    Ok(())
+}
+
+#[test]
+fn words_and_users_files_are_looked_at_first(rt: HostRuntime) -> Result<(), Fail> {
+    let right: &[&str] = &["script", "--users", "users"];
+    let alone: &[&str] = &["script"];
+    let more: &[&str] = &["script", "--users", "users", "users"];
+    let empty: &[&str] = &["script", "--users", ""];
+    let other: &[&str] = &["script", "--user", "users"];
+    let none: &[&str] = &[];
+    let absent: &[&str] = &["script", "--users", "absent"];
+    let longer = "user alice ba7816bf8f01cfea414140de5dae2223b00361a396177a9cb410ff61f20015ad\n\n";
+    for (words, users, status) in [
+        (right, USERS, 0),
+        (none, USERS, 2),
+        (alone, USERS, 2),
+        (other, USERS, 2),
+        (empty, USERS, 2),
+        (more, USERS, 2),
+        (right, "", 3),
+        (right, longer, 3),
+        (right, "user bob ba78\n", 3),
+        (absent, USERS, 4),
+    ] {
+        let (end, sink) = run(rt.alloc(), words, users.as_bytes(), b"", NONE_FAILING)?;
+        assert_eq!(rt; end, ScriptEnd { status, place: 0 }, "{users}");
+        assert_eq!(rt; sink.written(), b"".as_slice());
+    }
+    Ok(())
+}
+
+#[test]
+fn a_users_file_has_a_limit(rt: HostRuntime) -> Result<(), Fail> {
+    let words: &[&str] = &["script", "--users", "users"];
+    let long = vec![in rt.alloc(); b'#'; 65_537]?;
+    let (end, _sink) = run(rt.alloc(), words, &long, b"", NONE_FAILING)?;
+    assert_eq!(rt;
+        end,
+        ScriptEnd {
+            status: 3,
+            place: 0
+        }
+    );
+    Ok(())
+}
