@@ -96,7 +96,7 @@ fn write_responses(
 ) -> Result<(), NoMemory>
     ensures { OnOk result (out.new ≡ out.old ++ responses range (octets_of objects.now)) }
 {
-    'objects: for pair in objects.iter() {
+    'responses: for pair in objects.iter() {
         if pair.1.overlaps(range) {
             write_response(out, pair.0.as_slice(), pair.1)?;
         }

@@ -14,7 +14,7 @@ users_path _ = None
 abbrev pub RefusesStart : ℕ → Type 0
 RefusesStart status = (status ≡ 2) ⊎ (status ≡ 3)
 
--- those at which frames were answered without doubt: after all, where the output failed, before a bad one
+-- those that come only once the users file is taken
 abbrev pub RunsFrames : ℕ → Type 0
 RunsFrames status = (status ≡ 0) ⊎ (status ≡ 5) ⊎ (status ≡ 6)
 

@@ -35,8 +35,7 @@ enum NoPiece {
 
 /// Answers the frames of an input, from the opening state.
 ///
-/// Octets that came are kept until the frame that they belong to is answered, and no longer than
-/// until the next piece is read.
+/// A frame is answered once it is whole, and its octets are let go before the next piece is read.
 pub(crate) fn run_frames<I: Source, O: Sink>(
     alloc: Global,
     input: &mut I,

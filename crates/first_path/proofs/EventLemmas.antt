@@ -1,8 +1,7 @@
 -- The text of an event as its parts and what stands between them.
-use Rattle.std.proofs.Common.{◌≡◌, ℕ, ◌+◌, ◌<◌, ◌≤◌, Bool, true, false, not, ◌==◌, ◌&&◌, nat_le, IsTrue, List, [], ◌∷◌, ◌++◌, length, Option, Some, None, codes, decimal, zero, suc, ◌/◌, ◌%◌, ◌^◌, ℤ, ap₂, inl, inr, refl, sym, ap, ◌∙◌, arith, append_assoc}
+use Rattle.std.proofs.Common.{◌≡◌, ℕ, ◌+◌, ◌<◌, ◌≤◌, Bool, true, false, not, ◌==◌, ◌&&◌, nat_le, IsTrue, List, [], ◌∷◌, ◌++◌, length, Some, codes, decimal, zero, suc, ◌/◌, ◌%◌, ◌^◌, ℤ, ap₂, inl, inr, refl, sym, ap, ◌∙◌, arith}
 use Rattle.std.specs.List.{list_all}
 use Rattle.std.specs.Fmt.{digit_glyph, digits_onto, digits as digits_of_number}
-use Rattle.std.specs.Int.{IsInRange}
 use Rattle.std.proofs.lemmas.Bool.{and_parts, leb-true, le-leb, cases_Bool}
 use Rattle.std.proofs.lemmas.Bool.Decides.{nat_tests}
 use Rattle.std.proofs.lemmas.List.Folds.{list_all-append}
@@ -10,7 +9,6 @@ use Rattle.cal_moment.specs.Texts.{digits, date_text, time_text}
 use Rattle.cal_model.proofs.UtcLemmas.{SpellsDateTime-utc_of}
 use Rattle.cal_model.specs.EventTexts.{EventText, IsEventText, event_octets, is_name_octet, is_printable}
 use Rattle.cal_model.specs.UtcTexts.{utc_of, moment_text}
-use Rattle.cal_model.specs.declared.row.Range.{Range}
 use Rattle.first_path.specs.Spans.{IsSpan}
 use Rattle.first_path.specs.Cuts.{lacks}
 

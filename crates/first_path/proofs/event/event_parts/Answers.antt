@@ -1,5 +1,4 @@
-use Rattle.std.proofs.Common.{◌≡◌, sym, ap, ◌∙◌, rules}
-use Rattle.first_path.specs.Parts.{text_of}
+use Rattle.std.proofs.Common.{◌≡◌, ◌∙◌, rules}
 use Rattle.first_path.proofs.EventLemmas.{event_octets-parts, event_lacks, event_from_parts, behind_uid, behind_start, behind_end, behind_summary}
 use Rattle.first_path.proofs.event.event_parts.Goals as goal
 

@@ -1,4 +1,3 @@
-use Rattle.std.proofs.Common.{◌≡◌, Some}
 use Rattle.std.proofs.lemmas.Bool.{false≢true}
 use Rattle.first_path.specs.Parts.{text_of}
 use Rattle.first_path.proofs.EventLemmas.{span_of_event}

@@ -1,4 +1,4 @@
-use Rattle.std.proofs.Common.{◌≡◌, ◌++◌, ◌∙◌, ◌<◌, ◌^◌, length, true, None, sym, ap, arith}
+use Rattle.std.proofs.Common.{◌≡◌, ◌++◌, ◌∙◌, ◌<◌, ◌^◌, length, true, None, ap, arith}
 use Rattle.std.specs.Prelude.{codes}
 use Rattle.cal_model.specs.declared.path.Path.TheVariants.{Object}
 use Rattle.cal_model.specs.declared.request.Content.TheVariants.{Put as PutContent}
