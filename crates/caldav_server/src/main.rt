@@ -7,9 +7,8 @@
 
 use cal_base::{List, NoMemory, StdFiles, StdSink, StdSource, Word};
 use cal_script::{ScriptEnd, run_script};
-use std::env;
-use std::io;
 use std::process::ExitCode;
+use std::{env, io};
 
 /// Makes the list of words, and the real input, output and files, and calls the command.
 fn main(rt: HostRuntime) -> ExitCode {
