@@ -111,11 +111,15 @@ fn take_piece<I: Source>(
 }
 
 /// What is kept without so many octets in front. The others move to the front in their place in
-/// memory.
+/// memory; where there is nothing to take off, nothing moves, so that a frame which comes octet by
+/// octet is not moved for each of them.
 fn behind_front(kept: Octets, len: usize) -> Octets
     requires { len ≤ length kept }
     ensures { result ≡ drop len kept }
 {
+    if len == 0 {
+        return kept;
+    }
     let mut items = kept.into_vec();
     let rest = items.len() - len;
     items.copy_within(len.., 0);
