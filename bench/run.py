@@ -1,9 +1,9 @@
 #!/usr/bin/env python3
-"""Times the programs over generated input, and prints the figures. It needs only Python.
+"""Times the programs over generated input, and prints the figures. It needs Python 3, and Debian's package `time` for the memory.
 
 Build the programs once before: `rt run` in crates/caldav_server and in crates/lines_bench.
 """
-import os, resource, subprocess, sys, tempfile, time
+import os, subprocess, sys, tempfile, time
 
 TOP = os.path.dirname(os.path.dirname(os.path.abspath(__file__)))
 SERVER = os.path.join(TOP, "crates/caldav_server/out/caldav_server")
@@ -56,18 +56,20 @@ ALL = query(b"20250101T000000Z", b"20990101T000000Z")
 
 
 def run(program, words, text):
-    """Seconds, the greatest memory of any run so far in MiB, and the output."""
-    with tempfile.TemporaryFile() as given, tempfile.TemporaryFile() as taken:
+    """Seconds, the greatest memory in MiB (Debian's package `time` tells it, else 0), and the output."""
+    with tempfile.TemporaryFile() as given, tempfile.TemporaryFile() as taken, tempfile.NamedTemporaryFile() as told:
         given.write(text)
         given.seek(0)
+        measured = ["/usr/bin/time", "-f", "%M", "-o", told.name] if os.path.exists("/usr/bin/time") else []
         begin = time.perf_counter()
-        status = subprocess.run([program, *words], stdin=given, stdout=taken).returncode
+        status = subprocess.run([*measured, program, *words], stdin=given, stdout=taken).returncode
         seconds = time.perf_counter() - begin
         taken.seek(0)
         output = taken.read()
+        memory = int(told.read() or b"0") / 1024
     if status:
         sys.exit(f"{program} ended with status {status}")
-    return seconds, resource.getrusage(resource.RUSAGE_CHILDREN).ru_maxrss / 1024, output
+    return seconds, memory, output
 
 
 def scripts():
@@ -82,13 +84,13 @@ def scripts():
             puts = b"".join(put(n) for n in range(count))
             seconds, memory, output = run(SERVER, words, puts)
             base[count] = seconds
-            print(f"{f'{count} PUTs':34} {seconds:8.3f} {seconds / count * 1e6:8.1f} {memory:6.0f} {len(output):12d}")
+            print(f"{f'{count} PUTs':34} {seconds:8.3f} {seconds / count * 1e6:8.1f} {memory:6.1f} {len(output):12d}")
             for label, text in (("nothing", NONE), ("one day", ONE), ("all", ALL)):
                 times = 20 if count == 20000 else 200
                 seconds, memory, output = run(SERVER, words, puts + text * times)
                 each = (seconds - base[count]) / times * 1e6
                 shown = output.count(b"<D:response>") // times
-                print(f"{f'{times} queries of {count} for {label}':34} {seconds:8.3f} {each:8.0f} {memory:6.0f} {len(output):12d} {shown:14d}")
+                print(f"{f'{times} queries of {count} for {label}':34} {seconds:8.3f} {each:8.0f} {memory:6.1f} {len(output):12d} {shown:14d}")
 
 
 def lines():
