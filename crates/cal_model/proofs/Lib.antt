@@ -13,3 +13,11 @@ mod StepExamples
 mod FrameExamples
 mod QueryExamples
 mod ScriptExamples
+mod PassingExamples
+mod ZoneExamples
+mod RecurrenceSetExamples
+mod ZoneOnsetExamples
+mod RowExamples
+mod MovedRowExamples
+mod OverlapExamples
+mod CostExamples

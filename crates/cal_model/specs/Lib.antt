@@ -20,3 +20,15 @@ pub mod Requests
 pub mod Frames
 pub mod UsersFile
 pub mod Script
+pub mod Numbers
+pub mod Passing
+pub mod NextPassing
+pub mod Zones
+pub mod TableBounds
+pub mod RecurrenceSet
+pub mod ZoneOnsets
+pub mod Alignment
+pub mod Rows
+pub mod MovedRows
+pub mod Overlap
+pub mod Cost

@@ -33,7 +33,7 @@ pub use property::{PropName, PropSet, Props};
 pub use reply::{Cond, Etag, Media, Refusal, Reply, date_value};
 pub use report::ReportRequest;
 pub use request::{Content, Event, Method, Request, Tags};
-pub use row::{Range, Row, RowKind};
+pub use row::{Fixed, Range, Row, RowKind};
 pub use rule::{DayPart, Freq, Rule, Until};
 pub use selection::{CompPick, PropPick, Recur, Selection};
 pub use store::CalendarData;

@@ -36,3 +36,12 @@ pub struct Range {
     pub start: Utc,
     pub end: Utc,
 }
+
+/// The start and the end of an instance as moments, floating times and dates read in some zone.
+#[derive(Clone, Copy, PartialEq, Eq)]
+pub struct Fixed {
+    /// In seconds since 1970 in UTC.
+    pub start: i64,
+    /// In seconds since 1970 in UTC.
+    pub end: i64,
+}

@@ -1,0 +1,46 @@
+-- Examples of cost and margin.
+use Rattle.std.specs.Prelude.{◌≡◌, refl, ℕ, true, false, List, [], ◌∷◌, pos, Some}
+use Rattle.cal_moment.specs.Calendar.{day_of_date, year_of, month_of, day_of_month}
+use Rattle.cal_model.specs.declared.object.Object.{Object}
+use Rattle.cal_model.specs.declared.object.Extent.TheVariants as extent
+use Rattle.cal_model.specs.declared.row.Range.{Range}
+use Rattle.cal_model.specs.declared.rule.Freq.TheVariants.{Daily, Weekly}
+use Rattle.cal_model.specs.Numbers.{counted_from}
+use Rattle.cal_model.specs.Passing.{day_passes, time_passes}
+use Rattle.cal_model.proofs.PassingExamples.{each}
+use Rattle.cal_model.proofs.RecurrenceSetExamples.{daily_at}
+use Rattle.cal_model.proofs.ZoneExamples.{written}
+use Rattle.cal_model.proofs.RowExamples.{event, object_of, utc, date}
+use Rattle.cal_model.specs.Cost.{cost_over, margin, window_meets}
+
+abbrev pub from_new_year : List ℕ
+from_new_year = daily_at 32400 (day_of_date 2025 1 1) 200
+
+-- daily from 1 January: the window from 8 January to 12 March has 71 moments up to its end; COUNT changes nothing
+daily : cost_over from_new_year (object_of (record (event (Some (utc 2025 1 1 9 0)) extent.Point) { rules = record (each Daily) { count = Some 3 } ∷ [] } ∷ [])) (pos 314) ≡ 74
+unfolding year_of month_of day_of_month day_passes time_passes counted_from
+daily = refl
+
+-- weekly, a week that begins in the window counts whole: the Wednesdays up to 12 March
+weekly : cost_over from_new_year (object_of (record (event (Some (utc 2025 1 1 9 0)) extent.Point) { rules = each Weekly ∷ [] } ∷ [])) (pos 314) ≡ 14
+unfolding year_of month_of day_of_month day_passes time_passes counted_from
+weekly = refl
+
+-- an override that names a day by its DATE moves the last day to it
+named_day : cost_over from_new_year (object_of (record (event (Some (utc 2025 1 1 9 0)) extent.Point) { rules = each Daily ∷ [] }
+    ∷ record (event (Some (utc 2025 4 1 9 0)) extent.Point) { recurrence_id = Some (date 2025 3 20) } ∷ [])) (pos 314) ≡ 83
+unfolding year_of month_of day_of_month day_passes time_passes counted_from
+named_day = refl
+
+-- an event of a hundred days: a range near its end meets the window of its start
+abbrev pub long : Object
+long = object_of (event (Some (utc 2025 1 1 0 0)) (extent.End (utc 2025 4 11 0 0)) ∷ [])
+
+abbrev pub near_its_end : Range
+near_its_end = record { start = record { 0 = written 2025 4 10 0 0 0 }; end = record { 0 = written 2025 4 10 1 0 0 } }
+
+hundred_days : margin long ≡ 8_985_600
+hundred_days = refl
+
+windows : (window_meets (margin long) near_its_end (pos 313) ≡ true) × (window_meets (margin long) near_its_end (pos 312) ≡ false)
+windows = (refl, refl)

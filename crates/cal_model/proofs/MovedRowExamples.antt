@@ -1,0 +1,43 @@
+-- Examples of overrides that move all later instances.
+use Rattle.std.specs.Prelude.{◌≡◌, refl, ℕ, ◌==◌, Bool, [], ◌∷◌, Some}
+use Rattle.cal_moment.specs.Calendar.{day_of_date, year_of, month_of, day_of_month}
+use Rattle.cal_model.specs.declared.rule.Freq.TheVariants.{Weekly}
+use Rattle.cal_model.specs.declared.object.Extent.TheVariants as extent
+use Rattle.cal_model.specs.Numbers.{counted_from}
+use Rattle.cal_model.specs.Passing.{day_passes, time_passes}
+use Rattle.cal_model.proofs.PassingExamples.{each}
+use Rattle.cal_model.proofs.RecurrenceSetExamples.{daily_at}
+use Rattle.cal_model.specs.Zones.{offset_at, exists_in, instant_of}
+use Rattle.cal_model.proofs.ZoneExamples.{written}
+use Rattle.cal_model.specs.Rows.{Numbered}
+use Rattle.cal_model.proofs.RowExamples.{event, object_of, utc, zoned, instant_row}
+use Rattle.cal_model.specs.MovedRows.{moved_rows_over}
+
+-- the component of that number has RANGE=THISANDFUTURE
+abbrev pub only : ℕ → Numbered → Bool
+only number n = n.number == number
+
+-- from the third on a day and two hours later, but for the fourth, which an override of its own moves
+later_weeks : moved_rows_over (only 1) (daily_at 32400 (day_of_date 2025 3 1) 60)
+    (object_of (record (event (Some (utc 2025 3 3 9 0)) (extent.End (utc 2025 3 3 10 0))) { rules = record (each Weekly) { count = Some 5 } ∷ [] }
+    ∷ record (event (Some (utc 2025 3 18 11 0)) (extent.End (utc 2025 3 18 12 30))) { recurrence_id = Some (utc 2025 3 17 9 0) }
+    ∷ record (event (Some (utc 2025 3 24 15 0)) (extent.End (utc 2025 3 24 16 0))) { recurrence_id = Some (utc 2025 3 24 9 0) } ∷ []))
+    ≡ instant_row (written 2025 3 3 9 0 0) (written 2025 3 3 9 0 0) (written 2025 3 3 10 0 0) 0
+    ∷ instant_row (written 2025 3 10 9 0 0) (written 2025 3 10 9 0 0) (written 2025 3 10 10 0 0) 0
+    ∷ instant_row (written 2025 3 17 9 0 0) (written 2025 3 18 11 0 0) (written 2025 3 18 12 30 0) 1
+    ∷ instant_row (written 2025 3 24 9 0 0) (written 2025 3 24 15 0 0) (written 2025 3 24 16 0 0) 2
+    ∷ instant_row (written 2025 3 31 9 0 0) (written 2025 4 1 11 0 0) (written 2025 4 1 12 30 0) 1
+    ∷ []
+unfolding year_of month_of day_of_month day_passes time_passes counted_from
+later_weeks = refl
+
+-- in New York the move is one of local digits
+over_the_change : moved_rows_over (only 1) (daily_at 36000 (day_of_date 2025 3 1) 30)
+    (object_of (record (event (Some (zoned 2025 3 2 10 0)) (extent.End (zoned 2025 3 2 11 0))) { rules = record (each Weekly) { count = Some 3 } ∷ [] }
+    ∷ record (event (Some (zoned 2025 3 2 12 0)) (extent.End (zoned 2025 3 2 13 0))) { recurrence_id = Some (zoned 2025 3 2 10 0) } ∷ []))
+    ≡ instant_row (written 2025 3 2 15 0 0) (written 2025 3 2 17 0 0) (written 2025 3 2 18 0 0) 1
+    ∷ instant_row (written 2025 3 9 14 0 0) (written 2025 3 9 16 0 0) (written 2025 3 9 17 0 0) 1
+    ∷ instant_row (written 2025 3 16 14 0 0) (written 2025 3 16 16 0 0) (written 2025 3 16 17 0 0) 1
+    ∷ []
+unfolding year_of month_of day_of_month day_passes time_passes counted_from exists_in instant_of offset_at
+over_the_change = refl

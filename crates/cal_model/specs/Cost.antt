@@ -1,0 +1,102 @@
+-- What the expansion of an object over a window costs, and how far rows reach beyond their starts.
+use Rattle.std.specs.Prelude.{ℕ, suc, ◌+◌, ◌*◌, Bool, false, ◌&&◌, nat_le, if◌then◌else◌, List, [], ◌∷◌, map, filter_map, flat_map, option_to_list, length, sum, count_by, max, ℤ, pos, ◌+ℤ◌, ◌-ℤ◌, ◌*ℤ◌, int_lt, unsigned_abs, Option, Some, None}
+use Rattle.cal_moment.specs.Calendar.{epoch_day, day_of_moment, moment_of_seconds}
+use Rattle.cal_moment.specs.declared.stamp.Stamp.{Stamp}
+use Rattle.cal_moment.specs.declared.stamp.Period.{Period}
+use Rattle.cal_moment.specs.declared.stamp.PeriodEnd.{PeriodEnd}
+use Rattle.cal_moment.specs.declared.stamp.PeriodEnd.TheVariants.{At, After}
+use Rattle.cal_model.specs.declared.rule.Rule.{Rule}
+use Rattle.cal_model.specs.declared.zone.ZoneTable.{ZoneTable}
+use Rattle.cal_model.specs.declared.object.Component.{Component}
+use Rattle.cal_model.specs.declared.object.Object.{Object}
+use Rattle.cal_model.specs.declared.object.Extent.{Extent}
+use Rattle.cal_model.specs.declared.object.Extent.TheVariants as extent
+use Rattle.cal_model.specs.declared.object.Alarm.{Alarm}
+use Rattle.cal_model.specs.declared.object.Trigger.{Trigger}
+use Rattle.cal_model.specs.declared.object.Trigger.TheVariants as trigger
+use Rattle.cal_model.specs.declared.row.Range.{Range}
+use Rattle.cal_model.specs.Passing.{passes, period_number}
+use Rattle.cal_model.specs.RecurrenceSet.{every_moment}
+use Rattle.cal_model.specs.Alignment.{Aligned, at, on_day, value_of, written_moment}
+use Rattle.cal_model.specs.Overlap.{seconds_of}
+use Rattle.cal_model.specs.Rows.{is_date, overrides, ids_start, named_by}
+
+-- Cost.
+
+-- the moments that pass, existing or not, in the periods that don't begin after a day
+abbrev pub passing_up_to : List ℕ → Rule → Stamp → ℕ → ℕ
+passing_up_to moments rule s day =
+    let last = period_number rule.freq rule.week_start (86400 * day + 86399) in
+    count_by (λ m. if nat_le (period_number rule.freq rule.week_start m) last then passes rule (written_moment s) (is_date s) m else false) moments
+
+-- a rule counts two, and its moments where its component has a start
+abbrev pub rule_cost : List ℕ → Option Stamp → ℕ → Rule → ℕ
+rule_cost moments None day rule = 2
+rule_cost moments (Some s) day rule = 2 + passing_up_to moments rule s day
+
+abbrev pub dates_of : Component → ℕ
+dates_of c = length c.dates + length c.periods
+
+abbrev pub component_cost : List ℕ → ℕ → Component → ℕ
+component_cost moments day c = dates_of c + (length (option_to_list c.recurrence_id) + sum (map (rule_cost moments c.start day) c.rules))
+
+-- the days that RECURRENCE-IDs of kind DATE name beside a start that is a DATE-TIME
+abbrev pub day_named : Aligned → Option ℕ
+day_named (at v) = None
+day_named (on_day midnight) = Some (day_of_moment (moment_of_seconds midnight))
+
+abbrev pub days_named_from : Object → Option Stamp → List ℕ
+days_named_from object None = []
+days_named_from object (Some ids) = filter_map day_named (flat_map (named_by object.zones ids) (overrides object))
+
+abbrev pub greatest : List ℕ → ℕ
+greatest [] = 0
+greatest (n ∷ ns) = max n (greatest ns)
+
+-- the last day of a window of 64 days
+abbrev pub last_of_window : ℤ → ℕ
+last_of_window window = unsigned_abs (window *ℤ pos 64 +ℤ pos (63 + epoch_day))
+
+-- the last day on which a period may begin. RANGE=THISANDFUTURE changes this one definition
+abbrev pub last_day : Object → ℤ → ℕ
+last_day object window = max (last_of_window window) (greatest (days_named_from object (ids_start object)))
+
+abbrev pub cost_over : List ℕ → Object → ℤ → ℕ
+cost_over moments object window = suc (sum (map (component_cost moments (last_day object window)) object.components))
+
+abbrev pub cost : Object → ℤ → ℕ
+cost = cost_over every_moment
+
+-- Margin, in seconds.
+
+-- the written length of a component: of DURATION, or from the start to DTEND or DUE
+abbrev pub extent_length : List ZoneTable → Option Stamp → Extent → ℕ
+extent_length zones s (extent.Lasting length) = unsigned_abs (seconds_of length)
+extent_length zones (Some s) (extent.End e) = unsigned_abs (value_of zones e -ℤ value_of zones s)
+extent_length zones (Some s) (extent.Due e) = unsigned_abs (value_of zones e -ℤ value_of zones s)
+extent_length zones s other = 0
+
+abbrev pub length_to : List ZoneTable → Stamp → PeriodEnd → ℕ
+length_to zones start (At e) = unsigned_abs (value_of zones e -ℤ value_of zones start)
+length_to zones start (After length) = unsigned_abs (seconds_of length)
+
+abbrev pub trigger_length : Trigger → ℕ
+trigger_length (trigger.At u) = 0
+trigger_length (trigger.From r length) = unsigned_abs (seconds_of length)
+
+abbrev pub alarm_reach : Alarm → ℕ
+alarm_reach alarm = trigger_length alarm.trigger + alarm.repeat * unsigned_abs (seconds_of alarm.gap)
+
+abbrev pub lengths : List ZoneTable → Component → List ℕ
+lengths zones c = extent_length zones c.start c.extent ∷ map (λ (p : Period). length_to zones p.start p.end) c.periods
+
+-- four days, the greatest length, and the greatest reach of an alarm
+abbrev pub margin : Object → ℕ
+margin object =
+    345_600 + (greatest (flat_map (lengths object.zones) object.components)
+    + greatest (flat_map (λ (c : Component). map alarm_reach c.alarms) object.components))
+
+-- a window of 64 days meets a range that is widened on both sides
+abbrev pub window_meets : ℕ → Range → ℤ → Bool
+window_meets by range window =
+    int_lt (range.start.0 -ℤ pos by) ((window +ℤ pos 1) *ℤ pos 5_529_600) && int_lt (window *ℤ pos 5_529_600) (range.end.0 +ℤ pos by)

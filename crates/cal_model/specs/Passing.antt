@@ -1,0 +1,168 @@
+-- A local moment passes a rule. From RFC 5545, 3.3.10.
+-- Moments are seconds from 1 January of the year 0 (`Rattle.cal_moment.specs.Calendar`). The test knows one moment, the rule and its start: no other moment, no zone, no COUNT, UNTIL or BYSETPOS.
+use Rattle.std.specs.Prelude.{ℕ, ◌+◌, ◌-◌, ◌*◌, ◌/◌, ◌%◌, Bool, true, false, not, ◌==◌, nat_le, if◌then◌else◌, List, ℤ, pos, negsuc}
+use Rattle.cal_moment.specs.Calendar.{first_of_year, year_length, month_length, year_of, day_of_year, month_of, day_of_month, weekday_of, day_of_moment, second_of_day}
+use Rattle.cal_model.specs.declared.rule.Rule.{Rule}
+use Rattle.cal_model.specs.declared.rule.DayPart.{DayPart}
+use Rattle.cal_model.specs.declared.rule.Freq.{Freq}
+use Rattle.cal_model.specs.declared.rule.Freq.TheVariants.{Secondly, Minutely, Hourly, Daily, Weekly, Monthly, Yearly}
+use Rattle.cal_model.specs.Numbers.{is_empty, has_number, some_names_place}
+use Rattle.std.specs.List.{list_any}
+
+-- Periods.
+
+-- how many weeks have begun by a day, where weeks begin on that weekday
+abbrev pub week_number_of : ℕ → ℕ → ℕ
+week_number_of week_start day = (day + 5 + 7 - week_start) / 7
+
+-- the number of the period in which a moment lies
+abbrev pub period_number : Freq → ℕ → ℕ → ℕ
+period_number Secondly week_start m = m
+period_number Minutely week_start m = m / 60
+period_number Hourly week_start m = m / 3600
+period_number Daily week_start m = day_of_moment m
+period_number Weekly week_start m = week_number_of week_start (day_of_moment m)
+period_number Monthly week_start m = 12 * year_of (day_of_moment m) + month_of (day_of_moment m)
+period_number Yearly week_start m = year_of (day_of_moment m)
+
+-- INTERVAL: every so many periods, from the period of the start on
+abbrev pub period_passes : Rule → ℕ → ℕ → Bool
+period_passes rule start m =
+    let first = period_number rule.freq rule.week_start start in
+    let this = period_number rule.freq rule.week_start m in
+    if nat_le first this then (this - first) % rule.interval == 0 else false
+
+-- Weeks of the year.
+
+-- the fourth day of a day's week
+abbrev pub fourth_day : ℕ → ℕ → ℕ
+fourth_day week_start day = day - (weekday_of day + 7 - week_start) % 7 + 3
+
+-- the fourth day of the first week of a year: the one from 1 to 7 January with the fourth weekday
+abbrev pub first_fourth_day : ℕ → ℕ → ℕ
+first_fourth_day week_start year =
+    first_of_year year + (week_start + 3 + 7 - weekday_of (first_of_year year)) % 7
+
+-- the number of a day's week in the year to which the week belongs: the year of its fourth day
+abbrev pub week_of_year : ℕ → ℕ → ℕ
+week_of_year week_start day =
+    let fourth = fourth_day week_start day in
+    (fourth - first_fourth_day week_start (year_of fourth)) / 7 + 1
+
+-- how many weeks belong to that year
+abbrev pub weeks_of_year : ℕ → ℕ → ℕ
+weeks_of_year week_start day =
+    let year = year_of (fourth_day week_start day) in
+    (first_of_year (year + 1) - 1 - first_fourth_day week_start year) / 7 + 1
+
+-- The parts.
+
+-- BYDAY counts weekdays in the month under MONTHLY or beside BYMONTH, else in the year
+abbrev pub counts_in_month : Freq → List ℕ → Bool
+counts_in_month Monthly by_month = true
+counts_in_month other by_month = not (is_empty by_month)
+
+-- an ordinal names this occurrence of a weekday in a month or a year; 0 is each
+abbrev pub ordinal_passes : ℕ → ℕ → ℤ → Bool
+ordinal_passes place size (pos n) = if n == 0 then true else n == (place + 6) / 7
+ordinal_passes place size (negsuc n) = n == (size - place) / 7
+
+-- a day is one of those of a BYDAY part, `place` of `size` days of its month or year
+abbrev pub weekday_passes : ℕ → ℕ → ℕ → DayPart → Bool
+weekday_passes weekday place size part =
+    if part.weekday == weekday then ordinal_passes place size part.ordinal else false
+
+abbrev pub month_passes : Rule → ℕ → Bool
+month_passes rule day = if is_empty rule.by_month then true else has_number rule.by_month (month_of day)
+
+abbrev pub week_passes : Rule → ℕ → Bool
+week_passes rule day =
+    if is_empty rule.by_week then true
+    else some_names_place rule.by_week (week_of_year rule.week_start day) (weeks_of_year rule.week_start day)
+
+abbrev pub year_day_passes : Rule → ℕ → Bool
+year_day_passes rule day =
+    if is_empty rule.by_year_day then true
+    else some_names_place rule.by_year_day (day_of_year day) (year_length (year_of day))
+
+abbrev pub month_day_passes : Rule → ℕ → Bool
+month_day_passes rule day =
+    if is_empty rule.by_month_day then true
+    else some_names_place rule.by_month_day (day_of_month day) (month_length (year_of day) (month_of day))
+
+abbrev pub by_day_passes : Rule → ℕ → Bool
+by_day_passes rule day =
+    if is_empty rule.by_day then true
+    else (if counts_in_month rule.freq rule.by_month
+    then list_any (weekday_passes (weekday_of day) (day_of_month day) (month_length (year_of day) (month_of day))) rule.by_day
+    else list_any (weekday_passes (weekday_of day) (day_of_year day) (year_length (year_of day))) rule.by_day)
+
+-- The defaults.
+
+abbrev pub has_day_part : Rule → Bool
+has_day_part rule =
+    if is_empty rule.by_year_day then (if is_empty rule.by_month_day then not (is_empty rule.by_day) else true) else true
+
+abbrev pub same_weekday : ℕ → ℕ → Bool
+same_weekday start day = weekday_of day == weekday_of start
+
+abbrev pub same_month_day : ℕ → ℕ → Bool
+same_month_day start day = day_of_month day == day_of_month start
+
+-- what the start gives of the day where no part does
+abbrev pub day_default : Freq → Rule → ℕ → ℕ → Bool
+day_default Weekly rule start day = same_weekday start day
+day_default Monthly rule start day = same_month_day start day
+day_default Yearly rule start day =
+    if same_month_day start day
+    then (if is_empty rule.by_month then month_of day == month_of start else true)
+    else false
+day_default other rule start day = true
+
+abbrev pub default_passes : Rule → ℕ → ℕ → Bool
+default_passes rule start day =
+    if has_day_part rule then true
+    else (if is_empty rule.by_week then day_default rule.freq rule start day else same_weekday start day)
+
+-- a day passes all that the rule and its start say of days
+unfoldable pub day_passes : Rule → ℕ → ℕ → Bool
+day_passes rule start day =
+    if month_passes rule day
+    then (if month_day_passes rule day
+    then (if by_day_passes rule day
+    then (if year_day_passes rule day
+    then (if week_passes rule day then default_passes rule start day else false)
+    else false)
+    else false)
+    else false)
+    else false
+
+-- The time of day.
+
+-- a part of the time, or the start's value where the part is absent
+abbrev pub part_passes : List ℕ → ℕ → ℕ → Bool
+part_passes part of_start value = if is_empty part then value == of_start else has_number part value
+
+abbrev pub hour_passes : Freq → List ℕ → ℕ → ℕ → Bool
+hour_passes Hourly part of_start hour = if is_empty part then true else has_number part hour
+hour_passes other part of_start hour = part_passes part of_start hour
+
+-- a second of the day passes; a start that is a DATE takes the first second alone
+unfoldable pub time_passes : Rule → ℕ → Bool → ℕ → Bool
+time_passes rule of_start dated second =
+    if dated then second == 0
+    else (if hour_passes rule.freq rule.by_hour (of_start / 3600) (second / 3600)
+    then (if part_passes rule.by_minute (of_start / 60 % 60) (second / 60 % 60)
+    then part_passes rule.by_second (of_start % 60) (second % 60)
+    else false)
+    else false)
+
+-- The test.
+
+abbrev pub passes : Rule → ℕ → Bool → ℕ → Bool
+passes rule start dated m =
+    if period_passes rule start m
+    then (if day_passes rule (day_of_moment start) (day_of_moment m)
+    then time_passes rule (second_of_day start) dated (second_of_day m)
+    else false)
+    else false
