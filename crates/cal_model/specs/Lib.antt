@@ -32,3 +32,4 @@ pub mod Rows
 pub mod MovedRows
 pub mod Overlap
 pub mod Cost
+pub mod ComponentLines
