@@ -54,6 +54,22 @@ fn read_some<S: Source>(
     Ok(Some(n))
 }
 
+/// What four reads of these sizes give, and the octets that came.
+fn four_reads(
+    alloc: Global,
+    failing: u64,
+    allowance: u64,
+    sizes: [usize; 4],
+) -> Result<([Option<usize>; 4], Octets), NoMemory> {
+    let mut source = source(alloc, b"abcdef", failing, allowance)?;
+    let mut kept = Octets::new(alloc);
+    let first = read_some(&mut source, sizes[0], &mut kept)?;
+    let second = read_some(&mut source, sizes[1], &mut kept)?;
+    let third = read_some(&mut source, sizes[2], &mut kept)?;
+    let fourth = read_some(&mut source, sizes[3], &mut kept)?;
+    Ok(([first, second, third, fourth], kept))
+}
+
 #[test]
 fn memory_source_gives_and_fails(rt: HostRuntime) -> Result<(), Fail> {
     let all: &[u8] = b"abcdef";
@@ -70,20 +86,25 @@ fn memory_source_gives_and_fails(rt: HostRuntime) -> Result<(), Fail> {
         (NO_CALL, 1, [4, 4, 4, 4], [Some(1), None, None, None], first),
         (NO_CALL, 6, [4, 4, 4, 4], [four, two, None, None], all),
     ] {
-        let mut source = source(rt.alloc(), b"abcdef", failing, allowance)?;
-        let mut kept = Octets::new(rt.alloc());
-        for (size, want) in sizes.iter().zip(wanted.iter()) {
-            let got = read_some(&mut source, *size, &mut kept)?;
-            assert_eq!(rt; got, *want, "{failing} {allowance} {size}");
-        }
+        let (got, kept) = four_reads(rt.alloc(), failing, allowance, sizes)?;
+        assert_eq!(rt; got, wanted, "{failing} {allowance}");
         assert_eq!(rt; kept.as_slice(), text);
     }
     Ok(())
 }
 
+/// What three writes give, and the sink behind them.
+fn three_writes(
+    alloc: Global,
+    failing: u64,
+) -> Result<([Result<usize, Failed>; 3], MemorySink), NoMemory> {
+    let mut sink = MemorySink::new(alloc, List::of(alloc, &[failing])?);
+    let wrote = [sink.write(b"ab"), sink.write(b""), sink.write(b"cd")];
+    Ok((wrote, sink))
+}
+
 #[test]
 fn memory_sink_takes_and_fails(rt: HostRuntime) -> Result<(), Fail> {
-    let pieces: [&[u8]; 3] = [b"ab", b"", b"cd"];
     let all: &[u8] = b"abcd";
     let front: &[u8] = b"ab";
     let back: &[u8] = b"cd";
@@ -93,13 +114,27 @@ fn memory_sink_takes_and_fails(rt: HostRuntime) -> Result<(), Fail> {
         (1, [Ok(2), Err(Failed), Ok(2)], all),
         (2, [Ok(2), Ok(0), Err(Failed)], front),
     ] {
-        let mut sink = MemorySink::new(rt.alloc(), List::of(rt.alloc(), &[failing])?);
-        for (piece, want) in pieces.iter().zip(wanted.iter()) {
-            assert_eq!(rt; sink.write(piece), *want, "{failing}");
-        }
+        let (wrote, sink) = three_writes(rt.alloc(), failing)?;
+        assert_eq!(rt; wrote, wanted, "{failing}");
         assert_eq!(rt; sink.written(), text);
     }
     Ok(())
+}
+
+/// What a read, a write, a read and a write give, and the link behind them.
+fn four_turns(
+    alloc: Global,
+    failing: u64,
+) -> Result<([Result<usize, Failed>; 4], MemoryLink), NoMemory> {
+    let mut link = link(alloc, b"abcdef", failing)?;
+    let mut place = [0u8; 4];
+    let turns = [
+        link.read(&mut place),
+        link.write(b"xy"),
+        link.read(&mut place),
+        link.write(b"z"),
+    ];
+    Ok((turns, link))
 }
 
 #[test]
@@ -112,12 +147,8 @@ fn memory_link_numbers_reads_and_writes_together(rt: HostRuntime) -> Result<(), 
         (1, [Ok(4), Err(Failed), Ok(2), Ok(1)], second),
         (2, [Ok(4), Ok(2), Err(Failed), Ok(1)], both),
     ] {
-        let mut link = link(rt.alloc(), b"abcdef", failing)?;
-        let mut place = [0u8; 4];
-        assert_eq!(rt; link.read(&mut place), wanted[0], "{failing}");
-        assert_eq!(rt; link.write(b"xy"), wanted[1], "{failing}");
-        assert_eq!(rt; link.read(&mut place), wanted[2], "{failing}");
-        assert_eq!(rt; link.write(b"z"), wanted[3], "{failing}");
+        let (turns, link) = four_turns(rt.alloc(), failing)?;
+        assert_eq!(rt; turns, wanted, "{failing}");
         assert_eq!(rt; link.written(), written);
     }
     let mut link = link(rt.alloc(), b"", NO_CALL)?;

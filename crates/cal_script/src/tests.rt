@@ -18,6 +18,16 @@ const NO_REQUESTS: &str = "bytes 0 1741600000 1\nx\nbytes 0 1741600000 1\nx\n";
 const TURNED_AWAY: &str =
     "reply 0 107\nHTTP/1.1 501 Not Implemented\r\nDate: Mon, 10 Mar 2025 09:46:40 GMT\r\nConnection: close\r\nContent-Length: 0\r\n\r\n\n";
 
+/// A meeting from 9 to 10 o'clock is put, and asked for from 10 to 11, from 8 to 9 and from 9 to 10:
+/// frames of 335 octets and three times 458.
+const TOUCHED_AND_HIT: &[u8] =
+    b"bytes 0 1741600000 335\nPUT /calendars/alice/calendar/one.ics HTTP/1.1\r\nHost: h\r\nAuthorization: Basic YWxpY2U6YWJj\r\nContent-Type: text/calendar\r\nContent-Length: 191\r\n\r\nBEGIN:VCALENDAR\r\nVERSION:2.0\r\nPRODID:-//a//EN\r\nBEGIN:VEVENT\r\nUID:one\r\nDTSTAMP:20250101T000000Z\r\nDTSTART:20250310T090000Z\r\nDTEND:20250310T100000Z\r\nSUMMARY:Stand-up\r\nEND:VEVENT\r\nEND:VCALENDAR\r\n\nbytes 0 1741600000 458\nREPORT /calendars/alice/calendar/ HTTP/1.1\r\nHost: h\r\nAuthorization: Basic YWxpY2U6YWJj\r\nContent-Type: application/xml\r\nContent-Length: 316\r\n\r\n<C:calendar-query xmlns:D=\"DAV:\" xmlns:C=\"urn:ietf:params:xml:ns:caldav\"><D:prop><D:getetag/><C:calendar-data/></D:prop><C:filter><C:comp-filter name=\"VCALENDAR\"><C:comp-filter name=\"VEVENT\"><C:time-range start=\"20250310T100000Z\" end=\"20250310T110000Z\"/></C:comp-filter></C:comp-filter></C:filter></C:calendar-query>\nbytes 0 1741600000 458\nREPORT /calendars/alice/calendar/ HTTP/1.1\r\nHost: h\r\nAuthorization: Basic YWxpY2U6YWJj\r\nContent-Type: application/xml\r\nContent-Length: 316\r\n\r\n<C:calendar-query xmlns:D=\"DAV:\" xmlns:C=\"urn:ietf:params:xml:ns:caldav\"><D:prop><D:getetag/><C:calendar-data/></D:prop><C:filter><C:comp-filter name=\"VCALENDAR\"><C:comp-filter name=\"VEVENT\"><C:time-range start=\"20250310T080000Z\" end=\"20250310T090000Z\"/></C:comp-filter></C:comp-filter></C:filter></C:calendar-query>\nbytes 0 1741600000 458\nREPORT /calendars/alice/calendar/ HTTP/1.1\r\nHost: h\r\nAuthorization: Basic YWxpY2U6YWJj\r\nContent-Type: application/xml\r\nContent-Length: 316\r\n\r\n<C:calendar-query xmlns:D=\"DAV:\" xmlns:C=\"urn:ietf:params:xml:ns:caldav\"><D:prop><D:getetag/><C:calendar-data/></D:prop><C:filter><C:comp-filter name=\"VCALENDAR\"><C:comp-filter name=\"VEVENT\"><C:time-range start=\"20250310T090000Z\" end=\"20250310T100000Z\"/></C:comp-filter></C:comp-filter></C:filter></C:calendar-query>\n";
+
+/// Created; nothing twice, since a range that the meeting only touches misses it; and the meeting.
+/// The replies have 154, 243, 243 and 770 octets.
+const MISSED_AND_SHOWN: &[u8] =
+    b"reply 0 154\nHTTP/1.1 201 Created\r\nDate: Mon, 10 Mar 2025 09:46:40 GMT\r\nETag: \"e2b908a58297f6090922388fbe2f52e0c09d7f6986555b4ac3424e3347f2b4e5\"\r\nContent-Length: 0\r\n\r\n\nreply 0 243\nHTTP/1.1 207 Multi-Status\r\nDate: Mon, 10 Mar 2025 09:46:40 GMT\r\nContent-Type: application/xml; charset=utf-8\r\nContent-Length: 110\r\n\r\n<?xml version=\"1.0\" encoding=\"utf-8\"?>\n<D:multistatus xmlns:D=\"DAV:\" xmlns:C=\"urn:ietf:params:xml:ns:caldav\"/>\nreply 0 243\nHTTP/1.1 207 Multi-Status\r\nDate: Mon, 10 Mar 2025 09:46:40 GMT\r\nContent-Type: application/xml; charset=utf-8\r\nContent-Length: 110\r\n\r\n<?xml version=\"1.0\" encoding=\"utf-8\"?>\n<D:multistatus xmlns:D=\"DAV:\" xmlns:C=\"urn:ietf:params:xml:ns:caldav\"/>\nreply 0 770\nHTTP/1.1 207 Multi-Status\r\nDate: Mon, 10 Mar 2025 09:46:40 GMT\r\nContent-Type: application/xml; charset=utf-8\r\nContent-Length: 637\r\n\r\n<?xml version=\"1.0\" encoding=\"utf-8\"?>\n<D:multistatus xmlns:D=\"DAV:\" xmlns:C=\"urn:ietf:params:xml:ns:caldav\"><D:response><D:href>/calendars/alice/calendar/one.ics</D:href><D:propstat><D:prop><D:getetag>\"e2b908a58297f6090922388fbe2f52e0c09d7f6986555b4ac3424e3347f2b4e5\"</D:getetag><C:calendar-data>BEGIN:VCALENDAR&#13;\nVERSION:2.0&#13;\nPRODID:-//a//EN&#13;\nBEGIN:VEVENT&#13;\nUID:one&#13;\nDTSTAMP:20250101T000000Z&#13;\nDTSTART:20250310T090000Z&#13;\nDTEND:20250310T100000Z&#13;\nSUMMARY:Stand-up&#13;\nEND:VEVENT&#13;\nEND:VCALENDAR&#13;\n</C:calendar-data></D:prop><D:status>HTTP/1.1 200 OK</D:status></D:propstat></D:response></D:multistatus>\n";
+
 /// Which calls of a run fail, by their numbers from 0.
 #[derive(Clone, Copy)]
 struct Failing {
@@ -148,5 +158,21 @@ fn a_users_file_has_a_limit(rt: HostRuntime) -> Result<(), Fail> {
             place: 0
         }
     );
+    Ok(())
+}
+
+#[test]
+fn a_range_that_an_event_touches_misses_it(rt: HostRuntime) -> Result<(), Fail> {
+    let words: &[&str] = &["script", "--users", "users"];
+    let (end, sink) = run(
+        rt.alloc(),
+        words,
+        USERS.as_bytes(),
+        TOUCHED_AND_HIT,
+        NONE_FAILING,
+    )?;
+    let place = TOUCHED_AND_HIT.len() as u64;
+    assert_eq!(rt; end, ScriptEnd { status: 0, place });
+    assert_eq!(rt; sink.written(), MISSED_AND_SHOWN);
     Ok(())
 }
