@@ -6,6 +6,11 @@ pub mod LineLemmas
 pub mod QueryLemmas
 pub mod RequestLemmas
 pub mod UtcLemmas
+pub mod Counted
+pub mod Onsets
+pub mod Instants
+pub mod Periods
+pub mod Rising
 mod Samples
 mod TextExamples
 mod ReplyExamples
