@@ -1,5 +1,5 @@
 -- `instant_of` meets the standard's own words.
-use Rattle.std.proofs.Common.{◌≡◌, ℕ, zero, suc, ◌-◌, ◌<◌, ◌≤◌, List, [], ◌∷◌, length, get_or, map, refl, ap, ◌∙◌, arith, Bool, true, false, nat_lt, ℤ, pos, negsuc, ◌+ℤ◌, ◌-ℤ◌, ◌<ℤ◌, ◌≤ℤ◌, inl, inr, ◌⊎◌}
+use Rattle.std.proofs.Common.{◌≡◌, ℕ, zero, suc, ◌-◌, ◌<◌, ◌≤◌, List, [], ◌∷◌, length, get_or, map, refl, sym, ap, ◌∙◌, arith, Bool, true, false, nat_lt, ℤ, pos, negsuc, ◌+ℤ◌, ◌-ℤ◌, ◌<ℤ◌, ◌≤ℤ◌, inl, inr, ◌⊎◌}
 use Rattle.std.specs.Prelude.{int_le, int_lt, filter}
 use Rattle.std.proofs.lemmas.Int.{ints, by_lt_z}
 use Rattle.std.proofs.lemmas.Bool.{cases_Bool, ltb-true, ltb-false}
@@ -8,18 +8,18 @@ use Rattle.cal_model.specs.declared.zone.ZoneTable.{ZoneTable}
 use Rattle.cal_model.specs.Numbers.{same_int, least_of}
 use Rattle.cal_model.specs.TableBounds.{IsRising}
 use Rattle.cal_model.proofs.Onsets.{offset_among_none}
-use Rattle.cal_model.specs.Zones.{offset_among, offset_at, local_at, offsets, instants_of, instant_of, onsets_past, after_gap, least_or_after_gap, IsFirstPast, IsSkipped, IsInstantOf}
+use Rattle.cal_model.specs.Zones.{offset_among, offset_at, local_at, offsets, instants_of, instant_of, onsets_past, after_gap, least_or_after_gap, IsLeastInstant, IsFirstPast, IsSkipped, IsInstantOf}
 
 -- x is in a list
 pub data In (x : ℤ) : List ℤ → Type 0 where
   here : {xs : List ℤ} → In x (x ∷ xs)
   there : {y : ℤ} {xs : List ℤ} → In x xs → In x (y ∷ xs)
 
-same_int-self : (z : ℤ) → same_int z z ≡ true
+pub same_int-self : (z : ℤ) → same_int z z ≡ true
 same_int-self (pos n) = grind arith
 same_int-self (negsuc n) = grind arith
 
-same_int-true : (a b : ℤ) → same_int a b ≡ true → a ≡ b
+pub same_int-true : (a b : ℤ) → same_int a b ≡ true → a ≡ b
 same_int-true (pos a) (pos b) h = ap pos (grind (arith, h))
 same_int-true (pos a) (negsuc b) h = absurd (cc)
 same_int-true (negsuc a) (pos b) h = absurd (cc)
@@ -304,3 +304,32 @@ least_or_gap table l h [] e past p =
 pub instant_of-is : (table : ZoneTable) (l : ℤ) → IsRising table.onsets → IsInstantOf table l (instant_of table l)
 unfolding instant_of
 instant_of-is table l h = least_or_gap table l h (instants_of table l) refl (onsets_past table l) refl
+
+-- A local time has one instant.
+
+least_instant-same : (table : ZoneTable) (l u v : ℤ) → IsLeastInstant table l u → IsLeastInstant table l v → u ≡ v
+least_instant-same table l u v a b =
+    by_lt_z u v
+    (λ lt. absurd (b.1 u lt a.0))
+    (λ ge. by_lt_z v u (λ lt. absurd (a.1 v lt b.0)) (λ le. omega (arith, ints, ge, le)))
+
+first_past-same : (table : ZoneTable) (l s t : ℤ) → IsFirstPast table l s → IsFirstPast table l t → s ≡ t
+first_past-same table l s t a b =
+    by_lt_z s t
+    (λ lt. let le = b.1 s lt in let past = a.0 in absurd (omega (arith, ints, le, past)))
+    (λ ge. by_lt_z t s
+    (λ lt. let le = a.1 t lt in let past = b.0 in absurd (omega (arith, ints, le, past)))
+    (λ le. omega (arith, ints, ge, le)))
+
+pub IsInstantOf-same : (table : ZoneTable) (l u v : ℤ) → IsInstantOf table l u → IsInstantOf table l v → u ≡ v
+IsInstantOf-same table l u v (inl a) (inl b) = least_instant-same table l u v a b
+IsInstantOf-same table l u v (inl a) (inr b) = absurd (b.0 u a.0)
+IsInstantOf-same table l u v (inr a) (inl b) = absurd (a.0 v b.0)
+IsInstantOf-same table l u v (inr a) (inr b) =
+    let first = first_past-same table l a.1.0 b.1.0 a.1.1 b.1.1 in
+    let mine = a.1.2 in let theirs = b.1.2 in
+    mine ∙ rw first (sym theirs)
+
+-- so what is the instant of a local time is what the function gives
+pub IsInstantOf-instant_of : (table : ZoneTable) (l u : ℤ) → IsRising table.onsets → IsInstantOf table l u → u ≡ instant_of table l
+IsInstantOf-instant_of table l u rising h = IsInstantOf-same table l u (instant_of table l) h (instant_of-is table l rising)

@@ -7,10 +7,13 @@ pub mod QueryLemmas
 pub mod RequestLemmas
 pub mod UtcLemmas
 pub mod Counted
+pub mod Days
 pub mod Onsets
 pub mod Instants
 pub mod Periods
+pub mod PassingMoments
 pub mod Rising
+pub mod ZoneTableLaws
 mod Samples
 mod TextExamples
 mod ReplyExamples

@@ -17,6 +17,7 @@ pub mod report;
 pub mod request;
 pub mod row;
 pub mod rule;
+pub mod rules;
 pub mod selection;
 pub mod store;
 #[cfg(test)]
@@ -35,6 +36,7 @@ pub use report::ReportRequest;
 pub use request::{Content, Event, Method, Request, Tags};
 pub use row::{Fixed, Range, Row, RowKind};
 pub use rule::{DayPart, Freq, Rule, Until};
+pub use rules::Rules;
 pub use selection::{CompPick, PropPick, Recur, Selection};
 pub use store::CalendarData;
 pub use zone::{Onset, ZonePart, ZoneTable};
