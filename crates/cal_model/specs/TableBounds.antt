@@ -1,4 +1,4 @@
--- What a table of a zone keeps.
+-- What a table of a zone keeps, and how far from 1970 its conversions reach.
 use Rattle.std.specs.Prelude.{ℕ, ◌<◌, List, get_or, length, ℤ, pos, neg_ℤ, ◌≤ℤ◌, ◌<ℤ◌}
 use Rattle.cal_model.specs.declared.zone.Onset.{Onset}
 
