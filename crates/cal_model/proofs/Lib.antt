@@ -25,6 +25,7 @@ mod PassingExamples
 mod ZoneExamples
 mod RecurrenceSetExamples
 mod ZoneOnsetExamples
+mod StandardRecurrences
 mod RowExamples
 mod MovedRowExamples
 mod OverlapExamples
