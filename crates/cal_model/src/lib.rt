@@ -23,6 +23,7 @@ pub mod store;
 #[cfg(test)]
 mod tests;
 pub mod zone;
+mod zone_time;
 
 pub use filter::{
     Collation, CompFilter, Filter, ParamFilter, ParamTest, PropFilter, PropTest, TextMatch,
@@ -40,3 +41,4 @@ pub use rules::Rules;
 pub use selection::{CompPick, PropPick, Recur, Selection};
 pub use store::CalendarData;
 pub use zone::{Onset, ZonePart, ZoneTable};
+pub use zone_time::{exists, offset_at};
