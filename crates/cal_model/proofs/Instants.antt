@@ -6,6 +6,7 @@ use Rattle.std.proofs.lemmas.Bool.{cases_Bool, ltb-true, ltb-false}
 use Rattle.cal_model.specs.declared.zone.Onset.{Onset}
 use Rattle.cal_model.specs.declared.zone.ZoneTable.{ZoneTable}
 use Rattle.cal_model.specs.Numbers.{same_int, least_of}
+use Rattle.cal_model.specs.Stretches.{no_onset}
 use Rattle.cal_model.specs.TableBounds.{IsRising}
 use Rattle.cal_model.proofs.Onsets.{offset_among_none}
 use Rattle.cal_model.specs.Zones.{offset_among, offset_at, local_at, offsets, instants_of, instant_of, onsets_past, after_gap, least_or_after_gap, IsLeastInstant, IsFirstPast, IsSkipped, IsInstantOf}
@@ -91,22 +92,19 @@ least_below z x (y ∷ ys) h = elim (cases_Bool (int_lt y z)) [
 
 -- The latest onset at or before an instant.
 
-none : Onset
-none = record { at = record { 0 = pos 0 }; offset = pos 0 }
+abbrev pub nth : List Onset → ℕ → Onset
+nth xs k = get_or xs k no_onset
 
-abbrev nth : List Onset → ℕ → Onset
-nth xs k = get_or xs k none
+pub record Latest (before u : ℤ) (xs : List Onset) : Type 0 where
+  pub place : ℕ
+  pub below : place < length xs
+  pub at_or_before : (nth xs place).at.0 ≤ℤ u
+  pub offset : offset_among before xs u ≡ (nth xs place).offset
+  pub latest : (j : ℕ) → j < length xs → (nth xs j).at.0 ≤ℤ u → (nth xs j).at.0 ≤ℤ (nth xs place).at.0
 
-record Latest (before u : ℤ) (xs : List Onset) : Type 0 where
-  place : ℕ
-  below : place < length xs
-  at_or_before : (nth xs place).at.0 ≤ℤ u
-  offset : offset_among before xs u ≡ (nth xs place).offset
-  latest : (j : ℕ) → j < length xs → (nth xs j).at.0 ≤ℤ u → (nth xs j).at.0 ≤ℤ (nth xs place).at.0
-
-record Earlier (before u : ℤ) (xs : List Onset) : Type 0 where
-  all_after : (j : ℕ) → j < length xs → u <ℤ (nth xs j).at.0
-  offset : offset_among before xs u ≡ before
+pub record Earlier (before u : ℤ) (xs : List Onset) : Type 0 where
+  pub all_after : (j : ℕ) → j < length xs → u <ℤ (nth xs j).at.0
+  pub offset : offset_among before xs u ≡ before
 
 tail_rising : (x : Onset) (xs : List Onset) → IsRising (x ∷ xs) → IsRising xs
 tail_rising x xs h = record { each = λ i j d a b. h.each (suc i) (suc j) d (omega arith) (omega arith) }
@@ -125,7 +123,7 @@ first_or_later before u x xs h w (inl r) = record {
 }
   where
     at_most : (j : ℕ) → j < length (x ∷ xs) → (nth (x ∷ xs) j).at.0 ≤ℤ u → (nth (x ∷ xs) j).at.0 ≤ℤ (nth xs r.place).at.0
-    at_most zero lt le = let b = r.below in let up = h.each 0 (suc r.place) none (omega arith) (omega (arith, b)) in omega (arith, ints, up)
+    at_most zero lt le = let b = r.below in let up = h.each 0 (suc r.place) no_onset (omega arith) (omega (arith, b)) in omega (arith, ints, up)
     at_most (suc j) lt le = r.latest j (omega arith) le
 first_or_later before u x xs h w (inr e) = record {
   place = 0;
@@ -139,26 +137,26 @@ first_or_later before u x xs h w (inr e) = record {
     at_most zero lt le = omega (arith, ints)
     at_most (suc j) lt le = let up = e.all_after j (omega arith) in absurd (omega (arith, ints, up, le))
 
-latest_onset : (before u : ℤ) (xs : List Onset) → IsRising xs → Latest before u xs ⊎ Earlier before u xs
+pub latest_onset : (before u : ℤ) (xs : List Onset) → IsRising xs → Latest before u xs ⊎ Earlier before u xs
 latest_onset before u [] h = inr (record { all_after = λ j lt. absurd (omega arith); offset = refl })
 latest_onset before u (x ∷ xs) h = elim (cases_Bool (int_le x.at.0 u)) [
   | inl w ↦ inl (first_or_later before u x xs h w (latest_onset x.offset u xs (tail_rising x xs h)))
   | inr w ↦ (let lt : u <ℤ x.at.0 = grind (arith, ints, w) in inr (record {
-    all_after = λ j b. after_first x xs u h lt j none b;
+    all_after = λ j b. after_first x xs u h lt j no_onset b;
     offset = offset_among_none before u (x ∷ xs) (λ k d low high. let up = after_first x xs u h lt k d high in grind (arith, ints, up));
   }))
 ]
 
 -- The first onset that leads past a local time.
 
-record FirstPast (l : ℤ) (xs : List Onset) (o : Onset) : Type 0 where
-  place : ℕ
-  below : place < length xs
-  same : nth xs place ≡ o
-  past : int_lt l (o.at.0 +ℤ o.offset) ≡ true
-  earlier : (j : ℕ) → j < place → int_lt l ((nth xs j).at.0 +ℤ (nth xs j).offset) ≡ false
+pub record FirstPast (l : ℤ) (xs : List Onset) (o : Onset) : Type 0 where
+  pub place : ℕ
+  pub below : place < length xs
+  pub same : nth xs place ≡ o
+  pub past : int_lt l (o.at.0 +ℤ o.offset) ≡ true
+  pub earlier : (j : ℕ) → j < place → int_lt l ((nth xs j).at.0 +ℤ (nth xs j).offset) ≡ false
 
-abbrev is_past : ℤ → Onset → Bool
+abbrev pub is_past : ℤ → Onset → Bool
 is_past l o = int_lt l (o.at.0 +ℤ o.offset)
 
 first_past : (l : ℤ) (xs : List Onset) (o : Onset) (later : List Onset) → filter (is_past l) xs ≡ o ∷ later → FirstPast l xs o
@@ -185,15 +183,15 @@ none_past l (x ∷ xs) h j lt = elim (cases_Bool (is_past l x)) [
 
 same_place : (xs : List Onset) → IsRising xs → (i k : ℕ) → i < length xs → k < length xs → (nth xs i).at.0 ≤ℤ (nth xs k).at.0 → (nth xs k).at.0 ≤ℤ (nth xs i).at.0 → i ≡ k
 same_place xs h i k a b p q = elim (cases_Bool (nat_lt i k)) [
-  | inl w ↦ (let up = h.each i k none (ltb-true _ _ w) b in absurd (omega (arith, ints, up, p, q)))
+  | inl w ↦ (let up = h.each i k no_onset (ltb-true _ _ w) b in absurd (omega (arith, ints, up, p, q)))
   | inr w ↦ (let ge = ltb-false _ _ w in elim (cases_Bool (nat_lt k i)) [
-    | inl v ↦ (let up = h.each k i none (ltb-true _ _ v) a in absurd (omega (arith, ints, up, p, q)))
+    | inl v ↦ (let up = h.each k i no_onset (ltb-true _ _ v) a in absurd (omega (arith, ints, up, p, q)))
     | inr v ↦ (let le = ltb-false _ _ v in omega (arith, ge, le))
   ])
 ]
 
 -- from an onset on, while none follows, its offset holds
-offset_from : (before u : ℤ) (xs : List Onset) → IsRising xs → (k : ℕ) → k < length xs → (nth xs k).at.0 ≤ℤ u → ((j : ℕ) → j < length xs → (nth xs j).at.0 ≤ℤ u → (nth xs j).at.0 ≤ℤ (nth xs k).at.0) →
+pub offset_from : (before u : ℤ) (xs : List Onset) → IsRising xs → (k : ℕ) → k < length xs → (nth xs k).at.0 ≤ℤ u → ((j : ℕ) → j < length xs → (nth xs j).at.0 ≤ℤ u → (nth xs j).at.0 ≤ℤ (nth xs k).at.0) →
     offset_among before xs u ≡ (nth xs k).offset
 offset_from before u xs h k b le top = elim (latest_onset before u xs h) [
   | inl r ↦ (let same = same_place xs h r.place k r.below b (top r.place r.below r.at_or_before) (r.latest k b le) in r.offset ∙ rw same refl)
@@ -201,7 +199,7 @@ offset_from before u xs h k b le top = elim (latest_onset before u xs h) [
 ]
 
 -- where a local time is skipped, whatever is past it lies at or after an onset that leads past it
-past_onset : (table : ZoneTable) (l v : ℤ) → IsRising table.onsets → IsSkipped table l → l <ℤ local_at table v →
+pub past_onset : (table : ZoneTable) (l v : ℤ) → IsRising table.onsets → IsSkipped table l → l <ℤ local_at table v →
     (k : ℕ) × (k < length table.onsets) × ((nth table.onsets k).at.0 ≤ℤ v) × (l <ℤ ((nth table.onsets k).at.0 +ℤ (nth table.onsets k).offset))
 unfolding offset_at
 past_onset table l v h skip past = elim (latest_onset table.before v table.onsets h) [
@@ -225,7 +223,7 @@ past_onset table l v h skip past = elim (latest_onset table.before v table.onset
 ]
 
 -- some onset leads past a local time that is skipped
-some_past : (table : ZoneTable) (l : ℤ) → IsRising table.onsets → IsSkipped table l → filter (is_past l) table.onsets ≡ [] → ⊥
+pub some_past : (table : ZoneTable) (l : ℤ) → IsRising table.onsets → IsSkipped table l → filter (is_past l) table.onsets ≡ [] → ⊥
 unfolding offset_at
 some_past table l h skip e = elim (cases_Bool (nat_lt 0 (length table.onsets))) [
   | inl w ↦
@@ -248,28 +246,27 @@ some_past table l h skip e = elim (cases_Bool (nat_lt 0 (length table.onsets))) 
   where
     last_is : (j : ℕ) → j < length table.onsets → 0 < length table.onsets → (nth table.onsets j).at.0 ≤ℤ (nth table.onsets (length table.onsets - 1)).at.0
     last_is j b some = elim (cases_Bool (nat_lt j (length table.onsets - 1))) [
-      | inl w ↦ (let up = h.each j (length table.onsets - 1) none (ltb-true _ _ w) (omega (arith, some)) in omega (arith, ints, up))
+      | inl w ↦ (let up = h.each j (length table.onsets - 1) no_onset (ltb-true _ _ w) (omega (arith, some)) in omega (arith, ints, up))
       | inr w ↦ (let ge = ltb-false _ _ w in let same : j ≡ length table.onsets - 1 = omega (arith, ge, b) in rw same (omega (arith, ints)))
     ]
 
-later_onset : (xs : List Onset) → IsRising xs → (i k : ℕ) → i ≤ k → k < length xs → (nth xs i).at.0 ≤ℤ (nth xs k).at.0
+pub later_onset : (xs : List Onset) → IsRising xs → (i k : ℕ) → i ≤ k → k < length xs → (nth xs i).at.0 ≤ℤ (nth xs k).at.0
 later_onset xs h i k le b = elim (cases_Bool (nat_lt i k)) [
-  | inl w ↦ (let up = h.each i k none (ltb-true i k w) b in omega (arith, ints, up))
+  | inl w ↦ (let up = h.each i k no_onset (ltb-true i k w) b in omega (arith, ints, up))
   | inr w ↦ (let ge = ltb-false i k w in let same : i ≡ k = omega (arith, ge, le) in rw same (omega (arith, ints)))
 ]
 
 -- an onset that leads past stands no earlier than the first that does
-no_earlier : (l : ℤ) (xs : List Onset) (o : Onset) → IsRising xs → FirstPast l xs o → (k : ℕ) → k < length xs → l <ℤ ((nth xs k).at.0 +ℤ (nth xs k).offset) → o.at.0 ≤ℤ (nth xs k).at.0
+pub no_earlier : (l : ℤ) (xs : List Onset) (o : Onset) → IsRising xs → FirstPast l xs o → (k : ℕ) → k < length xs → l <ℤ ((nth xs k).at.0 +ℤ (nth xs k).offset) → o.at.0 ≤ℤ (nth xs k).at.0
 no_earlier l xs o h r k b past = elim (cases_Bool (nat_lt k r.place)) [
   | inl w ↦ (let fails = r.earlier k (ltb-true k r.place w) in absurd (grind (arith, ints, fails, past)))
   | inr w ↦ (let ge = ltb-false k r.place w in let s = r.same in rw s at (later_onset xs h r.place k ge b))
 ]
 
 -- the first onset that leads past a skipped local time is the first moment past it
-first_moment_past : (table : ZoneTable) (l : ℤ) (o : Onset) (later : List Onset) → IsRising table.onsets → IsSkipped table l → filter (is_past l) table.onsets ≡ o ∷ later → IsFirstPast table l o.at.0
+pub first_moment_past : (table : ZoneTable) (l : ℤ) (o : Onset) → IsRising table.onsets → IsSkipped table l → FirstPast l table.onsets o → IsFirstPast table l o.at.0
 unfolding offset_at
-first_moment_past table l o later h skip e =
-    let r = first_past l table.onsets o later e in
+first_moment_past table l o h skip r =
     let s = r.same in
     let here : (nth table.onsets r.place).at.0 ≤ℤ o.at.0 = rw s (omega (arith, ints)) in
     let off = offset_from table.before o.at.0 table.onsets h r.place r.below here (λ j b le. rw s le) in
@@ -298,7 +295,7 @@ least_or_gap table l h [] e past p =
   where
     after : (table : ZoneTable) (l : ℤ) → IsRising table.onsets → IsSkipped table l → (past : List Onset) → onsets_past table l ≡ past → IsInstantOf table l (after_gap table l (onsets_past table l))
     after table l h skip [] p = absurd (some_past table l h skip p)
-    after table l h skip (o ∷ later) p = inr (skip, rw p (o.at.0, first_moment_past table l o later h skip p, refl))
+    after table l h skip (o ∷ later) p = inr (skip, rw p (o.at.0, first_moment_past table l o h skip (first_past l table.onsets o later p), refl))
 
 -- the instant of a local time is what the standard says
 pub instant_of-is : (table : ZoneTable) (l : ℤ) → IsRising table.onsets → IsInstantOf table l (instant_of table l)

@@ -10,6 +10,7 @@ pub mod Counted
 pub mod Days
 pub mod Onsets
 pub mod Instants
+pub mod StretchLemmas
 pub mod Periods
 pub mod PassingMoments
 pub mod Rising

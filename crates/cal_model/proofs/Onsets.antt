@@ -44,14 +44,3 @@ pub offset_among_at : (before u : ℤ) (xs : List Onset) (n : ℕ) (d : Onset) �
 offset_among_at before u xs n d pos le h k =
     let same : n - 1 + 1 ≡ n = omega arith in
     offset_among_last before u xs (n - 1) d (omega arith) (rw same h) (rw same k)
-
--- some candidate passes just where the filter keeps one
-pub some_kept : (p : ℤ → Bool) (f : ℤ → ℤ) (xs : List Onset) (z : ℤ) →
-    not (length (filter p (map f (z ∷ map (λ (o : Onset). o.offset) xs))) == 0) ≡ (p (f z) || list_any (λ (o : Onset). p (f o.offset)) xs)
-some_kept p f [] z = elim (cases_Bool (p (f z))) [ inl w ↦ rw w refl | inr w ↦ rw w refl ]
-some_kept p f (x ∷ xs) z = elim (cases_Bool (p (f z))) [ inl w ↦ rw w (grind arith) | inr w ↦ rw w (some_kept p f xs x.offset) ]
-
-pub exists_is : (table : ZoneTable) (l : ℤ) →
-    exists_in table l ≡ (same_int (local_at table (l -ℤ table.before)) l || list_any (λ (o : Onset). same_int (local_at table (l -ℤ o.offset)) l) table.onsets)
-unfolding exists_in
-exists_is table l = some_kept (λ u. same_int (local_at table u) l) (λ o. l -ℤ o) table.onsets table.before

@@ -41,4 +41,4 @@ pub use rules::Rules;
 pub use selection::{CompPick, PropPick, Recur, Selection};
 pub use store::CalendarData;
 pub use zone::{Onset, ZonePart, ZoneTable};
-pub use zone_time::{exists, offset_at};
+pub use zone_time::{exists, offset_at, to_utc};

@@ -1,10 +1,12 @@
-//! Zone conversion.
-ghost use Rattle.std.specs.Prelude.{◌||◌, ℤ, pos, ◌+ℤ◌, ◌-ℤ◌, ◌*ℤ◌, ◌≡◌, ℕ, ◌<◌, ◌≤◌, length, true, false, int_le, slice_index_or};
-ghost use Rattle.std.specs.List.{AllWithin, list_any};
+//! Zone conversion (RFC 5545, 3.3.5 and 3.6.5).
+
+ghost use Rattle.std.specs.Prelude.{ℕ, ◌-ℤ◌, ◌≡◌, ◌<◌, ◌≤◌, length, true, false, int_le, slice_index_or, IfSome, IfNone};
+ghost use Rattle.std.specs.List.{AllWithin};
 ghost use Rattle.cal_model.specs.declared.zone.Onset.{Onset};
-ghost use Rattle.cal_model.specs.Zones as spec;
+ghost use Rattle.cal_model.specs.Numbers.{local_seconds};
+ghost use Rattle.cal_model.specs.Stretches as stretches;
 ghost use Rattle.cal_model.specs.TableBounds.{IsRising, IsDigits};
-ghost use Rattle.cal_model.specs.Numbers.{same_int};
+ghost use Rattle.cal_model.specs.Zones as spec;
 
 use crate::zone::{Onset, ZoneTable};
 use cal_moment::{Local, Utc};
@@ -20,6 +22,7 @@ fn onsets_until(onsets: &[Onset], at: i64) -> usize
     onsets.partition_point(|o| o.at.0 <= at)
 }
 
+/// The offset of an onset.
 fn offset_of(onsets: &[Onset], k: usize) -> i32
     requires { k < length onsets.now }
     ensures { (d : Onset) → result ≡ (slice_index_or onsets.now k d).offset }
@@ -43,61 +46,145 @@ pub fn offset_at(table: &ZoneTable, at: Utc) -> i32
 
 /// The digits of a local moment in seconds from 1970.
 fn seconds_of(local: Local) -> i64
-    ensures value { result ≡ local.day *ℤ pos 86400 +ℤ pos local.second }
+    ensures value { result ≡ local_seconds local }
     ensures near { IsDigits result }
 {
     local.day as i64 * 86_400 + local.second as i64
 }
 
-/// Whether an instant has this local time.
-fn has_local(table: &ZoneTable, at: i64, local: i64) -> bool
-    requires { IsRising table.now.onsets }
-    ensures { result ≡ same_int (spec.local_at table.now at) local }
+/// The offset that holds in a stretch.
+fn stretch_offset(table: &ZoneTable, k: usize) -> i32
+    requires { k ≤ length table.now.onsets }
+    ensures { result ≡ stretches.offset_of_stretch table.now k }
 {
-    match at.checked_add(offset_at(table, Utc(at)) as i64) {
-        Some(l) => l == local,
-        None => false,
+    if k == 0 {
+        return table.before;
     }
+    table.onsets.as_slice()[k - 1].offset
 }
 
-/// Whether the instant that an offset gives has this local time.
-fn has_offset(table: &ZoneTable, local: i64, offset: i32) -> bool
-    requires rising { IsRising table.now.onsets }
-    requires near { IsDigits local }
-    ensures { result ≡ same_int (spec.local_at table.now (local -ℤ offset)) local }
+/// Whether an instant lies in a stretch.
+fn is_in_stretch(onsets: &[Onset], k: usize, at: i64) -> bool
+    requires { k ≤ length onsets.now }
+    ensures { result ≡ stretches.is_in_stretch onsets.now k at }
 {
-    has_local(table, local - offset as i64, local)
+    (k == 0 || onsets[k - 1].at.0 <= at) && (k == onsets.len() || at < onsets[k].at.0)
 }
 
-fn some_has_local(table: &ZoneTable, local: i64, onsets: &[Onset]) -> bool
-    requires rising { IsRising table.now.onsets }
+/// The instant that the offset of a stretch makes of a local time.
+fn instant_by(table: &ZoneTable, local: i64, k: usize) -> i64
     requires near { IsDigits local }
-    ensures { result ≡ list_any (λ (o : Onset). same_int (spec.local_at table.now (local -ℤ o.offset)) local) onsets.now }
+    requires within { k ≤ length table.now.onsets }
+    ensures { result ≡ local -ℤ stretches.offset_of_stretch table.now k }
 {
-    for o in onsets {
-        if has_offset(table, local, o.offset) {
-            return true;
+    local - stretch_offset(table, k) as i64
+}
+
+/// Whether a stretch has a moment with this local time.
+#[tactic(auto, unfolding(crate::specs::Stretches::has_local))]
+fn has_local(table: &ZoneTable, local: i64, k: usize) -> bool
+    requires near { IsDigits local }
+    requires within { k ≤ length table.now.onsets }
+    ensures { result ≡ stretches.has_local table.now local k }
+{
+    is_in_stretch(table.onsets.as_slice(), k, instant_by(table, local, k))
+}
+
+/// The first stretch that has a moment with this local time.
+fn first_stretch(table: &ZoneTable, local: i64) -> Option<usize>
+    requires near { IsDigits local }
+    ensures within { IfSome result (λ k. k ≤ length table.now.onsets) }
+    ensures there { IfSome result (λ k. stretches.has_local table.now local k ≡ true) }
+    ensures first { IfSome result (λ k. (j : ℕ) → j < k → stretches.has_local table.now local j ≡ false) }
+    ensures none { IfNone result ((j : ℕ) → j ≤ length table.now.onsets → stretches.has_local table.now local j ≡ false) }
+{
+    let last = table.onsets.len();
+    for k in 0..last {
+        if has_local(table, local, k) {
+            return Some(k);
         }
     }
-    false
-}
-
-fn exists_at(table: &ZoneTable, local: i64) -> bool
-    requires rising { IsRising table.now.onsets }
-    requires near { IsDigits local }
-    ensures { result ≡ (same_int (spec.local_at table.now (local -ℤ table.now.before)) local || list_any (λ (o : Onset). same_int (spec.local_at table.now (local -ℤ o.offset)) local) table.now.onsets) }
-{
-    if has_offset(table, local, table.before) {
-        return true;
+    if has_local(table, local, last) {
+        Some(last)
+    } else {
+        None
     }
-    some_has_local(table, local, table.onsets.as_slice())
 }
 
 /// Whether some instant has this local time.
-#[tactic(auto, using(crate::proofs::Onsets::exists_is))]
+#[tactic(auto, using(crate::proofs::StretchLemmas::exists_in_stretch, crate::proofs::StretchLemmas::exists_in_none))]
+fn exists_at(table: &ZoneTable, local: i64) -> bool
+    requires rising { IsRising table.now.onsets }
+    requires near { IsDigits local }
+    ensures { result ≡ spec.exists_in table.now local }
+{
+    first_stretch(table, local).is_some()
+}
+
+/// Whether the local time from an onset on is past this one.
+fn leads_past(onset: &Onset, local: i64) -> bool
+    requires near { IsDigits local }
+    ensures { result ≡ stretches.leads_past local onset.now }
+{
+    let by_its_offset = local - onset.offset as i64;
+    by_its_offset < onset.at.0
+}
+
+/// The first onset from which on the local time is past this one.
+fn first_past(onsets: &[Onset], local: i64) -> Option<usize>
+    requires near { IsDigits local }
+    ensures within { IfSome result (λ k. k < length onsets.now) }
+    ensures there { IfSome result (λ k. stretches.leads_past local (slice_index_or onsets.now k stretches.no_onset) ≡ true) }
+    ensures first { IfSome result (λ k. AllWithin (λ (o : Onset). stretches.leads_past local o ≡ false) onsets.now 0 k) }
+    ensures none { IfNone result (AllWithin (λ (o : Onset). stretches.leads_past local o ≡ false) onsets.now 0 (length onsets.now)) }
+{
+    for k in 0..onsets.len() {
+        if leads_past(&onsets[k], local) {
+            return Some(k);
+        }
+    }
+    None
+}
+
+/// The instant of a local time that a gap skips: by the offset before the gap.
+fn after_gap(table: &ZoneTable, local: i64) -> i64
+    requires rising { IsRising table.now.onsets }
+    requires near { IsDigits local }
+    requires skipped { spec.IsSkipped table.now local }
+    ensures { spec.IsInstantOf table.now local result }
+{
+    match first_past(table.onsets.as_slice(), local) {
+        Some(gap) => instant_by(table, local, gap),
+        None => instant_by(table, local, 0),
+    }
+}
+
+/// The instant of a local time.
+fn instant_at(table: &ZoneTable, local: i64) -> i64
+    requires rising { IsRising table.now.onsets }
+    requires near { IsDigits local }
+    ensures { spec.IsInstantOf table.now local result }
+{
+    match first_stretch(table, local) {
+        Some(k) => instant_by(table, local, k),
+        None => after_gap(table, local),
+    }
+}
+
+/// Whether some instant has this local time.
 pub fn exists(table: &ZoneTable, local: Local) -> bool
     requires { IsRising table.now.onsets }
-    ensures { result ≡ spec.exists_in table.now (local.day *ℤ pos 86400 +ℤ pos local.second) }
+    ensures { result ≡ spec.exists_in table.now (local_seconds local) }
 {
     exists_at(table, seconds_of(local))
+}
+
+/// The instant of a local time: the least that has it, so the first of two; and of a time that a
+/// gap skips, the instant by the offset before the gap.
+pub fn to_utc(table: &ZoneTable, local: Local) -> Utc
+    requires { IsRising table.now.onsets }
+    ensures value { result.0 ≡ spec.instant_of table.now (local_seconds local) }
+    ensures meaning { spec.IsInstantOf table.now (local_seconds local) result.0 }
+{
+    Utc(instant_at(table, seconds_of(local)))
 }
