@@ -5,9 +5,9 @@ use Rattle.std.proofs.lemmas.Bool.{cases_Bool}
 use Rattle.std.proofs.lemmas.List.Elements.{filter-append}
 use Rattle.std.proofs.lemmas.List.Sums.{sum_by-append}
 use Rattle.cal_model.specs.declared.rule.Rule.{Rule}
-use Rattle.cal_model.specs.Numbers.{some_names_place}
+use Rattle.cal_model.specs.Numbers.{is_empty, some_names_place}
 use Rattle.cal_model.specs.Passing.{period_number}
-use Rattle.cal_model.specs.RecurrenceSet.{same_period, place_in_period, size_of_period}
+use Rattle.cal_model.specs.RecurrenceSet.{same_period, place_in_period, size_of_period, at_places}
 
 tail_all : {X : Type 0} (P : X → Type 0) (x : X) (xs : List X) → All P (x ∷ xs) → All P xs
 tail_all P x xs h = λ k d lt. h (suc k) d (omega arith)
@@ -110,3 +110,11 @@ module _ (rule : Rule) where
       let test : nat_le k m ≡ true = grind (arith, below) in
       let rest = place_within ks i d (omega arith) (λ j l e a b. up (suc j) (suc l) e (omega arith) (omega arith)) (tail_all (λ x. same_period rule m x ≡ true) k ks h) in
       count_one (λ x. if nat_le x m then same_period rule m x else false) k ks (rw (test, here) refl) ∙ omega (arith, rest)
+
+  -- so what BYSETPOS keeps of a list is what it keeps of each period
+  pub at_places-append : (xs ys : List ℕ) (n : ℕ) → All (λ m. number m ≤ n) xs → All (λ m. n < number m) ys → at_places rule (xs ++ ys) ≡ at_places rule xs ++ at_places rule ys
+  unfolding keeps
+  at_places-append xs ys n low high = elim (cases_Bool (is_empty rule.by_set_pos)) [
+    | inl none ↦ rw none refl
+    | inr some ↦ rw some (kept_apart xs ys n low high)
+  ]

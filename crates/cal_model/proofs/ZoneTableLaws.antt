@@ -1,14 +1,15 @@
--- The table of a zone has its onsets in rising order.
-use Rattle.std.proofs.Common.{◌≡◌, ℕ, zero, suc, ◌<◌, List, [], ◌∷◌, length, get_or, map, sym, arith, true, false, ℤ, ◌<ℤ◌, ◌≤ℤ◌, inl, inr}
-use Rattle.std.specs.Prelude.{int_lt, fold, flat_map}
+-- The table of a zone has its onsets in rising order, and says at each instant what the latest change of any part says.
+use Rattle.std.proofs.Common.{◌≡◌, ℕ, zero, suc, ◌<◌, List, [], ◌∷◌, length, get_or, map, refl, sym, ap, ◌∙◌, arith, true, false, ℤ, ◌<ℤ◌, ◌≤ℤ◌, inl, inr, ◌⊎◌}
+use Rattle.std.specs.Prelude.{int_le, int_lt, if◌then◌else◌, filter, fold, flat_map, Option, Some, None}
 use Rattle.std.proofs.lemmas.Int.{ints, by_lt_z}
 use Rattle.std.proofs.lemmas.Bool.{cases_Bool}
 use Rattle.cal_model.specs.declared.zone.Onset.{Onset}
 use Rattle.cal_model.specs.declared.zone.ZonePart.{ZonePart}
-use Rattle.cal_model.specs.Numbers.{same_int}
+use Rattle.cal_model.specs.Numbers.{same_int, last_or_else}
 use Rattle.cal_model.specs.TableBounds.{IsRising}
 use Rattle.cal_model.specs.ZoneOnsets.{Change, put_change, part_changes, changes, as_onset, table_over, table_of}
 use Rattle.cal_model.specs.RecurrenceSet.{every_moment}
+use Rattle.cal_model.specs.Zones.{offset_at}
 use Rattle.cal_model.proofs.Instants.{same_int-true, same_int-self}
 
 -- all changes of a list come after a moment
@@ -85,3 +86,108 @@ IsRising-table_over moments name parts = record {
 -- and so over all of them
 pub IsRising-table_of : (name : List ℕ) (parts : List ZonePart) → IsRising (table_of name parts).onsets
 IsRising-table_of name parts = IsRising-table_over every_moment name parts
+
+-- What a table says, without its order: of all changes the latest at or before an instant holds, and of several at one moment the last.
+
+-- a change after those that were seen
+abbrev pub later_change : ℤ → Option Change → Change → Option Change
+later_change u None c = if int_le c.at u then Some c else None
+later_change u (Some b) c = if int_le c.at u then (if int_lt c.at b.at then Some b else Some c) else Some b
+
+abbrev pub latest_change : ℤ → List Change → Option Change
+latest_change u all = fold (later_change u) None all
+
+-- the offset that it leads to, or the one before
+abbrev pub offset_to : ℤ → Option Change → ℤ
+offset_to before None = before
+offset_to before (Some c) = c.to
+
+-- the last of a list in order that is at or before an instant
+last_by : ℤ → Option Change → List Change → Option Change
+last_by u best [] = best
+last_by u best (x ∷ xs) = last_by u (if int_le x.at u then Some x else best) xs
+
+IsNoLater : Option Change → Change → Type 0
+IsNoLater None c = Unit {0}
+IsNoLater (Some b) c = b.at ≤ℤ c.at
+
+offset_among-last_by : (before u : ℤ) (best : Option Change) (cs : List Change) →
+    last_or_else (offset_to before best) (map (λ (o : Onset). o.offset) (filter (λ (o : Onset). int_le o.at.0 u) (map as_onset cs))) ≡ offset_to before (last_by u best cs)
+unfolding last_by
+offset_among-last_by before u best [] = refl
+offset_among-last_by before u best (x ∷ xs) = elim (cases_Bool (int_le x.at u)) [
+  | inl by ↦ rw by (offset_among-last_by before u (Some x) xs)
+  | inr after ↦ rw after (offset_among-last_by before u best xs)
+]
+
+later_change-after : (u : ℤ) (best : Option Change) (c : Change) → int_le c.at u ≡ false → later_change u best c ≡ best
+later_change-after u None c h = rw h refl
+later_change-after u (Some b) c h = rw h refl
+
+later_change-no_later : (u : ℤ) (best : Option Change) (c : Change) → int_le c.at u ≡ true → IsNoLater best c → later_change u best c ≡ Some c
+unfolding IsNoLater
+later_change-no_later u None c h k = rw h refl
+later_change-no_later u (Some b) c h k = let test : int_lt c.at b.at ≡ false = grind (arith, ints, k) in rw (h, test) refl
+
+-- an earlier change changes nothing
+later_change-earlier : (u : ℤ) (y c : Change) (ys : List Change) → c.at <ℤ y.at → AllAfter c.at ys → later_change u (last_by u (Some y) ys) c ≡ last_by u (Some y) ys
+unfolding last_by AllAfter
+later_change-earlier u y c [] lt h = elim (cases_Bool (int_le c.at u)) [
+  | inl by ↦ (let test : int_lt c.at y.at ≡ true = grind (arith, ints, lt) in rw (by, test) refl)
+  | inr after ↦ rw after refl
+]
+later_change-earlier u y c (z ∷ zs) lt h = elim (cases_Bool (int_le z.at u)) [
+  | inl by ↦ rw by (later_change-earlier u z c zs h.0 h.1)
+  | inr after ↦ rw after (later_change-earlier u y c zs lt h.1)
+]
+
+last_by-from : (u : ℤ) (best : Option Change) (c : Change) (ys : List Change) → int_le c.at u ≡ true → IsNoLater best c → AllAfter c.at ys → last_by u (Some c) ys ≡ later_change u (last_by u best ys) c
+unfolding last_by AllAfter
+last_by-from u best c [] by k h = sym (later_change-no_later u best c by k)
+last_by-from u best c (y ∷ ys) by k h = elim (cases_Bool (int_le y.at u)) [
+  | inl over ↦ rw over (sym (later_change-earlier u y c ys h.0 h.1))
+  | inr after ↦ rw after (last_by-from u best c ys by k h.1)
+]
+
+-- to put a change among those in order is to take it as the latest where it is
+last_by-put_change : (u : ℤ) (best : Option Change) (cs : List Change) (c : Change) → AreInOrder cs → IsNoLater best c → last_by u best (put_change cs c) ≡ later_change u (last_by u best cs) c
+unfolding last_by AllAfter AreInOrder IsNoLater
+last_by-put_change u best [] c h k = elim (cases_Bool (int_le c.at u)) [
+  | inl by ↦ rw by (sym (later_change-no_later u best c by k))
+  | inr after ↦ rw after (sym (later_change-after u best c after))
+]
+last_by-put_change u best (x ∷ xs) c h k = elim (cases_Bool (int_lt c.at x.at)) [
+  | inl before ↦ rw before (first before (cases_Bool (int_le c.at u)))
+  | inr from ↦ elim (cases_Bool (same_int c.at x.at)) [
+    | inl same ↦ rw (from, same) (one (same_int-true c.at x.at same) (cases_Bool (int_le c.at u)))
+    | inr other ↦ rw (from, other) (last_by-put_change u (if int_le x.at u then Some x else best) xs c h.1 (rest from (cases_Bool (int_le x.at u))))
+  ]
+]
+  where
+    first : int_lt c.at x.at ≡ true → (int_le c.at u ≡ true) ⊎ (int_le c.at u ≡ false) → last_by u best (c ∷ x ∷ xs) ≡ later_change u (last_by u best (x ∷ xs)) c
+    first before (inl by) = let lt : c.at <ℤ x.at = grind (arith, ints, before) in rw by (last_by-from u best c (x ∷ xs) by k (lt, AllAfter-earlier c.at x.at xs lt h.0))
+    first before (inr after) = rw after (sym (later_change-after u (last_by u best (x ∷ xs)) c after))
+    one : c.at ≡ x.at → (int_le c.at u ≡ true) ⊎ (int_le c.at u ≡ false) → last_by u best (c ∷ xs) ≡ later_change u (last_by u best (x ∷ xs)) c
+    one e (inl by) =
+        let there : int_le x.at u ≡ true = rw e at by in
+        let le : x.at ≤ℤ c.at = omega (arith, ints, e) in
+        rw (by, there) (last_by-from u (Some x) c xs by le (rw e h.0))
+    one e (inr after) =
+        let there : int_le x.at u ≡ false = rw e at after in
+        rw (after, there) (sym (later_change-after u (last_by u best xs) c after))
+    rest : int_lt c.at x.at ≡ false → (int_le x.at u ≡ true) ⊎ (int_le x.at u ≡ false) → IsNoLater (if int_le x.at u then Some x else best) c
+    rest from (inl by) = let le : x.at ≤ℤ c.at = grind (arith, ints, from) in rw by le
+    rest from (inr after) = rw after k
+
+last_by-fold : (u : ℤ) (cs more : List Change) → AreInOrder cs → last_by u None (fold put_change cs more) ≡ fold (later_change u) (last_by u None cs) more
+unfolding IsNoLater
+last_by-fold u cs [] h = refl
+last_by-fold u cs (c ∷ more) h = last_by-fold u (put_change cs c) more (AreInOrder-put_change cs c h) ∙ ap (λ best. fold (later_change u) best more) (last_by-put_change u None cs c h tt)
+
+-- the offset at an instant is that of the latest change at or before it
+pub offset_at-table_over : (moments name : List ℕ) (parts : List ZonePart) (u : ℤ) →
+    offset_at (table_over moments name parts) u ≡ offset_to (table_over moments name parts).before (latest_change u (flat_map (part_changes moments) parts))
+unfolding offset_at AreInOrder last_by
+offset_at-table_over moments name parts u =
+    offset_among-last_by (table_over moments name parts).before u None (changes moments parts)
+    ∙ ap (λ best. offset_to (table_over moments name parts).before best) (last_by-fold u [] (flat_map (part_changes moments) parts) tt)

@@ -1,5 +1,5 @@
 -- The table of a zone from its STANDARD and DAYLIGHT parts, and how much a table counts. From RFC 5545, 3.6.5.
--- A change comes from the start of a part, from one of its dates or from a moment of one of its rules. As with recurrence sets, each definition takes the list of moments over which rules are taken. Parts that lack a start or an offset are no parts: the reader has passed them over.
+-- A change comes from the start of a part, from one of its dates or from a moment of one of its rules. A table puts them in order; that its offset at an instant is that of the latest of all changes, whatever their order, is `offset_at-table_over` in `proofs/ZoneTableLaws`. As with recurrence sets, each definition takes the list of moments over which rules are taken. Parts that lack a start or an offset are no parts: the reader has passed them over.
 use Rattle.std.specs.Prelude.{ℕ, ◌+◌, ◌*◌, nat_lt, if◌then◌else◌, List, [], ◌∷◌, ◌++◌, map, filter, flat_map, fold, length, sum, ℤ, pos, ◌-ℤ◌, int_lt}
 use Rattle.cal_moment.specs.Calendar.{seconds_since_1970}
 use Rattle.cal_model.specs.declared.rule.Rule.{Rule}
