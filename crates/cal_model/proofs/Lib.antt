@@ -13,6 +13,7 @@ pub mod Instants
 pub mod StretchLemmas
 pub mod Periods
 pub mod PassingMoments
+pub mod RecurrenceSetLemmas
 pub mod Rising
 pub mod ZoneTableLaws
 mod Samples

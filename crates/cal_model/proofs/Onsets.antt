@@ -1,14 +1,12 @@
 -- The onsets at or before an instant are the first ones of the list.
-use Rattle.std.proofs.Common.{◌≡◌, ℕ, zero, suc, ◌+◌, ◌-◌, ◌<◌, ◌≤◌, List, [], ◌∷◌, length, get_or, refl, arith, Bool, true, false, ◌-ℤ◌, ℤ, inl, inr, nat_lt, ◌<ℤ◌}
-use Rattle.std.specs.Prelude.{int_le, map, filter, not, ◌||◌, ◌==◌}
-use Rattle.std.specs.List.{AllWithin, list_any}
+use Rattle.std.proofs.Common.{◌≡◌, ℕ, zero, suc, ◌+◌, ◌-◌, ◌<◌, ◌≤◌, List, [], ◌∷◌, length, get_or, refl, arith, true, false, ℤ, inl, inr, nat_lt, ◌<ℤ◌}
+use Rattle.std.specs.Prelude.{int_le}
+use Rattle.std.specs.List.{AllWithin}
 use Rattle.std.proofs.lemmas.Int.{ints}
 use Rattle.std.specs.List.Sorted.{IsPartitionedBy}
 use Rattle.std.proofs.lemmas.Bool.{cases_Bool, ltb-true, ltb-false}
 use Rattle.cal_model.specs.declared.zone.Onset.{Onset}
-use Rattle.cal_model.specs.Numbers.{same_int}
-use Rattle.cal_model.specs.declared.zone.ZoneTable.{ZoneTable}
-use Rattle.cal_model.specs.Zones.{offset_among, exists_in, local_at}
+use Rattle.cal_model.specs.Zones.{offset_among}
 use Rattle.cal_model.specs.TableBounds.{IsRising}
 
 le_below : (a b u : ℤ) → a <ℤ b → int_le b u ≡ true → int_le a u ≡ true

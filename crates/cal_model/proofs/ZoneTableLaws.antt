@@ -167,6 +167,7 @@ last_by-put_change u best (x ∷ xs) c h k = elim (cases_Bool (int_lt c.at x.at)
     first : int_lt c.at x.at ≡ true → (int_le c.at u ≡ true) ⊎ (int_le c.at u ≡ false) → last_by u best (c ∷ x ∷ xs) ≡ later_change u (last_by u best (x ∷ xs)) c
     first before (inl by) = let lt : c.at <ℤ x.at = grind (arith, ints, before) in rw by (last_by-from u best c (x ∷ xs) by k (lt, AllAfter-earlier c.at x.at xs lt h.0))
     first before (inr after) = rw after (sym (later_change-after u (last_by u best (x ∷ xs)) c after))
+
     one : c.at ≡ x.at → (int_le c.at u ≡ true) ⊎ (int_le c.at u ≡ false) → last_by u best (c ∷ xs) ≡ later_change u (last_by u best (x ∷ xs)) c
     one e (inl by) =
         let there : int_le x.at u ≡ true = rw e at by in
@@ -175,6 +176,7 @@ last_by-put_change u best (x ∷ xs) c h k = elim (cases_Bool (int_lt c.at x.at)
     one e (inr after) =
         let there : int_le x.at u ≡ false = rw e at after in
         rw (after, there) (sym (later_change-after u (last_by u best xs) c after))
+
     rest : int_lt c.at x.at ≡ false → (int_le x.at u ≡ true) ⊎ (int_le x.at u ≡ false) → IsNoLater (if int_le x.at u then Some x else best) c
     rest from (inl by) = let le : x.at ≤ℤ c.at = grind (arith, ints, from) in rw by le
     rest from (inr after) = rw after k

@@ -1,5 +1,4 @@
-use Rattle.std.proofs.Common.{rules, ◌≡◌, ◌-ℤ◌, to_z-of_z, FitsSigned, w64, inl}
-use Rattle.cal_model.specs.Stretches.{offset_of_stretch}
+use Rattle.std.proofs.Common.{rules, to_z-of_z, FitsSigned, w64, inl}
 use Rattle.cal_model.proofs.StretchLemmas.{IsLeastInstant-stretch, IsSkipped-stretches}
 use Rattle.cal_model.proofs.zone_time.instant_at.Goals as goal
 
