@@ -1,5 +1,5 @@
 -- The instant of a local time, found stretch by stretch.
-use Rattle.std.proofs.Common.{◌≡◌, ℕ, zero, suc, ◌-◌, ◌<◌, ◌≤◌, List, [], ◌∷◌, length, refl, arith, Bool, true, false, nat_lt, ◌==◌, ◌&&◌, ℤ, pos, ◌+ℤ◌, ◌-ℤ◌, ◌<ℤ◌, ◌≤ℤ◌, inl, inr}
+use Rattle.std.proofs.Common.{◌≡◌, ℕ, zero, suc, ◌-◌, ◌<◌, ◌≤◌, List, [], ◌∷◌, length, get_or, refl, arith, Bool, true, false, nat_lt, ◌==◌, ◌&&◌, ℤ, pos, ◌+ℤ◌, ◌-ℤ◌, ◌<ℤ◌, ◌≤ℤ◌, inl, inr}
 use Rattle.std.specs.Prelude.{int_le, int_lt, filter, not}
 use Rattle.std.specs.List.{AllWithin}
 use Rattle.std.proofs.lemmas.Int.{ints, by_lt_z}
@@ -7,7 +7,7 @@ use Rattle.std.proofs.lemmas.Bool.{cases_Bool, ltb-true, ltb-false}
 use Rattle.cal_model.specs.declared.zone.Onset.{Onset}
 use Rattle.cal_model.specs.declared.zone.ZoneTable.{ZoneTable}
 use Rattle.cal_model.specs.Stretches.{no_onset, offset_of_stretch, begins_by, ends_after, is_in_stretch, has_local, leads_past}
-use Rattle.cal_model.specs.TableBounds.{IsRising}
+use Rattle.cal_model.specs.TableBounds.{IsRising, IsTable, IsOffset}
 use Rattle.cal_model.specs.Zones.{offset_at, local_at, exists_in, instants_of, IsLeastInstant, IsSkipped, IsInstantOf}
 use Rattle.cal_model.proofs.Instants.{In, here, nth, Latest, FirstPast, latest_onset, offset_from, later_onset, first_moment_past, is_past, some_past, instants_of-all, instants_of-only}
 
@@ -224,3 +224,61 @@ exists_in_none table l h none = no_instant (instants_of table l) (λ v r. IsSkip
     no_instant : (found : List ℤ) → ((v : ℤ) → In v found → ⊥) → not (length found == 0) ≡ false
     no_instant [] h = refl
     no_instant (u ∷ us) h = absurd (h u here)
+
+-- A stretch that lies a day or more before or after a local time has it not, since an offset is less than a day.
+
+offset_of_stretch-bound : (table : ZoneTable) (k : ℕ) → IsTable table → k ≤ length table.onsets → IsOffset (offset_of_stretch table k)
+offset_of_stretch-bound table zero h within = h.before
+offset_of_stretch-bound table (suc k) h within =
+    let before : suc k - 1 ≡ k = omega arith in
+    let some : (suc k == 0) ≡ false = grind arith in
+    rw (some, before) (h.offsets k no_onset (omega (arith, within)))
+
+and_not : (a b : Bool) → b ≡ false → (a && b) ≡ false
+and_not true b h = h
+and_not false b h = refl
+
+not_and : (a b : Bool) → a ≡ false → (a && b) ≡ false
+not_and true b h = absurd cc
+not_and false b h = refl
+
+pub has_local-early : (table : ZoneTable) (l : ℤ) (n j : ℕ) → IsTable table → AllWithin (λ (o : Onset). int_le o.at.0 (l -ℤ pos 86400) ≡ true) table.onsets 0 n → n ≤ length table.onsets → j < n → has_local table l j ≡ false
+unfolding has_local
+has_local-early table l n j h early within lt =
+    let bound = offset_of_stretch-bound table j h (omega (arith, lt, within)) in
+    let by = early j no_onset (omega arith) lt in
+    let le : (nth table.onsets j).at.0 ≤ℤ (l -ℤ pos 86400) = grind (arith, ints, by) in
+    let low = bound.1 in
+    let over : (nth table.onsets j).at.0 ≤ℤ (l -ℤ offset_of_stretch table j) = omega (arith, ints, le, low) in
+    let inside : (j == length table.onsets) ≡ false = grind (arith, lt, within) in
+    let test : int_lt (l -ℤ offset_of_stretch table j) (nth table.onsets j).at.0 ≡ false = grind (arith, ints, over) in
+    and_not (begins_by table.onsets j (l -ℤ offset_of_stretch table j)) (ends_after table.onsets j (l -ℤ offset_of_stretch table j)) (rw inside test)
+
+begins_by-after : (onsets : List Onset) (j : ℕ) (u : ℤ) → u <ℤ (nth onsets j).at.0 → begins_by onsets (suc j) u ≡ false
+begins_by-after onsets j u lt =
+    let before : suc j - 1 ≡ j = omega arith in
+    let some : (suc j == 0) ≡ false = grind arith in
+    let test : int_le (nth onsets j).at.0 u ≡ false = grind (arith, ints, lt) in
+    rw (some, before) test
+
+pub has_local-late : (table : ZoneTable) (l : ℤ) (n j : ℕ) → IsTable table → AllWithin (λ (o : Onset). int_le o.at.0 (l +ℤ pos 86400) ≡ false) table.onsets n (length table.onsets) → n < j → j ≤ length table.onsets → has_local table l j ≡ false
+unfolding has_local
+has_local-late table l n zero h late lt within = absurd (omega arith)
+has_local-late table l n (suc j) h late lt within =
+    let bound = offset_of_stretch-bound table (suc j) h within in
+    let after = late j no_onset (omega (arith, lt)) (omega (arith, within)) in
+    let gt : (l +ℤ pos 86400) <ℤ (nth table.onsets j).at.0 = grind (arith, ints, after) in
+    let high = bound.0 in
+    let under : (l -ℤ offset_of_stretch table (suc j)) <ℤ (nth table.onsets j).at.0 = omega (arith, ints, gt, high) in
+    not_and (begins_by table.onsets (suc j) (l -ℤ offset_of_stretch table (suc j))) (ends_after table.onsets (suc j) (l -ℤ offset_of_stretch table (suc j)))
+        (begins_by-after table.onsets j (l -ℤ offset_of_stretch table (suc j)) under)
+
+-- nor does an onset a day or more before a local time lead past it
+pub leads_past-early : (table : ZoneTable) (l : ℤ) (n : ℕ) → IsTable table → AllWithin (λ (o : Onset). int_le o.at.0 (l -ℤ pos 86400) ≡ true) table.onsets 0 n → n ≤ length table.onsets → AllWithin (λ (o : Onset). leads_past l o ≡ false) table.onsets 0 n
+leads_past-early table l n h early within = λ k d low high.
+    let by = early k d low high in
+    let le : (get_or table.onsets k d).at.0 ≤ℤ (l -ℤ pos 86400) = grind (arith, ints, by) in
+    let bound = h.offsets k d (omega (arith, high, within)) in
+    let top = bound.1 in
+    let over : (get_or table.onsets k d).at.0 ≤ℤ (l -ℤ (get_or table.onsets k d).offset) = omega (arith, ints, le, top) in
+    grind (arith, ints, over)

@@ -1,11 +1,11 @@
 //! Zone conversion (RFC 5545, 3.3.5 and 3.6.5).
 
-ghost use Rattle.std.specs.Prelude.{ℕ, ◌-ℤ◌, ◌≡◌, ◌<◌, ◌≤◌, length, true, false, int_le, slice_index_or, IfSome, IfNone};
+ghost use Rattle.std.specs.Prelude.{ℕ, pos, ◌+ℤ◌, ◌-ℤ◌, ◌≡◌, ◌<◌, ◌≤◌, length, true, false, int_le, slice_index_or, IfSome, IfNone};
 ghost use Rattle.std.specs.List.{AllWithin};
 ghost use Rattle.cal_model.specs.declared.zone.Onset.{Onset};
 ghost use Rattle.cal_model.specs.Numbers.{local_seconds};
 ghost use Rattle.cal_model.specs.Stretches as stretches;
-ghost use Rattle.cal_model.specs.TableBounds.{IsRising, IsDigits};
+ghost use Rattle.cal_model.specs.TableBounds.{IsRising, IsTable, IsDigits};
 ghost use Rattle.cal_model.specs.Zones as spec;
 
 use crate::zone::{Onset, ZoneTable};
@@ -33,7 +33,7 @@ fn offset_of(onsets: &[Onset], k: usize) -> i32
 /// The offset of the latest onset at or before an instant, or the offset before all of them.
 #[tactic(auto, using(crate::proofs::Onsets::offset_among_none, crate::proofs::Onsets::offset_among_last), unfolding(crate::specs::Zones::offset_at))]
 pub fn offset_at(table: &ZoneTable, at: Utc) -> i32
-    requires { IsRising table.now.onsets }
+    requires { IsTable table.now }
     ensures { result ≡ spec.offset_at table.now at.0 }
 {
     let onsets = table.onsets.as_slice();
@@ -90,16 +90,39 @@ fn has_local(table: &ZoneTable, local: i64, k: usize) -> bool
     is_in_stretch(table.onsets.as_slice(), k, instant_by(table, local, k))
 }
 
+/// How many onsets lie a day or more before a local time: no offset makes it one of an earlier
+/// stretch.
+fn onsets_before(onsets: &[Onset], local: i64) -> usize
+    requires rising { IsRising onsets.now }
+    requires near { IsDigits local }
+    ensures bound { result ≤ length onsets.now }
+    ensures before { AllWithin (λ (o : Onset). int_le o.at.0 (local -ℤ pos 86400) ≡ true) onsets.now 0 result }
+{
+    onsets_until(onsets, local - 86_400)
+}
+
+/// How many onsets lie at most a day after a local time: no offset makes it one of a later stretch.
+fn onsets_near(onsets: &[Onset], local: i64) -> usize
+    requires rising { IsRising onsets.now }
+    requires near { IsDigits local }
+    ensures bound { result ≤ length onsets.now }
+    ensures after { AllWithin (λ (o : Onset). int_le o.at.0 (local +ℤ pos 86400) ≡ false) onsets.now result (length onsets.now) }
+{
+    onsets_until(onsets, local + 86_400)
+}
+
 /// The first stretch that has a moment with this local time.
 fn first_stretch(table: &ZoneTable, local: i64) -> Option<usize>
+    requires table { IsTable table.now }
     requires near { IsDigits local }
     ensures within { IfSome result (λ k. k ≤ length table.now.onsets) }
     ensures there { IfSome result (λ k. stretches.has_local table.now local k ≡ true) }
     ensures first { IfSome result (λ k. (j : ℕ) → j < k → stretches.has_local table.now local j ≡ false) }
     ensures none { IfNone result ((j : ℕ) → j ≤ length table.now.onsets → stretches.has_local table.now local j ≡ false) }
 {
-    let last = table.onsets.len();
-    for k in 0..last {
+    let onsets = table.onsets.as_slice();
+    let last = onsets_near(onsets, local);
+    for k in onsets_before(onsets, local)..last {
         if has_local(table, local, k) {
             return Some(k);
         }
@@ -114,7 +137,7 @@ fn first_stretch(table: &ZoneTable, local: i64) -> Option<usize>
 /// Whether some instant has this local time.
 #[tactic(auto, using(crate::proofs::StretchLemmas::exists_in_stretch, crate::proofs::StretchLemmas::exists_in_none))]
 fn exists_at(table: &ZoneTable, local: i64) -> bool
-    requires rising { IsRising table.now.onsets }
+    requires table { IsTable table.now }
     requires near { IsDigits local }
     ensures { result ≡ spec.exists_in table.now local }
 {
@@ -131,14 +154,16 @@ fn leads_past(onset: &Onset, local: i64) -> bool
 }
 
 /// The first onset from which on the local time is past this one.
-fn first_past(onsets: &[Onset], local: i64) -> Option<usize>
+fn first_past(table: &ZoneTable, local: i64) -> Option<usize>
+    requires table { IsTable table.now }
     requires near { IsDigits local }
-    ensures within { IfSome result (λ k. k < length onsets.now) }
-    ensures there { IfSome result (λ k. stretches.leads_past local (slice_index_or onsets.now k stretches.no_onset) ≡ true) }
-    ensures first { IfSome result (λ k. AllWithin (λ (o : Onset). stretches.leads_past local o ≡ false) onsets.now 0 k) }
-    ensures none { IfNone result (AllWithin (λ (o : Onset). stretches.leads_past local o ≡ false) onsets.now 0 (length onsets.now)) }
+    ensures within { IfSome result (λ k. k < length table.now.onsets) }
+    ensures there { IfSome result (λ k. stretches.leads_past local (slice_index_or table.now.onsets k stretches.no_onset) ≡ true) }
+    ensures first { IfSome result (λ k. AllWithin (λ (o : Onset). stretches.leads_past local o ≡ false) table.now.onsets 0 k) }
+    ensures none { IfNone result (AllWithin (λ (o : Onset). stretches.leads_past local o ≡ false) table.now.onsets 0 (length table.now.onsets)) }
 {
-    for k in 0..onsets.len() {
+    let onsets = table.onsets.as_slice();
+    for k in onsets_before(onsets, local)..onsets.len() {
         if leads_past(&onsets[k], local) {
             return Some(k);
         }
@@ -148,12 +173,12 @@ fn first_past(onsets: &[Onset], local: i64) -> Option<usize>
 
 /// The instant of a local time that a gap skips: by the offset before the gap.
 fn after_gap(table: &ZoneTable, local: i64) -> i64
-    requires rising { IsRising table.now.onsets }
+    requires table { IsTable table.now }
     requires near { IsDigits local }
     requires skipped { spec.IsSkipped table.now local }
     ensures { spec.IsInstantOf table.now local result }
 {
-    match first_past(table.onsets.as_slice(), local) {
+    match first_past(table, local) {
         Some(gap) => instant_by(table, local, gap),
         None => instant_by(table, local, 0),
     }
@@ -161,7 +186,7 @@ fn after_gap(table: &ZoneTable, local: i64) -> i64
 
 /// The instant of a local time.
 fn instant_at(table: &ZoneTable, local: i64) -> i64
-    requires rising { IsRising table.now.onsets }
+    requires table { IsTable table.now }
     requires near { IsDigits local }
     ensures { spec.IsInstantOf table.now local result }
 {
@@ -173,7 +198,7 @@ fn instant_at(table: &ZoneTable, local: i64) -> i64
 
 /// Whether some instant has this local time.
 pub fn exists(table: &ZoneTable, local: Local) -> bool
-    requires { IsRising table.now.onsets }
+    requires { IsTable table.now }
     ensures { result ≡ spec.exists_in table.now (local_seconds local) }
 {
     exists_at(table, seconds_of(local))
@@ -182,7 +207,7 @@ pub fn exists(table: &ZoneTable, local: Local) -> bool
 /// The instant of a local time: the least that has it, so the first of two; and of a time that a
 /// gap skips, the instant by the offset before the gap.
 pub fn to_utc(table: &ZoneTable, local: Local) -> Utc
-    requires { IsRising table.now.onsets }
+    requires { IsTable table.now }
     ensures value { result.0 ≡ spec.instant_of table.now (local_seconds local) }
     ensures meaning { spec.IsInstantOf table.now (local_seconds local) result.0 }
 {

@@ -6,7 +6,7 @@ pub after_gap-requires-clause-skipped : goal.after_gap-requires-clause-skipped
 after_gap-requires-clause-skipped c =
     let fits : FitsSigned w64 c.args.local = search rules in
     let none = rw (to_z-of_z fits) at c.in-None.ensures.none in
-    rw (to_z-of_z fits) (IsSkipped-stretches c.args.table.now c.args.local c.requires.rising none)
+    rw (to_z-of_z fits) (IsSkipped-stretches c.args.table.now c.args.local c.requires.table.rising none)
 
 pub returns-in-Some : goal.returns-in-Some
 returns-in-Some c =
@@ -15,7 +15,7 @@ returns-in-Some c =
     let there = rw (to_z-of_z fits) at c.in-Some.ensures.there in
     let first = rw (to_z-of_z fits) at c.in-Some.ensures.first in
     let made = rw (to_z-of_z fits) at c.instant_by.ensures in
-    let least = IsLeastInstant-stretch c.args.table.now c.args.local c.in-Some.k c.requires.rising c.in-Some.ensures.within there first in
+    let least = IsLeastInstant-stretch c.args.table.now c.args.local c.in-Some.k c.requires.table.rising c.in-Some.ensures.within there first in
     rw (to_z-of_z result_fits, made) (inl least)
 
 pub returns-in-None : goal.returns-in-None

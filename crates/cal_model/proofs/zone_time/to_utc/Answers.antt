@@ -14,4 +14,4 @@ returns-clause-value c =
     let fits : FitsSigned w64 c.seconds_of.result = search (rules, c.seconds_of.type_inv) in
     let result_fits : FitsSigned w64 c.instant_at.result = search (rules, c.instant_at.type_inv) in
     let made = rw (to_z-of_z fits, c.seconds_of.ensures.value) at c.instant_at.ensures in
-    rw (to_z-of_z result_fits) (IsInstantOf-instant_of c.args.table.now _ c.instant_at.result c.requires made)
+    rw (to_z-of_z result_fits) (IsInstantOf-instant_of c.args.table.now _ c.instant_at.result c.requires.rising made)
