@@ -1,13 +1,15 @@
 -- The table of a zone has its onsets in rising order, and says at each instant what the latest change of any part says.
-use Rattle.std.proofs.Common.{◌≡◌, ℕ, zero, suc, ◌<◌, List, [], ◌∷◌, length, get_or, map, refl, sym, ap, ◌∙◌, arith, true, false, ℤ, ◌<ℤ◌, ◌≤ℤ◌, inl, inr, ◌⊎◌}
-use Rattle.std.specs.Prelude.{int_le, int_lt, if◌then◌else◌, filter, fold, flat_map, Option, Some, None}
+use Rattle.std.proofs.Common.{◌≡◌, ℕ, zero, suc, ◌<◌, List, [], ◌∷◌, ◌++◌, length, get_or, map, refl, sym, ap, ◌∙◌, arith, true, false, ℤ, ◌-ℤ◌, ◌<ℤ◌, ◌≤ℤ◌, inl, inr, ◌⊎◌}
+use Rattle.std.specs.Prelude.{All, int_le, int_lt, if◌then◌else◌, filter, fold, flat_map, Option, Some, None}
 use Rattle.std.proofs.lemmas.Int.{ints, by_lt_z}
 use Rattle.std.proofs.lemmas.Bool.{cases_Bool}
+use Rattle.std.proofs.lemmas.List.Elements.{All-cons}
+use Rattle.cal_moment.specs.Calendar.{seconds_since_1970}
 use Rattle.cal_model.specs.declared.zone.Onset.{Onset}
 use Rattle.cal_model.specs.declared.zone.ZonePart.{ZonePart}
 use Rattle.cal_model.specs.Numbers.{same_int, last_or_else}
-use Rattle.cal_model.specs.TableBounds.{IsRising}
-use Rattle.cal_model.specs.ZoneOnsets.{Change, put_change, part_changes, changes, as_onset, table_over, table_of}
+use Rattle.cal_model.specs.TableBounds.{IsRising, IsOffset, IsPart, IsTable}
+use Rattle.cal_model.specs.ZoneOnsets.{Change, put_change, part_moments, part_changes, changes, offset_before, as_onset, table_over, table_of}
 use Rattle.cal_model.specs.RecurrenceSet.{every_moment}
 use Rattle.cal_model.specs.Zones.{offset_at}
 use Rattle.cal_model.proofs.Instants.{same_int-true, same_int-self}
@@ -86,6 +88,71 @@ IsRising-table_over moments name parts = record {
 -- and so over all of them
 pub IsRising-table_of : (name : List ℕ) (parts : List ZonePart) → IsRising (table_of name parts).onsets
 IsRising-table_of name parts = IsRising-table_over every_moment name parts
+
+-- A table keeps what its parts keep: offsets of less than a day.
+
+AllSmall : List Change → Type 0
+AllSmall [] = Unit {0}
+AllSmall (c ∷ cs) = (IsOffset c.from × IsOffset c.to) × AllSmall cs
+
+AllSmall-put_change : (cs : List Change) (c : Change) → IsOffset c.from × IsOffset c.to → AllSmall cs → AllSmall (put_change cs c)
+unfolding AllSmall
+AllSmall-put_change [] c small h = (small, tt)
+AllSmall-put_change (x ∷ xs) c small h = elim (cases_Bool (int_lt c.at x.at)) [
+  | inl before ↦ rw before (small, h)
+  | inr from ↦ elim (cases_Bool (same_int c.at x.at)) [
+    | inl same ↦ rw (from, same) (small, h.1)
+    | inr other ↦ rw (from, other) (h.0, AllSmall-put_change xs c small h.1)
+  ]
+]
+
+AllSmall-fold : (cs more : List Change) → AllSmall cs → AllSmall more → AllSmall (fold put_change cs more)
+unfolding AllSmall
+AllSmall-fold cs [] h k = h
+AllSmall-fold cs (c ∷ more) h k = AllSmall-fold (put_change cs c) more (AllSmall-put_change cs c k.0 h) k.1
+
+AllSmall-append : (xs ys : List Change) → AllSmall xs → AllSmall ys → AllSmall (xs ++ ys)
+unfolding AllSmall
+AllSmall-append [] ys h k = k
+AllSmall-append (x ∷ xs) ys h k = (h.0, AllSmall-append xs ys h.1 k)
+
+AllSmall-at : (part : ZonePart) (ms : List ℕ) → IsOffset part.from → IsOffset part.to →
+    AllSmall (map (λ m. record { at = seconds_since_1970 m -ℤ part.from; from = part.from; to = part.to }) ms)
+unfolding AllSmall
+AllSmall-at part [] from to = tt
+AllSmall-at part (m ∷ ms) from to = ((from, to), AllSmall-at part ms from to)
+
+AllSmall-parts : (moments : List ℕ) (parts : List ZonePart) → All IsPart parts → AllSmall (flat_map (part_changes moments) parts)
+unfolding AllSmall
+AllSmall-parts moments [] h = tt
+AllSmall-parts moments (p ∷ ps) h =
+    let first = h 0 p (omega arith) in
+    AllSmall-append (part_changes moments p) (flat_map (part_changes moments) ps) (AllSmall-at p (part_moments moments p) first.from first.to)
+        (AllSmall-parts moments ps (λ k d lt. h (suc k) d (omega arith)))
+
+small_before : (cs : List Change) (parts : List ZonePart) → AllSmall cs → All IsPart parts → IsOffset (offset_before cs parts)
+unfolding AllSmall
+small_before [] [] h k = (omega (arith, ints), omega (arith, ints))
+small_before [] (p ∷ ps) h k = (k 0 p (omega arith)).from
+small_before (c ∷ cs) parts h k = h.0.0
+
+small_offsets : (cs : List Change) → AllSmall cs → All (λ (o : Onset). IsOffset o.offset) (map as_onset cs)
+unfolding AllSmall
+small_offsets [] h = λ k d lt. absurd (omega arith)
+small_offsets (c ∷ cs) h = All-cons (λ (o : Onset). IsOffset o.offset) (as_onset c) (map as_onset cs) h.0.1 (small_offsets cs h.1)
+
+-- so the conversions may be asked of a table that is made of parts
+pub IsTable-table_over : (moments name : List ℕ) (parts : List ZonePart) → All IsPart parts → IsTable (table_over moments name parts)
+unfolding AllSmall
+IsTable-table_over moments name parts h =
+    let small = AllSmall-fold [] (flat_map (part_changes moments) parts) tt (AllSmall-parts moments parts h) in record {
+      rising = IsRising-table_over moments name parts;
+      before = small_before (changes moments parts) parts small h;
+      offsets = small_offsets (changes moments parts) small;
+    }
+
+pub IsTable-table_of : (name : List ℕ) (parts : List ZonePart) → All IsPart parts → IsTable (table_of name parts)
+IsTable-table_of name parts h = IsTable-table_over every_moment name parts h
 
 -- What a table says, without its order: of all changes the latest at or before an instant holds, and of several at one moment the last.
 
