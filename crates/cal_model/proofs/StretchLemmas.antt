@@ -271,7 +271,7 @@ has_local-late table l n (suc j) h late lt within =
     let high = bound.0 in
     let under : (l -ℤ offset_of_stretch table (suc j)) <ℤ (nth table.onsets j).at.0 = omega (arith, ints, gt, high) in
     not_and (begins_by table.onsets (suc j) (l -ℤ offset_of_stretch table (suc j))) (ends_after table.onsets (suc j) (l -ℤ offset_of_stretch table (suc j)))
-        (begins_by-after table.onsets j (l -ℤ offset_of_stretch table (suc j)) under)
+    (begins_by-after table.onsets j (l -ℤ offset_of_stretch table (suc j)) under)
 
 -- nor does an onset a day or more before a local time lead past it
 pub leads_past-early : (table : ZoneTable) (l : ℤ) (n : ℕ) → IsTable table → AllWithin (λ (o : Onset). int_le o.at.0 (l -ℤ pos 86400) ≡ true) table.onsets 0 n → n ≤ length table.onsets → AllWithin (λ (o : Onset). leads_past l o ≡ false) table.onsets 0 n

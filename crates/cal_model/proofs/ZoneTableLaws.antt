@@ -128,7 +128,7 @@ AllSmall-parts moments [] h = tt
 AllSmall-parts moments (p ∷ ps) h =
     let first = h 0 p (omega arith) in
     AllSmall-append (part_changes moments p) (flat_map (part_changes moments) ps) (AllSmall-at p (part_moments moments p) first.from first.to)
-        (AllSmall-parts moments ps (λ k d lt. h (suc k) d (omega arith)))
+    (AllSmall-parts moments ps (λ k d lt. h (suc k) d (omega arith)))
 
 small_before : (cs : List Change) (parts : List ZonePart) → AllSmall cs → All IsPart parts → IsOffset (offset_before cs parts)
 unfolding AllSmall
