@@ -32,4 +32,5 @@ pub mod Rows
 pub mod MovedRows
 pub mod Overlap
 pub mod Cost
+pub mod BusyTimes
 pub mod ComponentLines
