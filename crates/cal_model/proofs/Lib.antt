@@ -18,6 +18,6 @@ mod ZoneExamples
 mod RecurrenceSetExamples
 mod ZoneOnsetExamples
 mod RowExamples
-mod MovedRowExamples
+mod LaterRowExamples
 mod OverlapExamples
 mod CostExamples

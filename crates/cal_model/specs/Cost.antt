@@ -57,12 +57,16 @@ greatest (n ∷ ns) = max n (greatest ns)
 abbrev pub last_of_window : ℤ → ℕ
 last_of_window window = unsigned_abs (window *ℤ pos 64 +ℤ pos (63 + epoch_day))
 
--- the last day on which a period may begin. RANGE=THISANDFUTURE changes this one definition
+-- the last day on which a period may begin. RANGE=THISANDFUTURE changes this one definition, to `later_last_day`
 abbrev pub last_day : Object → ℤ → ℕ
 last_day object window = max (last_of_window window) (greatest (days_named_from object (ids_start object)))
 
+-- one, and what each component counts up to a day
+abbrev pub cost_up_to : List ℕ → Object → ℕ → ℕ
+cost_up_to moments object day = suc (sum (map (component_cost moments day) object.components))
+
 abbrev pub cost_over : List ℕ → Object → ℤ → ℕ
-cost_over moments object window = suc (sum (map (component_cost moments (last_day object window)) object.components))
+cost_over moments object window = cost_up_to moments object (last_day object window)
 
 abbrev pub cost : Object → ℤ → ℕ
 cost = cost_over every_moment

@@ -11,14 +11,14 @@ use Rattle.cal_model.specs.Zones.{offset_at, exists_in, instant_of}
 use Rattle.cal_model.proofs.ZoneExamples.{written}
 use Rattle.cal_model.specs.Rows.{Numbered}
 use Rattle.cal_model.proofs.RowExamples.{event, object_of, utc, zoned, instant_row}
-use Rattle.cal_model.specs.MovedRows.{moved_rows_over}
+use Rattle.cal_model.specs.LaterRows.{later_rows_over}
 
 -- the component of that number has RANGE=THISANDFUTURE
 abbrev pub only : ℕ → Numbered → Bool
 only number n = n.number == number
 
 -- from the third on a day and two hours later, but for the fourth, which an override of its own moves
-later_weeks : moved_rows_over (only 1) (daily_at 32400 (day_of_date 2025 3 1) 60)
+later_weeks : later_rows_over (only 1) (daily_at 32400 (day_of_date 2025 3 1) 60)
     (object_of (record (event (Some (utc 2025 3 3 9 0)) (extent.End (utc 2025 3 3 10 0))) { rules = record (each Weekly) { count = Some 5 } ∷ [] }
     ∷ record (event (Some (utc 2025 3 18 11 0)) (extent.End (utc 2025 3 18 12 30))) { recurrence_id = Some (utc 2025 3 17 9 0) }
     ∷ record (event (Some (utc 2025 3 24 15 0)) (extent.End (utc 2025 3 24 16 0))) { recurrence_id = Some (utc 2025 3 24 9 0) } ∷ []))
@@ -32,7 +32,7 @@ unfolding year_of month_of day_of_month day_passes time_passes counted_from
 later_weeks = refl
 
 -- in New York the move is one of local digits
-over_the_change : moved_rows_over (only 1) (daily_at 36000 (day_of_date 2025 3 1) 30)
+over_the_change : later_rows_over (only 1) (daily_at 36000 (day_of_date 2025 3 1) 30)
     (object_of (record (event (Some (zoned 2025 3 2 10 0)) (extent.End (zoned 2025 3 2 11 0))) { rules = record (each Weekly) { count = Some 3 } ∷ [] }
     ∷ record (event (Some (zoned 2025 3 2 12 0)) (extent.End (zoned 2025 3 2 13 0))) { recurrence_id = Some (zoned 2025 3 2 10 0) } ∷ []))
     ≡ instant_row (written 2025 3 2 15 0 0) (written 2025 3 2 17 0 0) (written 2025 3 2 18 0 0) 1
