@@ -6,6 +6,7 @@ pub mod LineLemmas
 pub mod QueryLemmas
 pub mod RequestLemmas
 pub mod UtcLemmas
+pub mod NearTimes
 mod Samples
 mod TextExamples
 mod ReplyExamples

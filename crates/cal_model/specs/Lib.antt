@@ -34,4 +34,5 @@ pub mod LaterRows
 pub mod Overlap
 pub mod Cost
 pub mod BusyTimes
+pub mod Nearness
 pub mod ComponentLines
