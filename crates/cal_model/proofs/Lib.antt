@@ -7,6 +7,8 @@ pub mod QueryLemmas
 pub mod RequestLemmas
 pub mod UtcLemmas
 pub mod NearTimes
+pub mod Everywhere
+pub mod RowBounds
 mod Samples
 mod TextExamples
 mod ReplyExamples

@@ -19,7 +19,7 @@ use Rattle.cal_model.specs.Passing.{passes, period_number}
 use Rattle.cal_model.specs.RecurrenceSet.{every_moment}
 use Rattle.cal_model.specs.Alignment.{Aligned, at, on_day, value_of, written_moment}
 use Rattle.cal_model.specs.Overlap.{seconds_of}
-use Rattle.cal_model.specs.Rows.{is_date, overrides, ids_start, named_by}
+use Rattle.cal_model.specs.Rows.{is_date, own_start, overrides, ids_start, named_by}
 
 -- Cost.
 
@@ -73,7 +73,7 @@ cost = cost_over every_moment
 
 -- Margin, in seconds.
 
--- the written length of a component: of DURATION, or from the start to DTEND or DUE
+-- the size of the length that a component writes: of DURATION, or from its start to DTEND or DUE. A day that no line writes is none.
 abbrev pub extent_length : List ZoneTable → Option Stamp → Extent → ℕ
 extent_length zones s (extent.Lasting length) = unsigned_abs (seconds_of length)
 extent_length zones (Some s) (extent.End e) = unsigned_abs (value_of zones e -ℤ value_of zones s)
@@ -92,13 +92,18 @@ abbrev pub alarm_reach : Alarm → ℕ
 alarm_reach alarm = trigger_length alarm.trigger + alarm.repeat * unsigned_abs (seconds_of alarm.gap)
 
 abbrev pub lengths : List ZoneTable → Component → List ℕ
-lengths zones c = extent_length zones c.start c.extent ∷ map (λ (p : Period). length_to zones p.start p.end) c.periods
+lengths zones c = extent_length zones (own_start c) c.extent ∷ map (λ (p : Period). length_to zones p.start p.end) c.periods
 
--- four days, the greatest length, and the greatest reach of an alarm
+-- the greatest length that the object writes, and the greatest reach of its alarms
+abbrev pub longest : Object → ℕ
+longest object = greatest (flat_map (lengths object.zones) object.components)
+
+abbrev pub alarms_reach : Object → ℕ
+alarms_reach object = greatest (flat_map (λ (c : Component). map alarm_reach c.alarms) object.components)
+
+-- how far from a row's nominal start a range may lie that meets it: four days, and these two
 abbrev pub margin : Object → ℕ
-margin object =
-    345_600 + (greatest (flat_map (lengths object.zones) object.components)
-    + greatest (flat_map (λ (c : Component). map alarm_reach c.alarms) object.components))
+margin object = 345_600 + (longest object + alarms_reach object)
 
 -- a window of 64 days meets a range that is widened on both sides
 abbrev pub window_meets : ℕ → Range → ℤ → Bool
