@@ -42,10 +42,10 @@ All-each_part P f [] all = All-nil _
 All-each_part P f (x ∷ xs) all =
     All-cons (λ x. All P (f x)) x xs (All-left P (f x) (flat_map f xs) all) (All-each_part P f xs (All-right P (f x) (flat_map f xs) all))
 
--- a list made from what is there
-pub All-from_option : {X Y : Type 0} (P : Y → Type 0) (f : X → List Y) (o : Option X) → ((x : X) → o ≡ Some x → All P (f x)) → All P (flat_map f (option_to_list o))
-All-from_option P f None h = All-nil P
-All-from_option P f (Some x) h = All-append P (f x) [] (h x refl) (All-nil P)
+-- what is there of an option
+pub All-option : {X : Type 0} (P : X → Type 0) (o : Option X) → ((x : X) → o ≡ Some x → P x) → All P (option_to_list o)
+All-option P None h = All-nil P
+All-option P (Some x) h = All-cons P x [] (h x refl) (All-nil P)
 
 pub All-slice_get : {X : Type 0} (P : X → Type 0) (xs : List X) (i : ℕ) (x : X) → All P xs → slice_get xs i ≡ Some x → P x
 All-slice_get P [] i x all e = absurd cc

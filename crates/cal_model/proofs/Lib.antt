@@ -9,6 +9,7 @@ pub mod UtcLemmas
 pub mod NearTimes
 pub mod Everywhere
 pub mod RowBounds
+pub mod NearRows
 mod Samples
 mod TextExamples
 mod ReplyExamples
