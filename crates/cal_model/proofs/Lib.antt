@@ -10,6 +10,7 @@ pub mod NearTimes
 pub mod Everywhere
 pub mod RowBounds
 pub mod NearRows
+pub mod NearRanges
 mod Samples
 mod TextExamples
 mod ReplyExamples

@@ -19,7 +19,7 @@ use Rattle.cal_model.specs.Passing.{passes, period_number}
 use Rattle.cal_model.specs.RecurrenceSet.{every_moment}
 use Rattle.cal_model.specs.Alignment.{Aligned, at, on_day, value_of, written_moment}
 use Rattle.cal_model.specs.Overlap.{seconds_of}
-use Rattle.cal_model.specs.Rows.{is_date, own_start, overrides, ids_start, named_by}
+use Rattle.cal_model.specs.Rows.{is_date, own_start, overrides, ids_start, named_by, window_seconds}
 
 -- Cost.
 
@@ -105,7 +105,7 @@ alarms_reach object = greatest (flat_map (λ (c : Component). map alarm_reach c.
 abbrev pub margin : Object → ℕ
 margin object = 345_600 + (longest object + alarms_reach object)
 
--- a window of 64 days meets a range that is widened on both sides
+-- a window meets a range that is widened on both sides
 abbrev pub window_meets : ℕ → Range → ℤ → Bool
 window_meets by range window =
-    int_lt (range.start.0 -ℤ pos by) ((window +ℤ pos 1) *ℤ pos 5_529_600) && int_lt (window *ℤ pos 5_529_600) (range.end.0 +ℤ pos by)
+    int_lt (range.start.0 -ℤ pos by) ((window +ℤ pos 1) *ℤ window_seconds) && int_lt (window *ℤ window_seconds) (range.end.0 +ℤ pos by)
