@@ -75,3 +75,7 @@ All-put_row P row (x ∷ xs) p all = elim (cases_Bool (comes_before row x)) [
 pub All-in_order : (P : Row → Type 0) (xs : List Row) → All P xs → All P (in_order xs)
 All-in_order P [] all = all
 All-in_order P (x ∷ xs) all = All-put_row P x (in_order xs) (All-head P x xs all) (All-in_order P xs (All-tail P x xs all))
+
+pub All-unmap : {X Y : Type 0} (P : Y → Type 0) (f : X → Y) (xs : List X) → All P (map f xs) → All (λ x. P (f x)) xs
+All-unmap P f [] all = All-nil _
+All-unmap P f (x ∷ xs) all = All-cons (λ x. P (f x)) x xs (All-head P (f x) (map f xs) all) (All-unmap P f xs (All-tail P (f x) (map f xs) all))
