@@ -65,7 +65,7 @@ All-greatest (n ∷ ns) =
     All-cons (λ m. m ≤ max n (greatest ns)) n ns (omega arith)
     (All-weaker (λ m. m ≤ greatest ns) (λ m. m ≤ max n (greatest ns)) (λ m h. omega (arith, h)) ns (All-greatest ns))
 
-All-put_row : (P : Row → Type 0) (row : Row) (xs : List Row) → P row → All P xs → All P (put_row row xs)
+pub All-put_row : (P : Row → Type 0) (row : Row) (xs : List Row) → P row → All P xs → All P (put_row row xs)
 All-put_row P row [] p all = All-cons P row [] p all
 All-put_row P row (x ∷ xs) p all = elim (cases_Bool (comes_before row x)) [
   | inl w ↦ rw w (All-cons P row (x ∷ xs) p all)

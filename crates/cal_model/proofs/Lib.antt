@@ -7,6 +7,7 @@ pub mod QueryLemmas
 pub mod RequestLemmas
 pub mod UtcLemmas
 pub mod NearTimes
+pub mod RisingLists
 pub mod Everywhere
 pub mod RowBounds
 pub mod NearRows
