@@ -12,6 +12,7 @@ pub mod Everywhere
 pub mod RowBounds
 pub mod NearRows
 pub mod NearRanges
+pub mod WindowLaws
 mod Samples
 mod TextExamples
 mod ReplyExamples
