@@ -135,3 +135,98 @@ window-flat_map moments object (w ∷ ws) row c there dated = elim (Contains-spl
   | inl e ↦ Contains-append_left (rows_in_over moments object w) (flat_map (rows_in_over moments object) ws) row (rw (sym e) at (rows_in-has moments object row there dated))
   | inr b ↦ Contains-append_right (rows_in_over moments object w) (flat_map (rows_in_over moments object) ws) row (window-flat_map moments object ws row b there dated)
 ]
+
+AllPairs-weaker : {X : Type 0} (R S : X → X → Type 0) → ((x y : X) → R x y → S x y) → (xs : List X) → AllPairs R xs → AllPairs S xs
+AllPairs-weaker R S h xs up i j d lt below = h _ _ (up i j d lt below)
+
+filter-within : {X : Type 0} (p q : X → Bool) → ((x : X) → q x ≡ true → p x ≡ true) → (xs : List X) → filter q (filter p xs) ≡ filter q xs
+filter-within p q h [] = refl
+filter-within p q h (x ∷ xs) = elim (cases_Bool (p x)) [
+  | inl w ↦ elim (cases_Bool (q x)) [
+    | inl v ↦ rw (w, v) (ap (λ rest. x ∷ rest) (filter-within p q h xs))
+    | inr v ↦ rw (w, v) (filter-within p q h xs)
+  ]
+  | inr w ↦ elim (cases_Bool (q x)) [
+    | inl v ↦ absurd (let yes = h x v in cc)
+    | inr v ↦ rw (w, v) (filter-within p q h xs)
+  ]
+]
+
+-- the object's dated rows stand in order
+abbrev pub HasRowsInOrder : List ℕ → Object → Type 0
+HasRowsInOrder moments object = AllPairs IsBefore (filter is_dated (rows_over moments object))
+
+if_some_dated : (object : Object) (windows : List ℤ) (row : Row) → lies_in_some object windows row ≡ true → (is_dated row ≡ true) × (list_any (same_int (window_of object row)) windows ≡ true)
+if_some_dated object windows row h = elim (cases_Bool (is_dated row)) [
+  | inl dated ↦ (dated, rw dated at h)
+  | inr undated ↦ (let e = rw undated at h in absurd cc)
+]
+
+dated_member : (moments : List ℕ) (object : Object) (row : Row) → Contains (rows_over moments object) row → is_dated row ≡ true → Contains (filter is_dated (rows_over moments object)) row
+dated_member moments object row c dated = Contains-filter is_dated row (rows_over moments object) dated c
+
+window_rising : (moments : List ℕ) (object : Object) (window : ℤ) → HasRowsInOrder moments object → AllPairs IsBefore (rows_in_over moments object window)
+window_rising moments object window up =
+    rw (filter-within is_dated (lies_in_window object window) (λ row h. (lies_in_window-one object window row h).0) (rows_over moments object)) at
+        (AllPairs-filter IsBefore (lies_in_window object window) (filter is_dated (rows_over moments object)) up)
+
+windows_apart : (moments : List ℕ) (object : Object) (windows : List ℤ) → HasRowsInOrder moments object → AllPairs AreApart windows → AllPairs HasOtherKey (flat_map (rows_in_over moments object) windows)
+windows_apart moments object [] up apart = λ i j d lt below. absurd (omega (arith, below))
+windows_apart moments object (w ∷ ws) up apart =
+    AllPairs-append HasOtherKey (rows_in_over moments object w) (flat_map (rows_in_over moments object) ws)
+    (AllPairs-weaker IsBefore HasOtherKey (λ a b before. inl before) (rows_in_over moments object w) (window_rising moments object w up))
+    (windows_apart moments object ws up (AllPairs-tail AreApart w ws apart))
+    (All-from_members (λ a. All (HasOtherKey a) (flat_map (rows_in_over moments object) ws)) (rows_in_over moments object w)
+    (λ a c. All-from_members (HasOtherKey a) (flat_map (rows_in_over moments object) ws) (λ b d. across a b c d)))
+  where
+    across : (a b : Row) → Contains (rows_in_over moments object w) a → Contains (flat_map (rows_in_over moments object) ws) b → HasOtherKey a b
+    across a b c d =
+        let here = rows_in-only moments object w a c in
+        let there = flat_map-window moments object ws b d in
+        elim (rising-members (filter is_dated (rows_over moments object)) a b up (dated_member moments object a here.0 here.1) (dated_member moments object b there.1 there.2)) [
+          | inl e ↦ absurd (All-member (AreApart w) ws (window_of object b) (AllPairs-head AreApart w ws apart) there.0 (let same = here.2 in sym (rw e at same)))
+          | inr other ↦ other
+        ]
+
+some_window : (windows : List ℤ) (w : ℤ) → list_any (same_int w) windows ≡ true → Contains windows w
+some_window [] w h = absurd cc
+some_window (x ∷ xs) w h = elim (cases_Bool (same_int w x)) [
+  | inl v ↦ (0, omega arith, sym (same_int-true w x v))
+  | inr v ↦ Contains-there x w xs (some_window xs w (rw v at h))
+]
+
+has_window : (windows : List ℤ) (w : ℤ) → Contains windows w → list_any (same_int w) windows ≡ true
+has_window [] w c = let below = c.1 in absurd (omega (arith, below))
+has_window (x ∷ xs) w c = elim (cases_Bool (same_int w x)) [
+  | inl v ↦ rw v refl
+  | inr v ↦ rw v (elim (Contains-split x w xs c) [
+    | inl e ↦ absurd (let self : same_int w x ≡ true = rw e (same_int-self w) in cc)
+    | inr b ↦ has_window xs w b
+  ])
+]
+
+-- the rows of several windows, put in order, are the rows of the whole list that lie in these windows
+pub in_order-windows : (moments : List ℕ) (object : Object) (windows : List ℤ) → HasRowsInOrder moments object → AllPairs AreApart windows →
+    filter (lies_in_some object windows) (rows_over moments object) ≡ in_order (flat_map (rows_in_over moments object) windows)
+in_order-windows moments object windows up apart =
+    in_order-is (filter (lies_in_some object windows) (rows_over moments object)) (flat_map (rows_in_over moments object) windows)
+    (rw (filter-within is_dated (lies_in_some object windows) (λ row h. (if_some_dated object windows row h).0) (rows_over moments object)) at
+        (AllPairs-filter IsBefore (lies_in_some object windows) (filter is_dated (rows_over moments object)) up))
+    (windows_apart moments object windows up apart)
+    (λ row c. let both = Contains-unfilter (lies_in_some object windows) row (rows_over moments object) c in
+    let lies = if_some_dated object windows row both.0 in
+    window-flat_map moments object windows row (some_window windows (window_of object row) lies.1) both.1 lies.0)
+    (λ row c. let there = flat_map-window moments object windows row c in
+    Contains-filter (lies_in_some object windows) row (rows_over moments object) (let dated = there.2 in rw dated (has_window windows (window_of object row) there.0)) there.1)
+
+-- Moments.
+
+-- the digits of a moment whose start lies in a window are those of the window, or of two days on either side
+pub moment-near_window : (zones : List ZoneTable) (s : Stamp) (digits window : ℤ) → All HasShortOffsets zones →
+    int_div_euclid ((reading_of zones s).local ((reading_of zones s).instant digits)) window_seconds ≡ window →
+    (((window *ℤ window_seconds) -ℤ pos 172800) <ℤ digits) × (digits <ℤ ((window +ℤ pos 1) *ℤ window_seconds +ℤ pos 172800))
+moment-near_window zones s digits window all e =
+    let near = local-instant-near zones s digits all in
+    let lies = window-holds ((reading_of zones s).local ((reading_of zones s).instant digits)) in
+    let at = rw e at lies in
+    (omega (arith, ints, near, at), omega (arith, ints, near, at))
