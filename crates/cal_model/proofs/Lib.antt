@@ -25,6 +25,7 @@ mod ZoneExamples
 mod RecurrenceSetExamples
 mod ZoneOnsetExamples
 mod RowExamples
+mod OverrideExamples
 mod LaterRowExamples
 mod OverlapExamples
 mod CostExamples
