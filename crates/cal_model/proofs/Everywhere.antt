@@ -1,7 +1,6 @@
 -- What holds of each element of joined, optional and numbered lists.
-use Rattle.std.proofs.Common.{◌≡◌, ℕ, zero, suc, ◌+◌, ◌≤◌, List, [], ◌∷◌, ◌++◌, map, refl, arith, Bool, true, false, ℤ, pos, negsuc, inl, inr, ap}
-use Rattle.std.specs.Prelude.{All, filter, flat_map, option_to_list, max, slice_get, Option, Some, None}
-use Rattle.std.specs.List.{list_any}
+use Rattle.std.proofs.Common.{◌≡◌, ℕ, zero, suc, ◌+◌, ◌≤◌, List, [], ◌∷◌, ◌++◌, map, refl, arith, true, ℤ, pos, negsuc, inl, inr, ap}
+use Rattle.std.specs.Prelude.{All, flat_map, option_to_list, max, slice_get, Option, Some, None}
 use Rattle.std.proofs.lemmas.Bool.{cases_Bool}
 use Rattle.std.proofs.lemmas.List.Elements.{All-head, All-tail, All-nil, All-cons, All-append, All-weaker}
 use Rattle.cal_model.specs.declared.object.Component.{Component}

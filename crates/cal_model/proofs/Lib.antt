@@ -28,4 +28,5 @@ mod RowExamples
 mod OverrideExamples
 mod LaterRowExamples
 mod OverlapExamples
+mod BusyTimeExamples
 mod CostExamples

@@ -1,5 +1,5 @@
 -- A range that a row meets, or one of its alarms, lies within the object's margin of the row's window.
-use Rattle.std.proofs.Common.{◌≡◌, ℕ, zero, suc, ◌+◌, ◌-◌, ◌*◌, ◌/◌, ◌<◌, ◌≤◌, List, [], ◌∷◌, map, refl, arith, Bool, true, false, ℤ, pos, negsuc, ◌+ℤ◌, ◌-ℤ◌, ◌*ℤ◌, ◌<ℤ◌, ◌≤ℤ◌, ◌⊎◌, inl, inr, sym, ◌∙◌}
+use Rattle.std.proofs.Common.{◌≡◌, ℕ, zero, suc, ◌+◌, ◌-◌, ◌*◌, ◌<◌, ◌≤◌, List, map, refl, arith, Bool, true, false, ℤ, pos, negsuc, ◌+ℤ◌, ◌-ℤ◌, ◌*ℤ◌, ◌<ℤ◌, ◌≤ℤ◌, ◌⊎◌, inl, inr}
 use Rattle.std.specs.Prelude.{All, flat_map, option_map, option_to_list, is_some, int_lt, int_le, unsigned_abs, slice_get, ◌&&◌, ◌||◌, Option, Some, None}
 use Rattle.std.specs.Int.{int_div_euclid}
 use Rattle.std.specs.List.{list_any}
@@ -24,11 +24,11 @@ use Rattle.cal_model.specs.declared.row.Fixed.{Fixed}
 use Rattle.cal_model.specs.declared.row.Range.{Range}
 use Rattle.cal_model.specs.declared.row.Row.{Row}
 use Rattle.cal_model.specs.declared.zone.ZoneTable.{ZoneTable}
-use Rattle.cal_model.specs.Numbers.{counted_from, numbers_between}
-use Rattle.cal_model.specs.Alignment.{reading_of, kind_of}
+use Rattle.cal_model.specs.Numbers.{counted_from}
+use Rattle.cal_model.specs.Alignment.{reading_of}
 use Rattle.cal_model.specs.Starts.{own_start, own_start_of}
 use Rattle.cal_model.specs.Rows.{is_dated, rows_over, nominal_start, window_of, window_seconds}
-use Rattle.cal_model.specs.Overlap.{Line, spans, begins, lasts, runs_to_due, due_alone, completed_and_created, completed, created, stated, stored, always, never, holds, is_positive, line_of, line_of_kind, line_of_event, line_of_todo, line_of_journal, line_of_free_busy, overlaps, in_zone, fixed, lasts_its_day, row_for_range, row_overlaps, dated_fixed, seconds_of, has_end, moment_related, is_in, some_trigger, alarm_overlaps}
+use Rattle.cal_model.specs.Overlap.{Line, spans, begins, lasts, runs_to_due, due_alone, completed_and_created, completed, created, stated, stored, always, never, holds, is_positive, line_of, line_of_kind, line_of_event, line_of_todo, line_of_journal, line_of_free_busy, in_zone, fixed, lasts_its_day, row_for_range, row_overlaps, dated_fixed, seconds_of, has_end, moment_related, is_in, some_trigger, alarm_overlaps}
 use Rattle.cal_model.specs.Cost.{longest, alarm_reach, alarms_reach, margin, window_meets}
 use Rattle.cal_model.specs.Nearness.{IsNear, HasShortOffsets, HasNearRows}
 use Rattle.cal_model.proofs.RowBounds.{in_zone-near}

@@ -1,31 +1,19 @@
 -- A range that a row meets, or one of its alarms, lies within the object's margin of the row's window.
-use Rattle.std.proofs.Common.{◌≡◌, ℕ, suc, ◌+◌, ◌*◌, ◌/◌, ◌<◌, ◌≤◌, List, [], ◌∷◌, ◌++◌, map, refl, arith, Bool, true, false, ℤ, pos, negsuc, ◌+ℤ◌, ◌-ℤ◌, ◌*ℤ◌, ◌<ℤ◌, ◌≤ℤ◌, ◌⊎◌, inl, inr, sym, ◌∙◌}
-use Rattle.std.specs.Prelude.{All, filter, flat_map, not, int_lt, int_le, unsigned_abs, slice_get, option_to_list, is_none, Option, Some, None}
-use Rattle.std.specs.List.{list_any}
-use Rattle.std.specs.Int.{int_div_euclid}
+use Rattle.std.proofs.Common.{◌≡◌, ℕ, ◌+◌, ◌≤◌, List, refl, arith, true, ℤ}
+use Rattle.std.specs.Prelude.{All, filter, flat_map, not, slice_get, option_to_list, is_none, Some}
 use Rattle.std.proofs.lemmas.Int.{ints}
-use Rattle.std.proofs.lemmas.Bool.{cases_Bool}
 use Rattle.std.proofs.lemmas.List.Elements.{All-head, All-append, All-map, All-filter, All-weaker}
 use Rattle.cal_moment.specs.declared.stamp.Stamp.{Stamp}
-use Rattle.cal_moment.specs.declared.stamp.Stamp.TheVariants.{Date, Floating, Zoned, Utc}
 use Rattle.cal_model.specs.declared.object.Component.{Component}
 use Rattle.cal_model.specs.declared.object.Object.{Object}
-use Rattle.cal_model.specs.declared.object.Kind.{Kind}
-use Rattle.cal_model.specs.declared.object.Kind.TheVariants.{Event, Todo, Journal, FreeBusy}
-use Rattle.cal_model.specs.declared.object.Extent.{Extent}
-use Rattle.cal_model.specs.declared.object.Extent.TheVariants as extent
-use Rattle.cal_model.specs.declared.row.Fixed.{Fixed}
-use Rattle.cal_model.specs.declared.row.Range.{Range}
 use Rattle.cal_model.specs.declared.row.Row.{Row}
-use Rattle.cal_model.specs.declared.row.RowKind.{RowKind}
-use Rattle.cal_model.specs.declared.zone.ZoneTable.{ZoneTable}
-use Rattle.cal_model.specs.Alignment.{Aligned, reading_of, value_of, kind_of}
-use Rattle.cal_model.specs.Starts.{own_start, own_start_of, end_of_extent, end_beside, end_from, end_of_instance}
-use Rattle.cal_model.specs.Rows.{Numbered, numbered, numbered_from, has_id, masters, overrides, ids_start, id_of_override, named_by, is_named, row_of, is_dated, undated_row, undated_rows, starts, master_row, row_at, override_row, override_row_from, merged, dated_rows, rows_over, nominal_start, window_of}
-use Rattle.cal_model.specs.Cost.{extent_length, length_to, lengths, longest, margin}
-use Rattle.cal_model.specs.Nearness.{IsNear, HasShortOffsets, IsTimed, HasNearRows}
+use Rattle.cal_model.specs.Alignment.{Aligned, value_of, kind_of}
+use Rattle.cal_model.specs.Starts.{own_start, end_from, end_of_instance}
+use Rattle.cal_model.specs.Rows.{Numbered, numbered, has_id, masters, overrides, ids_start, id_of_override, named_by, is_named, row_of, is_dated, undated_row, undated_rows, starts, master_row, row_at, override_row, override_row_from, dated_rows, rows_over}
+use Rattle.cal_model.specs.Cost.{extent_length, lengths, longest}
+use Rattle.cal_model.specs.Nearness.{IsNear, IsTimed, HasNearRows}
 use Rattle.cal_model.proofs.Everywhere.{All-everywhere, All-flat_map, All-each_part, All-option, All-slice_get, All-numbered_from, All-greatest, All-in_order}
-use Rattle.cal_model.proofs.RowBounds.{end_of_extent-near, end_of_instance-near, in_zone-near}
+use Rattle.cal_model.proofs.RowBounds.{end_of_extent-near, end_of_instance-near}
 
 -- What each row has.
 

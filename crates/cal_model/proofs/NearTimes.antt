@@ -1,5 +1,5 @@
 -- Where offsets are below a day, an instant lies within a day of its local time.
-use Rattle.std.proofs.Common.{◌≡◌, ℕ, List, [], ◌∷◌, map, refl, arith, Bool, true, false, ℤ, pos, ◌+ℤ◌, ◌-ℤ◌, ◌<ℤ◌, inl, inr}
+use Rattle.std.proofs.Common.{List, [], ◌∷◌, map, arith, ℤ, pos, ◌-ℤ◌, inl, inr}
 use Rattle.std.specs.Prelude.{All, filter, int_le, int_lt}
 use Rattle.std.proofs.lemmas.Int.{ints}
 use Rattle.std.proofs.lemmas.Bool.{cases_Bool}

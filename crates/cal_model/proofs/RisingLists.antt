@@ -1,6 +1,6 @@
 -- Lists in rising order: two with the same members are equal, and what `ascending` and `in_order` give rises and has the members of their input.
-use Rattle.std.proofs.Common.{◌≡◌, ℕ, zero, suc, ◌+◌, ◌<◌, ◌≤◌, List, [], ◌∷◌, refl, sym, ◌∙◌, ap, arith, Bool, true, false, ℤ, ◌<ℤ◌, ◌⊎◌, inl, inr}
-use Rattle.std.specs.Prelude.{All, AllPairs, Contains, int_lt, nat_le, if◌then◌else◌}
+use Rattle.std.proofs.Common.{◌≡◌, zero, suc, ◌<◌, List, [], ◌∷◌, refl, sym, ◌∙◌, ap, arith, true, false, ℤ, ◌<ℤ◌, ◌⊎◌, inl, inr}
+use Rattle.std.specs.Prelude.{All, AllPairs, Contains, int_lt, nat_le}
 use Rattle.std.proofs.lemmas.Int.{ints}
 use Rattle.std.proofs.lemmas.Bool.{cases_Bool}
 use Rattle.std.proofs.lemmas.List.Elements.{All-head, All-tail, All-nil, All-cons, All-weaker, All-contains_itself}
@@ -169,20 +169,29 @@ HasOtherKey a b = IsBefore a b ⊎ IsBefore b a
 
 before_or_after : (a b : Row) → HasOtherKey a b → (comes_before a b ≡ true → IsBefore a b) × (comes_before a b ≡ false → IsBefore b a)
 before_or_after a b (inl (by_id lt)) = (λ h. by_id lt, λ h. absurd (let w : int_lt a.id b.id ≡ true = grind (arith, ints, lt) in let e = rw w at h in cc))
-before_or_after a b (inl (by_component e lt)) = (λ h. by_component e lt, λ h. absurd (
-  let w : int_lt a.id b.id ≡ false = grind (arith, ints, e) in
-  let v : same_int a.id b.id ≡ true = rw e (same_int-self b.id) in
-  let u : nat_le a.component b.component ≡ true = grind (arith, lt) in
-  let f = rw (w, v, u) at h in cc))
-before_or_after a b (inr (by_id gt)) = (λ h. absurd (
-  let w : int_lt a.id b.id ≡ false = grind (arith, ints, gt) in
-  let v : same_int a.id b.id ≡ false = elim (cases_Bool (same_int a.id b.id)) [ inl s ↦ (let e = same_int-true a.id b.id s in absurd (omega (arith, ints, gt, e))) | inr s ↦ s ] in
-  let f = rw (w, v) at h in cc), λ h. by_id gt)
-before_or_after a b (inr (by_component e gt)) = (λ h. absurd (
-  let w : int_lt a.id b.id ≡ false = grind (arith, ints, e) in
-  let v : same_int a.id b.id ≡ true = rw e (same_int-self a.id) in
-  let u : nat_le a.component b.component ≡ false = grind (arith, gt) in
-  let f = rw (w, v, u) at h in cc), λ h. by_component e gt)
+before_or_after a b (inl (by_component e lt)) = (
+  λ h. by_component e lt,
+  λ h. absurd (
+      let w : int_lt a.id b.id ≡ false = grind (arith, ints, e) in
+      let v : same_int a.id b.id ≡ true = rw e (same_int-self b.id) in
+      let u : nat_le a.component b.component ≡ true = grind (arith, lt) in
+      let f = rw (w, v, u) at h in cc),
+)
+before_or_after a b (inr (by_id gt)) = (
+  λ h. absurd (
+      let w : int_lt a.id b.id ≡ false = grind (arith, ints, gt) in
+      let v : same_int a.id b.id ≡ false = elim (cases_Bool (same_int a.id b.id)) [ inl s ↦ (let e = same_int-true a.id b.id s in absurd (omega (arith, ints, gt, e))) | inr s ↦ s ] in
+      let f = rw (w, v) at h in cc),
+  λ h. by_id gt,
+)
+before_or_after a b (inr (by_component e gt)) = (
+  λ h. absurd (
+      let w : int_lt a.id b.id ≡ false = grind (arith, ints, e) in
+      let v : same_int a.id b.id ≡ true = rw e (same_int-self a.id) in
+      let u : nat_le a.component b.component ≡ false = grind (arith, gt) in
+      let f = rw (w, v, u) at h in cc),
+  λ h. by_component e gt,
+)
 
 put_row-rising : (row : Row) (xs : List Row) → All (HasOtherKey row) xs → AllPairs IsBefore xs → AllPairs IsBefore (put_row row xs)
 put_row-rising row [] other up = AllPairs-cons IsBefore row [] (All-nil _) up

@@ -1,10 +1,10 @@
 -- Where offsets are below a day, a row's end lies near its start, and both near its nominal start.
-use Rattle.std.proofs.Common.{◌≡◌, ℕ, ◌+◌, ◌≤◌, List, [], ◌∷◌, ◌++◌, map, refl, arith, Bool, true, false, ℤ, pos, negsuc, ◌+ℤ◌, ◌-ℤ◌, ◌*ℤ◌, ◌<ℤ◌, inl, inr, zero, suc}
-use Rattle.std.specs.Prelude.{All, filter, flat_map, int_lt, unsigned_abs, if◌then◌else◌, Option, Some, None}
+use Rattle.std.proofs.Common.{◌≡◌, ℕ, ◌+◌, ◌≤◌, List, [], ◌∷◌, ◌++◌, map, refl, arith, Bool, false, ℤ, pos, negsuc, ◌+ℤ◌, ◌-ℤ◌, ◌*ℤ◌, inl, inr, zero, suc}
+use Rattle.std.specs.Prelude.{All, filter, flat_map, int_lt, unsigned_abs, if◌then◌else◌, Some}
 use Rattle.std.specs.List.{list_any}
 use Rattle.std.proofs.lemmas.Int.{ints}
-use Rattle.std.proofs.lemmas.Bool.{cases_Bool, ltb-true, ltb-false}
-use Rattle.std.proofs.lemmas.List.Elements.{All-head, All-tail, All-nil, All-cons, All-map, All-filter, All-weaker, All-get_or}
+use Rattle.std.proofs.lemmas.Bool.{cases_Bool}
+use Rattle.std.proofs.lemmas.List.Elements.{All-head, All-tail, All-nil, All-cons}
 use Rattle.cal_moment.specs.declared.stamp.Stamp.{Stamp}
 use Rattle.cal_moment.specs.declared.stamp.Stamp.TheVariants.{Date, Floating, Zoned, Utc}
 use Rattle.cal_moment.specs.declared.stamp.Length.{Length}
@@ -16,7 +16,6 @@ use Rattle.cal_model.specs.declared.object.Extent.{Extent}
 use Rattle.cal_model.specs.declared.object.Extent.TheVariants as extent
 use Rattle.cal_model.specs.declared.zone.ZoneTable.{ZoneTable}
 use Rattle.cal_model.specs.Numbers.{greatest_of, same_int}
-use Rattle.cal_model.specs.Zones.{instant_of, local_at}
 use Rattle.cal_model.specs.Alignment.{utc_zone, zone_of, reading_of, value_of, kind_of, plus_length, align, start_on, written_value}
 use Rattle.cal_model.specs.Starts.{own_start, end_of_extent, end_of_period, end_of_instance, rule_starts, plain_starts, period_starts, date_start, latest_of, is_date}
 use Rattle.cal_model.specs.Overlap.{in_zone, seconds_of}
@@ -135,11 +134,11 @@ period_ends-near zones s r most (p ∷ ps) all timed each small =
     let rest = period_ends-near zones s r most ps all timed (All-tail IsTimed p ps each) (All-tail (λ n. n ≤ most) (length_to zones p.start p.end) (map (λ (p : Period). length_to zones p.start p.end) ps) small) in
     elim (cases_Bool (same_int r (date_start zones s p.start))) [
       | inl w ↦ rw w (
-        let same : r ≡ date_start zones s p.start = same_int-true r (date_start zones s p.start) w in
-        let moment = All-head IsTimed p ps each in
-        let near = wider (length_to zones p.start p.end) most _ _ (All-head (λ n. n ≤ most) (length_to zones p.start p.end) (map (λ (p : Period). length_to zones p.start p.end) ps) small) (period_end-near zones s p.start p.end all timed moment.start moment.end) in
-        let here : IsNear (172800 + most) (end_of_period zones s r p.end) r = rw same near in
-        All-cons (λ e. IsNear (172800 + most) e r) (end_of_period zones s r p.end) _ here rest)
+          let same : r ≡ date_start zones s p.start = same_int-true r (date_start zones s p.start) w in
+          let moment = All-head IsTimed p ps each in
+          let near = wider (length_to zones p.start p.end) most _ _ (All-head (λ n. n ≤ most) (length_to zones p.start p.end) (map (λ (p : Period). length_to zones p.start p.end) ps) small) (period_end-near zones s p.start p.end all timed moment.start moment.end) in
+          let here : IsNear (172800 + most) (end_of_period zones s r p.end) r = rw same near in
+          All-cons (λ e. IsNear (172800 + most) e r) (end_of_period zones s r p.end) _ here rest)
       | inr w ↦ rw w rest
     ]
 

@@ -1,23 +1,23 @@
 -- The rows of windows: each dated row lies in one, the rows of several windows are those of the whole list whose nominal start lies in them, and their moments lie near.
-use Rattle.std.proofs.Common.{◌≡◌, ℕ, zero, suc, ◌+◌, ◌<◌, ◌≤◌, List, [], ◌∷◌, ◌++◌, map, refl, sym, ◌∙◌, ap, arith, Bool, true, false, ℤ, pos, negsuc, ◌+ℤ◌, ◌-ℤ◌, ◌*ℤ◌, ◌<ℤ◌, ◌≤ℤ◌, ◌⊎◌, inl, inr}
+use Rattle.std.proofs.Common.{◌≡◌, ℕ, List, [], ◌∷◌, ◌++◌, refl, sym, ◌∙◌, ap, arith, Bool, true, false, ℤ, pos, ◌+ℤ◌, ◌-ℤ◌, ◌*ℤ◌, ◌<ℤ◌, ◌≤ℤ◌, ◌⊎◌, inl, inr}
 use Rattle.std.specs.Prelude.{All, AllPairs, Contains, filter, flat_map, int_lt, int_le, ◌&&◌, if◌then◌else◌}
 use Rattle.std.specs.Int.{int_div_euclid}
 use Rattle.std.specs.List.{list_any}
-use Rattle.std.proofs.lemmas.Int.{ints, by_lt_z}
+use Rattle.std.proofs.lemmas.Int.{ints}
 use Rattle.std.proofs.lemmas.Bool.{cases_Bool}
-use Rattle.std.proofs.lemmas.List.Elements.{All-head, All-tail, All-nil, All-cons, All-append, All-weaker, All-filter, All-contains_itself, filter_passes, Contains-append_left, Contains-append_right, Contains-append_cases}
+use Rattle.std.proofs.lemmas.List.Elements.{All-head, All-tail, All-append, All-weaker, All-filter, All-contains_itself, filter_passes, Contains-append_left, Contains-append_right, Contains-append_cases}
 use Rattle.cal_moment.specs.declared.stamp.Stamp.{Stamp}
 use Rattle.cal_model.specs.declared.object.Object.{Object}
 use Rattle.cal_model.specs.declared.row.Row.{Row}
 use Rattle.cal_model.specs.declared.zone.ZoneTable.{ZoneTable}
 use Rattle.cal_model.specs.Numbers.{same_int}
 use Rattle.cal_model.specs.Alignment.{reading_of}
-use Rattle.cal_model.specs.Rows.{in_order, is_dated, rows_over, rows_in_over, lies_in_window, window_of, window_seconds, nominal_start}
+use Rattle.cal_model.specs.Rows.{in_order, is_dated, rows_over, rows_in_over, lies_in_window, window_of, window_seconds}
 use Rattle.cal_model.specs.Nearness.{HasShortOffsets}
 use Rattle.cal_model.proofs.Everywhere.{same_int-self, same_int-true}
 use Rattle.cal_model.proofs.RowBounds.{local-instant-near}
 use Rattle.cal_model.proofs.NearRanges.{window-holds}
-use Rattle.cal_model.proofs.RisingLists.{IsBefore, HasOtherKey, AllPairs-cons, AllPairs-head, AllPairs-tail, All-member, Contains-here, Contains-there, Contains-split, in_order-is}
+use Rattle.cal_model.proofs.RisingLists.{IsBefore, HasOtherKey, AllPairs-cons, AllPairs-head, AllPairs-tail, All-member, Contains-there, Contains-split, in_order-is}
 
 -- Filters.
 
@@ -168,7 +168,7 @@ dated_member moments object row c dated = Contains-filter is_dated row (rows_ove
 window_rising : (moments : List ℕ) (object : Object) (window : ℤ) → HasRowsInOrder moments object → AllPairs IsBefore (rows_in_over moments object window)
 window_rising moments object window up =
     rw (filter-within is_dated (lies_in_window object window) (λ row h. (lies_in_window-one object window row h).0) (rows_over moments object)) at
-        (AllPairs-filter IsBefore (lies_in_window object window) (filter is_dated (rows_over moments object)) up)
+    (AllPairs-filter IsBefore (lies_in_window object window) (filter is_dated (rows_over moments object)) up)
 
 windows_apart : (moments : List ℕ) (object : Object) (windows : List ℤ) → HasRowsInOrder moments object → AllPairs AreApart windows → AllPairs HasOtherKey (flat_map (rows_in_over moments object) windows)
 windows_apart moments object [] up apart = λ i j d lt below. absurd (omega (arith, below))
@@ -211,7 +211,7 @@ pub in_order-windows : (moments : List ℕ) (object : Object) (windows : List �
 in_order-windows moments object windows up apart =
     in_order-is (filter (lies_in_some object windows) (rows_over moments object)) (flat_map (rows_in_over moments object) windows)
     (rw (filter-within is_dated (lies_in_some object windows) (λ row h. (if_some_dated object windows row h).0) (rows_over moments object)) at
-        (AllPairs-filter IsBefore (lies_in_some object windows) (filter is_dated (rows_over moments object)) up))
+    (AllPairs-filter IsBefore (lies_in_some object windows) (filter is_dated (rows_over moments object)) up))
     (windows_apart moments object windows up apart)
     (λ row c. let both = Contains-unfilter (lies_in_some object windows) row (rows_over moments object) c in
     let lies = if_some_dated object windows row both.0 in
