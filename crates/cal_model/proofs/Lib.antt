@@ -13,6 +13,7 @@ pub mod RowBounds
 pub mod NearRows
 pub mod NearRanges
 pub mod WindowLaws
+pub mod RowsInOrder
 mod Samples
 mod TextExamples
 mod ReplyExamples

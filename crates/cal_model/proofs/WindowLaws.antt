@@ -113,7 +113,7 @@ rising-members (x ∷ xs) a b up c d = elim (Contains-split x a xs c) [
 All-from_members : {X : Type 0} (P : X → Type 0) (xs : List X) → ((x : X) → Contains xs x → P x) → All P xs
 All-from_members P xs h = All-weaker (Contains xs) P h xs (All-contains_itself xs)
 
-AllPairs-append : {X : Type 0} (R : X → X → Type 0) (xs ys : List X) → AllPairs R xs → AllPairs R ys → All (λ x. All (R x) ys) xs → AllPairs R (xs ++ ys)
+pub AllPairs-append : {X : Type 0} (R : X → X → Type 0) (xs ys : List X) → AllPairs R xs → AllPairs R ys → All (λ x. All (R x) ys) xs → AllPairs R (xs ++ ys)
 AllPairs-append R [] ys up on across = on
 AllPairs-append R (x ∷ xs) ys up on across =
     AllPairs-cons R x (xs ++ ys) (All-append (R x) xs ys (AllPairs-head R x xs up) (All-head (λ x. All (R x) ys) x xs across))
