@@ -27,13 +27,14 @@ use Rattle.cal_model.specs.declared.zone.ZoneTable.{ZoneTable}
 use Rattle.cal_model.specs.Numbers.{counted_from}
 use Rattle.cal_model.specs.Alignment.{reading_of}
 use Rattle.cal_model.specs.Starts.{own_start, own_start_of}
-use Rattle.cal_model.specs.Rows.{is_dated, rows_over, nominal_start, window_of, window_seconds}
+use Rattle.cal_model.specs.Rows.{Numbered, is_dated, rows_over, nominal_start, window_of, window_seconds}
+use Rattle.cal_model.specs.LaterRows.{later_rows_over}
 use Rattle.cal_model.specs.Overlap.{Line, spans, begins, lasts, runs_to_due, due_alone, completed_and_created, completed, created, stated, stored, always, never, holds, is_positive, line_of, line_of_kind, line_of_event, line_of_todo, line_of_journal, line_of_free_busy, in_zone, fixed, lasts_its_day, row_for_range, row_overlaps, dated_fixed, seconds_of, has_end, moment_related, is_in, some_trigger, alarm_overlaps}
 use Rattle.cal_model.specs.Cost.{longest, alarm_reach, alarms_reach, margin, window_meets}
-use Rattle.cal_model.specs.Nearness.{IsNear, HasShortOffsets, HasNearRows}
+use Rattle.cal_model.specs.Nearness.{IsNear, HasShortOffsets, HasNearRows, MeetsNear, GoesOffNear}
 use Rattle.cal_model.proofs.RowBounds.{in_zone-near}
 use Rattle.cal_model.proofs.Everywhere.{All-each_part, All-unmap, All-slice_get, All-greatest}
-use Rattle.cal_model.proofs.NearRows.{IsRowOf, rows-of_components}
+use Rattle.cal_model.proofs.NearRows.{IsRowOf, rows-of_components, later_rows-of_components}
 
 -- Windows.
 
@@ -260,27 +261,35 @@ alarm_overlaps-near object row zone range k alarm r length near short is there f
 pub component-is : (object : Object) (row : Row) (c : Component) (is : IsRowOf object row) → slice_get object.components row.component ≡ Some c → is.component ≡ c
 component-is object row c is found = let there = is.found in cc
 
+meets_near : (object : Object) (zone : ZoneTable) (range : Range) → HasNearRows object → HasShortOffsets zone → (row : Row) → (is_dated row ≡ true → IsRowOf object row) → MeetsNear object zone range row
+meets_near object zone range near short row of c found dated meets =
+    row_overlaps-near object row zone range near short (of dated) (rw (component-is object row c (of dated) found) meets)
+
+goes_off_near : (object : Object) (zone : ZoneTable) (range : Range) → HasNearRows object → HasShortOffsets zone → (row : Row) → (is_dated row ≡ true → IsRowOf object row) → GoesOffNear object zone range row
+goes_off_near object zone range near short row of c k alarm r length found there from meets = elim (cases_Bool (is_dated row)) [
+  | inl dated ↦ (let same = component-is object row c (of dated) found in alarm_overlaps-near object row zone range k alarm r length near short (of dated) (rw same there) from (rw same (rw dated at meets)))
+  | inr undated ↦ absurd (no_moment r undated from meets)
+]
+  where
+    no_moment : (r : Related) → is_dated row ≡ false → alarm.trigger ≡ trigger.From r length → alarm_overlaps alarm c (dated_fixed row zone) range ≡ true → ⊥
+    no_moment related.Start undated from meets = let e = rw (undated, from) at meets in absurd cc
+    no_moment related.End undated from meets = let e = rw (undated, from) at meets in absurd cc
+
 -- a range meets only rows whose windows it meets once it is widened by the margin
-pub rows-near : (moments : List ℕ) (object : Object) (zone : ZoneTable) (range : Range) → HasNearRows object → HasShortOffsets zone →
-    All (λ row. (c : Component) → slice_get object.components row.component ≡ Some c → is_dated row ≡ true → row_overlaps c row range zone ≡ true → window_meets (margin object) range (window_of object row) ≡ true) (rows_over moments object)
+pub rows-near : (moments : List ℕ) (object : Object) (zone : ZoneTable) (range : Range) → HasNearRows object → HasShortOffsets zone → All (MeetsNear object zone range) (rows_over moments object)
 rows-near moments object zone range near short =
-    All-weaker (λ row. is_dated row ≡ true → IsRowOf object row)
-    (λ row. (c : Component) → slice_get object.components row.component ≡ Some c → is_dated row ≡ true → row_overlaps c row range zone ≡ true → window_meets (margin object) range (window_of object row) ≡ true)
-    (λ row of c found dated meets. row_overlaps-near object row zone range near short (of dated) (rw (component-is object row c (of dated) found) meets))
-    (rows_over moments object) (rows-of_components moments object near)
+    All-weaker (λ row. is_dated row ≡ true → IsRowOf object row) (MeetsNear object zone range) (meets_near object zone range near short) (rows_over moments object) (rows-of_components moments object near)
 
 -- and only alarms of such rows, where they count from the row
-pub alarms-near : (moments : List ℕ) (object : Object) (zone : ZoneTable) (range : Range) → HasNearRows object → HasShortOffsets zone →
-    All (λ row. (c : Component) (k : ℕ) (alarm : Alarm) (r : Related) (length : Length) → slice_get object.components row.component ≡ Some c → slice_get c.alarms k ≡ Some alarm → alarm.trigger ≡ trigger.From r length → alarm_overlaps alarm c (dated_fixed row zone) range ≡ true → window_meets (margin object) range (window_of object row) ≡ true) (rows_over moments object)
+pub alarms-near : (moments : List ℕ) (object : Object) (zone : ZoneTable) (range : Range) → HasNearRows object → HasShortOffsets zone → All (GoesOffNear object zone range) (rows_over moments object)
 alarms-near moments object zone range near short =
-    All-weaker (λ row. is_dated row ≡ true → IsRowOf object row)
-    (λ row. (c : Component) (k : ℕ) (alarm : Alarm) (r : Related) (length : Length) → slice_get object.components row.component ≡ Some c → slice_get c.alarms k ≡ Some alarm → alarm.trigger ≡ trigger.From r length → alarm_overlaps alarm c (dated_fixed row zone) range ≡ true → window_meets (margin object) range (window_of object row) ≡ true)
-    (λ row of c k alarm r length found there from meets. elim (cases_Bool (is_dated row)) [
-      | inl dated ↦ (let same = component-is object row c (of dated) found in alarm_overlaps-near object row zone range k alarm r length near short (of dated) (rw same there) from (rw same (rw dated at meets)))
-      | inr undated ↦ absurd (no_moment row c alarm r length undated from meets)
-    ])
-    (rows_over moments object) (rows-of_components moments object near)
-  where
-    no_moment : (row : Row) (c : Component) (alarm : Alarm) (r : Related) (length : Length) → is_dated row ≡ false → alarm.trigger ≡ trigger.From r length → alarm_overlaps alarm c (dated_fixed row zone) range ≡ true → ⊥
-    no_moment row c alarm related.Start length undated from meets = let e = rw (undated, from) at meets in absurd cc
-    no_moment row c alarm related.End length undated from meets = let e = rw (undated, from) at meets in absurd cc
+    All-weaker (λ row. is_dated row ≡ true → IsRowOf object row) (GoesOffNear object zone range) (goes_off_near object zone range near short) (rows_over moments object) (rows-of_components moments object near)
+
+-- the same where overrides move all later instances
+pub later_rows-near : (future : Numbered → Bool) (moments : List ℕ) (object : Object) (zone : ZoneTable) (range : Range) → HasNearRows object → HasShortOffsets zone → All (MeetsNear object zone range) (later_rows_over future moments object)
+later_rows-near future moments object zone range near short =
+    All-weaker (λ row. is_dated row ≡ true → IsRowOf object row) (MeetsNear object zone range) (meets_near object zone range near short) (later_rows_over future moments object) (later_rows-of_components future moments object near)
+
+pub later_alarms-near : (future : Numbered → Bool) (moments : List ℕ) (object : Object) (zone : ZoneTable) (range : Range) → HasNearRows object → HasShortOffsets zone → All (GoesOffNear object zone range) (later_rows_over future moments object)
+later_alarms-near future moments object zone range near short =
+    All-weaker (λ row. is_dated row ≡ true → IsRowOf object row) (GoesOffNear object zone range) (goes_off_near object zone range near short) (later_rows_over future moments object) (later_rows-of_components future moments object near)
