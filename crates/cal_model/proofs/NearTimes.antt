@@ -1,14 +1,15 @@
--- Where offsets are below a day, an instant lies within a day of its local time.
-use Rattle.std.proofs.Common.{List, [], ◌∷◌, map, arith, ℤ, pos, ◌-ℤ◌, inl, inr}
-use Rattle.std.specs.Prelude.{All, filter, int_le, int_lt}
+-- Where offsets are below a day, an instant lies within a day of its local time; a local time that exists comes back as it was.
+use Rattle.std.proofs.Common.{◌≡◌, true, List, [], ◌∷◌, map, arith, ℤ, pos, ◌-ℤ◌, inl, inr}
+use Rattle.std.specs.Prelude.{All, not, filter, int_le, int_lt}
 use Rattle.std.proofs.lemmas.Int.{ints}
 use Rattle.std.proofs.lemmas.Bool.{cases_Bool}
-use Rattle.std.proofs.lemmas.List.Elements.{All-head, All-tail, All-cons, All-map, All-filter, All-weaker}
+use Rattle.std.proofs.lemmas.List.Elements.{All-head, All-tail, All-cons, All-map, All-filter, All-weaker, filter_passes}
 use Rattle.cal_model.specs.declared.zone.Onset.{Onset}
 use Rattle.cal_model.specs.declared.zone.ZoneTable.{ZoneTable}
 use Rattle.cal_model.specs.Nearness.{IsNear, HasShortOffsets}
-use Rattle.cal_model.specs.Numbers.{last_or_else, least_of, same_int}
-use Rattle.cal_model.specs.Zones.{offset_at, local_at, instant_of, offsets, instants_of, onsets_past, after_gap, least_or_after_gap}
+use Rattle.cal_model.specs.Numbers.{last_or_else, least_of, same_int, is_empty}
+use Rattle.cal_model.proofs.Everywhere.{same_int-true}
+use Rattle.cal_model.specs.Zones.{offset_at, local_at, instant_of, offsets, instants_of, onsets_past, after_gap, least_or_after_gap, exists_in}
 
 pub last_or_else-holds : {X : Type 0} (P : X → Type 0) (none : X) (xs : List X) → P none → All P xs → P (last_or_else none xs)
 last_or_else-holds P none [] p all = p
@@ -54,3 +55,19 @@ least_or_after_gap-near table l (u ∷ us) short all =
 pub instant_of-near : (table : ZoneTable) (l : ℤ) → HasShortOffsets table → IsNear 86400 (instant_of table l) l
 unfolding instant_of
 instant_of-near table l short = least_or_after_gap-near table l (instants_of table l) short (candidates-near table l short)
+
+-- A local time that the zone's clock shows comes back from its instant as it was. So only a DTSTART that is skipped lies elsewhere than its digits.
+
+all_show : (table : ZoneTable) (l : ℤ) → All (λ u. local_at table u ≡ l) (instants_of table l)
+all_show table l =
+    All-weaker (λ u. same_int (local_at table u) l ≡ true) (λ u. local_at table u ≡ l) (λ u h. same_int-true (local_at table u) l h) (instants_of table l)
+    (filter_passes (λ u. same_int (local_at table u) l) (map (λ o. l -ℤ o) (offsets table)))
+
+least_shows : (table : ZoneTable) (l : ℤ) (found : List ℤ) → not (is_empty found) ≡ true → All (λ u. local_at table u ≡ l) found → local_at table (least_or_after_gap table l found) ≡ l
+least_shows table l [] some all = absurd cc
+least_shows table l (u ∷ us) some all =
+    least_of-holds (λ u. local_at table u ≡ l) u us (All-head (λ u. local_at table u ≡ l) u us all) (All-tail (λ u. local_at table u ≡ l) u us all)
+
+pub local_at-instant_of : (table : ZoneTable) (l : ℤ) → exists_in table l ≡ true → local_at table (instant_of table l) ≡ l
+unfolding instant_of exists_in
+local_at-instant_of table l some = least_shows table l (instants_of table l) some (all_show table l)

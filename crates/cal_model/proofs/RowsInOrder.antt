@@ -1,6 +1,6 @@
 -- The dated rows of an object with one master at most stand in order, no key twice.
-use Rattle.std.proofs.Common.{◌≡◌, ℕ, zero, suc, ◌+◌, ◌<◌, ◌≤◌, List, [], ◌∷◌, ◌++◌, map, length, get_or, refl, sym, ◌∙◌, ap, arith, Bool, true, false, ℤ, ◌<ℤ◌, inl, inr}
-use Rattle.std.specs.Prelude.{All, AllPairs, filter, flat_map, not, nat_lt, slice_get, option_to_list, is_none, Option, Some, None, if◌then◌else◌}
+use Rattle.std.proofs.Common.{◌≡◌, ℕ, ◌+◌, ◌<◌, ◌≤◌, List, [], ◌∷◌, ◌++◌, map, length, get_or, refl, sym, ◌∙◌, ap, arith, Bool, true, false, ℤ, inl, inr}
+use Rattle.std.specs.Prelude.{All, AllPairs, filter, flat_map, not, nat_lt, slice_get, option_to_list, is_none, Option, Some, None}
 use Rattle.std.proofs.lemmas.Int.{ints, by_lt_z}
 use Rattle.std.proofs.lemmas.Bool.{cases_Bool, ltb-true, ltb-false}
 use Rattle.std.proofs.lemmas.List.{append-nil}
@@ -11,7 +11,7 @@ use Rattle.cal_model.specs.declared.object.Object.{Object}
 use Rattle.cal_model.specs.declared.row.Row.{Row}
 use Rattle.cal_model.specs.Alignment.{align, value_of, kind_of}
 use Rattle.cal_model.specs.Starts.{own_start, recurs, is_excepted, plain_starts, period_starts, ascending, starts_from, starts_of, end_from, end_of_instance}
-use Rattle.cal_model.specs.Rows.{Numbered, numbered_from, numbered, has_id, overrides, masters, ids_start, named_by, is_named, id_of_override, row_of, undated_row, undated_rows, is_dated, starts, master_row, row_at, override_row, override_row_from, dated_rows, rows_over}
+use Rattle.cal_model.specs.Rows.{Numbered, numbered_from, numbered, has_id, overrides, masters, ids_start, named_by, is_named, id_of_override, row_of, undated_row, undated_rows, is_dated, starts, master_row, row_at, override_row, override_row_from, merged, dated_rows}
 use Rattle.cal_model.proofs.Everywhere.{All-everywhere, All-flat_map, All-numbered_from}
 use Rattle.cal_model.proofs.RisingLists.{IsBelow, IsBefore, by_id, by_component, HasOtherKey, AllPairs-cons, AllPairs-head, AllPairs-tail, in_order-rising, ascending-rising}
 use Rattle.cal_model.proofs.WindowLaws.{AllPairs-filter, AllPairs-append, HasRowsInOrder}
@@ -222,3 +222,28 @@ pub rows-in_order : (moments : List ℕ) (object : Object) → length (masters o
 rows-in_order moments object one =
     rw (filter-append, filter-none is_dated (undated_rows object) (All-map (λ row. is_dated row ≡ false) undated_row (filter (λ (n : Numbered). is_none (own_start n.component)) (numbered object)) (All-everywhere (λ n. is_dated (undated_row n) ≡ false) (λ n. refl) (filter (λ (n : Numbered). is_none (own_start n.component)) (numbered object)))))
     (AllPairs-filter IsBefore is_dated (flat_map (dated_rows (row_at moments object) moments object) (option_to_list (ids_start object))) (all_rising moments object (ids_start object) one))
+
+-- The ids of the instances are the starts, so a merge needs the instances alone.
+
+ids_of_master : (moments : List ℕ) (object : Object) (ids : Stamp) (n : Numbered) (own : Option Stamp) → (all : List ℤ) → (own ≡ None → all ≡ []) →
+    map (λ (r : Row). r.id) (flat_map (λ q. map (λ s. row_of q q (end_of_instance moments object.zones s n.component q) n.number (kind_of ids) (kind_of s)) (option_to_list own) ++ []) all) ≡ all
+ids_of_master moments object ids n None all none = let e = none refl in rw e refl
+ids_of_master moments object ids n (Some s) [] none = refl
+ids_of_master moments object ids n (Some s) (q ∷ qs) none = ap (λ rest. q ∷ rest) (ids_of_master moments object ids n (Some s) qs (λ e. absurd cc))
+
+no_starts : (moments : List ℕ) (object : Object) (n : Numbered) → own_start n.component ≡ None → starts_of moments object.zones n.component ++ [] ≡ []
+no_starts moments object n e = rw e refl
+
+ids_of_masters : (moments : List ℕ) (object : Object) (ids : Stamp) (ns : List Numbered) → length ns ≤ 1 →
+    map (λ (r : Row). r.id) (flat_map (rows_of_masters moments object ids ns) (flat_map (λ (n : Numbered). starts_of moments object.zones n.component) ns)) ≡ flat_map (λ (n : Numbered). starts_of moments object.zones n.component) ns
+ids_of_masters moments object ids [] le = refl
+ids_of_masters moments object ids (n ∷ []) le = ids_of_master moments object ids n (own_start n.component) (starts_of moments object.zones n.component ++ []) (no_starts moments object n)
+ids_of_masters moments object ids (n ∷ m ∷ ns) le = absurd (omega (arith, le))
+
+-- the instances of the master at all its starts
+abbrev pub instances : List ℕ → Object → Stamp → List Row
+instances moments object ids = flat_map (row_at moments object ids (starts moments object)) (starts moments object)
+
+pub dated_rows-merged : (moments : List ℕ) (object : Object) (ids : Stamp) → length (masters object) ≤ 1 →
+    dated_rows (row_at moments object) moments object ids ≡ merged object ids (map (λ (r : Row). r.id) (instances moments object ids)) (instances moments object ids)
+dated_rows-merged moments object ids one = rw (ids_of_masters moments object ids (masters object) one) refl

@@ -50,4 +50,4 @@ MeetsNear object zone range row =
 abbrev pub GoesOffNear : Object → ZoneTable → Range → Row → Type 0
 GoesOffNear object zone range row =
     (c : Component) (k : ℕ) (alarm : Alarm) (r : Related) (length : Length) →
-        slice_get object.components row.component ≡ Some c → slice_get c.alarms k ≡ Some alarm → alarm.trigger ≡ From r length → alarm_overlaps alarm c (dated_fixed row zone) range ≡ true → window_meets (margin object) range (window_of object row) ≡ true
+    slice_get object.components row.component ≡ Some c → slice_get c.alarms k ≡ Some alarm → alarm.trigger ≡ From r length → alarm_overlaps alarm c (dated_fixed row zone) range ≡ true → window_meets (margin object) range (window_of object row) ≡ true

@@ -120,6 +120,11 @@ abbrev pub merged : Object → Stamp → List ℤ → List Row → List Row
 merged object ids all instances =
     in_order (flat_map (override_row object ids all) (overrides object) ++ filter (λ (r : Row). not (is_named object ids r.id)) instances)
 
+-- the same over the instances alone, whose ids are their starts
+abbrev pub merged_with : Object → List Row → List Row
+merged_with object instances =
+    flat_map (λ ids. merged object ids (map (λ (r : Row). r.id) instances) instances) (option_to_list (ids_start object))
+
 -- the rows that have a date, where `row` gives that of a start beside all starts
 abbrev pub dated_rows : (Stamp → List ℤ → ℤ → List Row) → List ℕ → Object → Stamp → List Row
 dated_rows row moments object ids =
