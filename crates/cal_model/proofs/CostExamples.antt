@@ -18,7 +18,7 @@ use Rattle.cal_model.proofs.RowExamples.{event, object_of, instant_row, days_and
 use Rattle.cal_model.specs.Alignment.{utc_zone}
 use Rattle.cal_model.specs.Rows.{rows_in_over}
 use Rattle.cal_model.specs.Overlap.{row_overlaps}
-use Rattle.cal_model.specs.Cost.{cost_over, margin, window_meets}
+use Rattle.cal_model.specs.Cost.{cost_over, margin, window_meets, is_looked_at}
 
 abbrev pub from_new_year : List ℕ
 from_new_year = daily_at 32400 (day_of_date 2025 1 1) 200
@@ -77,3 +77,10 @@ of_period = refl
 counted : cost_over [] (object_of (record (event (Some (utc 2025 1 1 9 0)) extent.Point) { dates = utc 2025 1 2 9 0 ∷ utc 2025 1 3 9 0 ∷ []; periods = record { start = utc 2025 1 4 9 0; end = At (utc 2025 1 5 9 0) } ∷ [] }
     ∷ record (event None extent.Point) { recurrence_id = Some (utc 2025 1 1 9 0); rules = each Daily ∷ [] } ∷ [])) (pos 314) ≡ 7
 counted = refl
+
+-- an override that moved to June is looked for there, in window 316, whatever the range is
+abbrev pub far_override : Object
+far_override = object_of (event (Some (utc 2025 3 25 9 0)) extent.Point ∷ record (event (Some (utc 2025 6 2 9 0)) extent.Point) { recurrence_id = Some (utc 2025 3 25 9 0) } ∷ [])
+
+looked_at : (is_looked_at far_override near_its_end (pos 316) ≡ true) × (is_looked_at far_override near_its_end (pos 315) ≡ true) × (is_looked_at far_override near_its_end (pos 314) ≡ false)
+looked_at = (refl, refl, refl)

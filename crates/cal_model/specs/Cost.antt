@@ -1,5 +1,6 @@
--- What the expansion of an object over a window costs, and how far rows reach beyond their starts.
-use Rattle.std.specs.Prelude.{ℕ, suc, ◌+◌, ◌*◌, Bool, false, ◌&&◌, nat_le, if◌then◌else◌, List, [], ◌∷◌, map, filter_map, flat_map, option_to_list, length, sum, count_by, max, ℤ, pos, ◌+ℤ◌, ◌-ℤ◌, ◌*ℤ◌, int_lt, unsigned_abs, Option, Some, None}
+-- What it costs to find the rows of an object in a window, and in which windows they are looked for. From RFC 4791, 7.8 and 9.9.
+-- A count over the whole list of moments, and a sum of three lengths. No walk over periods or windows is retraced.
+use Rattle.std.specs.Prelude.{ℕ, suc, ◌+◌, ◌*◌, Bool, false, ◌&&◌, ◌||◌, nat_le, if◌then◌else◌, List, [], ◌∷◌, map, filter_map, flat_map, option_to_list, length, sum, count_by, max, ℤ, pos, ◌+ℤ◌, ◌-ℤ◌, ◌*ℤ◌, int_lt, unsigned_abs, Option, Some, None}
 use Rattle.cal_moment.specs.Calendar.{epoch_day, day_of_moment, moment_of_seconds}
 use Rattle.cal_moment.specs.declared.stamp.Stamp.{Stamp}
 use Rattle.cal_moment.specs.declared.stamp.Period.{Period}
@@ -15,11 +16,14 @@ use Rattle.cal_model.specs.declared.object.Alarm.{Alarm}
 use Rattle.cal_model.specs.declared.object.Trigger.{Trigger}
 use Rattle.cal_model.specs.declared.object.Trigger.TheVariants as trigger
 use Rattle.cal_model.specs.declared.row.Range.{Range}
+use Rattle.std.specs.Int.{int_div_euclid}
+use Rattle.std.specs.List.{list_any}
+use Rattle.cal_model.specs.Numbers.{same_int}
 use Rattle.cal_model.specs.Passing.{passes, period_number}
 use Rattle.cal_model.specs.RecurrenceSet.{every_moment}
-use Rattle.cal_model.specs.Alignment.{Aligned, at, on_day, value_of, written_moment}
+use Rattle.cal_model.specs.Alignment.{Aligned, at, on_day, reading_of, value_of, written_moment}
 use Rattle.cal_model.specs.Overlap.{seconds_of}
-use Rattle.cal_model.specs.Rows.{is_date, own_start, overrides, ids_start, named_by, window_seconds}
+use Rattle.cal_model.specs.Rows.{Numbered, is_date, own_start, overrides, ids_start, named_by, window_seconds}
 
 -- Cost.
 
@@ -109,3 +113,15 @@ margin object = 345_600 + (longest object + alarms_reach object)
 abbrev pub window_meets : ℕ → Range → ℤ → Bool
 window_meets by range window =
     int_lt (range.start.0 -ℤ pos by) ((window +ℤ pos 1) *ℤ window_seconds) && int_lt (window *ℤ window_seconds) (range.end.0 +ℤ pos by)
+
+-- the start of some override lies in a window
+abbrev pub start_window : List ZoneTable → Stamp → ℤ
+start_window zones s = int_div_euclid ((reading_of zones s).local (value_of zones s)) window_seconds
+
+abbrev pub holds_override : Object → ℤ → Bool
+holds_override object window =
+    list_any (λ (n : Numbered). list_any (λ s. same_int (start_window object.zones s) window) (option_to_list (own_start n.component))) (overrides object)
+
+-- the windows in which the rows that matter for a range are looked for: those that the range meets once it is widened by the margin, and those that hold the start of an override
+abbrev pub is_looked_at : Object → Range → ℤ → Bool
+is_looked_at object range window = window_meets (margin object) range window || holds_override object window
