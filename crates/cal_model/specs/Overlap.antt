@@ -36,17 +36,27 @@ use Rattle.cal_model.specs.Rows.{is_dated}
 -- The lines.
 
 pub data Line : Type 0 where
+  -- an event up to its end, or a day of an event or a journal
   spans : Line
+  -- its start alone: an event that takes no time, a to-do with DTSTART alone, a journal at a time
   begins : Line
+  -- a to-do from DTSTART for a DURATION
   lasts : Line
+  -- a to-do from DTSTART to DUE
   runs_to_due : Line
+  -- a to-do with DUE and no DTSTART
   due_alone : Line
+  -- a to-do without a start, by COMPLETED and CREATED, or by the one that it has
   completed_and_created : ℤ → ℤ → Line
   completed : ℤ → Line
   created : ℤ → Line
+  -- a VFREEBUSY from DTSTART to DTEND
   stated : Line
+  -- another VFREEBUSY, by its periods
   stored : List (ℤ × ℤ) → Line
+  -- a to-do without any of these dates
   always : Line
+  -- an event or a journal without DTSTART
   never : Line
 
 -- some period of a list meets the range from a to b
@@ -74,6 +84,7 @@ holds never a b s e = false
 abbrev pub is_positive : Length → Bool
 is_positive length = int_lt (pos 0) length.days || int_lt (pos 0) length.seconds
 
+-- an event, by DTSTART and its end
 abbrev pub line_of_event : Option Stamp → Extent → Line
 line_of_event None end = never
 line_of_event (Some s) (extent.End e) = spans
@@ -81,12 +92,14 @@ line_of_event (Some s) (extent.Lasting length) = if is_positive length then span
 line_of_event (Some s) extent.WholeDay = spans
 line_of_event (Some s) other = begins
 
+-- a to-do by COMPLETED and CREATED
 abbrev pub line_of_dates : Option Utc → Option Utc → Line
 line_of_dates (Some done) (Some made) = completed_and_created done.0 made.0
 line_of_dates (Some done) None = completed done.0
 line_of_dates None (Some made) = created made.0
 line_of_dates None None = always
 
+-- a to-do, by DTSTART and its end, else by its other dates; a DURATION without DTSTART counts for nothing
 abbrev pub line_of_todo : Option Stamp → Extent → Line → Line
 line_of_todo (Some s) (extent.Lasting length) by_dates = lasts
 line_of_todo (Some s) (extent.Due e) by_dates = runs_to_due
@@ -94,11 +107,13 @@ line_of_todo (Some s) other by_dates = begins
 line_of_todo None (extent.Due e) by_dates = due_alone
 line_of_todo None other by_dates = by_dates
 
+-- a journal, by DTSTART
 abbrev pub line_of_journal : Option Stamp → Line
 line_of_journal None = never
 line_of_journal (Some (Date d)) = spans
 line_of_journal (Some other) = begins
 
+-- a VFREEBUSY, by DTSTART and DTEND, else by its periods
 abbrev pub line_of_free_busy : Option Stamp → Extent → List (ℤ × ℤ) → Line
 line_of_free_busy (Some s) (extent.End e) periods = stated
 line_of_free_busy other end periods = stored periods
@@ -115,6 +130,7 @@ period_end start (After length) = start +ℤ seconds_of length
 abbrev pub stored_period : Period → ℤ × ℤ
 stored_period p = (written_value p.start, period_end (written_value p.start) p.end)
 
+-- the line that fits a component
 abbrev pub line_of_kind : Kind → Component → Line
 line_of_kind Event c = line_of_event c.start c.extent
 line_of_kind Todo c = line_of_todo c.start c.extent (line_of_dates c.completed c.created)
