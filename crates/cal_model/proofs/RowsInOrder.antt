@@ -11,10 +11,10 @@ use Rattle.cal_model.specs.declared.object.Object.{Object}
 use Rattle.cal_model.specs.declared.row.Row.{Row}
 use Rattle.cal_model.specs.Alignment.{align, value_of, kind_of}
 use Rattle.cal_model.specs.Starts.{own_start, recurs, is_excepted, plain_starts, period_starts, ascending, starts_from, starts_of, end_from, end_of_instance}
-use Rattle.cal_model.specs.Rows.{Numbered, numbered_from, numbered, has_id, overrides, masters, ids_start, named_by, is_named, id_of_override, row_of, undated_row, undated_rows, is_dated, starts, master_row, row_at, override_row, override_row_from, merged, dated_rows}
+use Rattle.cal_model.specs.Rows.{Numbered, numbered_from, numbered, has_id, overrides, masters, ids_start, named_by, is_named, id_of_override, row_of, undated_row, undated_rows, is_dated, starts, master_row, row_at, override_row, override_row_from, merged, dated_rows, in_order, lies_in_window, rows_in_over}
 use Rattle.cal_model.proofs.Everywhere.{All-everywhere, All-flat_map, All-numbered_from}
-use Rattle.cal_model.proofs.RisingLists.{IsBelow, IsBefore, by_id, by_component, HasOtherKey, AllPairs-cons, AllPairs-head, AllPairs-tail, in_order-rising, ascending-rising}
-use Rattle.cal_model.proofs.WindowLaws.{AllPairs-filter, AllPairs-append, HasRowsInOrder}
+use Rattle.cal_model.proofs.RisingLists.{IsBelow, IsBefore, by_id, by_component, HasOtherKey, AllPairs-cons, AllPairs-head, AllPairs-tail, in_order-rising, in_order-has, in_order-only, in_order-is, ascending-rising}
+use Rattle.cal_model.proofs.WindowLaws.{Contains-filter, Contains-unfilter, AllPairs-filter, AllPairs-append, HasRowsInOrder}
 
 -- Lists.
 
@@ -195,15 +195,21 @@ instance_component moments object ids n stands all =
         All-map (λ (b : Row). b.component ≡ n.number → ⊥) (λ s. row_of r r (end_of_instance moments object.zones s m.component r) m.number (kind_of ids) (kind_of s)) (option_to_list (own_start m.component))
         (All-everywhere (λ s. m.number ≡ n.number → ⊥) (λ s e. different_numbers object n m stands there (sym e)) (option_to_list (own_start m.component)))
 
-dated_rows-rising : (moments : List ℕ) (object : Object) (ids : Stamp) → length (masters object) ≤ 1 → AllPairs IsBefore (dated_rows (row_at moments object) moments object ids)
-dated_rows-rising moments object ids one =
-    in_order-rising (flat_map (override_row object ids (starts moments object)) (overrides object) ++ filter (λ (r : Row). not (is_named object ids r.id)) (flat_map (rows_of_masters moments object ids (masters object)) (starts moments object)))
-    (AllPairs-append HasOtherKey (flat_map (override_row object ids (starts moments object)) (overrides object)) (filter (λ (r : Row). not (is_named object ids r.id)) (flat_map (rows_of_masters moments object ids (masters object)) (starts moments object)))
+-- the rows of the overrides, and the instances that none of them names
+abbrev pub own_rows : List ℕ → Object → Stamp → List Row
+own_rows moments object ids = flat_map (override_row object ids (starts moments object)) (overrides object)
+
+abbrev pub kept_instances : List ℕ → Object → Stamp → List Row
+kept_instances moments object ids = filter (λ (r : Row). not (is_named object ids r.id)) (flat_map (row_at moments object ids (starts moments object)) (starts moments object))
+
+parts_apart : (moments : List ℕ) (object : Object) (ids : Stamp) → length (masters object) ≤ 1 → AllPairs HasOtherKey (own_rows moments object ids ++ kept_instances moments object ids)
+parts_apart moments object ids one =
+    AllPairs-append HasOtherKey (flat_map (override_row object ids (starts moments object)) (overrides object)) (filter (λ (r : Row). not (is_named object ids r.id)) (flat_map (rows_of_masters moments object ids (masters object)) (starts moments object)))
     (overrides_apart object ids (starts moments object))
     (AllPairs-filter HasOtherKey (λ (r : Row). not (is_named object ids r.id)) (flat_map (rows_of_masters moments object ids (masters object)) (starts moments object))
     (instances_apart moments object ids (starts moments object) one (all_starts_rise moments object (masters object) one)))
     (All-flat_map (λ a. All (HasOtherKey a) (filter (λ (r : Row). not (is_named object ids r.id)) (flat_map (rows_of_masters moments object ids (masters object)) (starts moments object)))) (override_row object ids (starts moments object)) (overrides object)
-    (All-weaker (StandsAt object true) (λ n. All (λ a. All (HasOtherKey a) (filter (λ (r : Row). not (is_named object ids r.id)) (flat_map (rows_of_masters moments object ids (masters object)) (starts moments object)))) (override_row object ids (starts moments object) n)) across (overrides object) (overrides_stand object))))
+    (All-weaker (StandsAt object true) (λ n. All (λ a. All (HasOtherKey a) (filter (λ (r : Row). not (is_named object ids r.id)) (flat_map (rows_of_masters moments object ids (masters object)) (starts moments object)))) (override_row object ids (starts moments object) n)) across (overrides object) (overrides_stand object)))
   where
     across : (n : Numbered) → StandsAt object true n → All (λ a. All (HasOtherKey a) (filter (λ (r : Row). not (is_named object ids r.id)) (flat_map (rows_of_masters moments object ids (masters object)) (starts moments object)))) (override_row object ids (starts moments object) n)
     across n stands =
@@ -212,6 +218,9 @@ dated_rows-rising moments object ids one =
         (filter (λ (r : Row). not (is_named object ids r.id)) (flat_map (rows_of_masters moments object ids (masters object)) (starts moments object)))
         (All-filter (λ (r : Row). not (is_named object ids r.id)) (λ (b : Row). b.component ≡ n.number → ⊥) (flat_map (rows_of_masters moments object ids (masters object)) (starts moments object)) (instance_component moments object ids n stands (starts moments object))))
         (override_row object ids (starts moments object) n) (override_component object ids (starts moments object) n)
+
+dated_rows-rising : (moments : List ℕ) (object : Object) (ids : Stamp) → length (masters object) ≤ 1 → AllPairs IsBefore (dated_rows (row_at moments object) moments object ids)
+dated_rows-rising moments object ids one = in_order-rising (own_rows moments object ids ++ kept_instances moments object ids) (parts_apart moments object ids one)
 
 all_rising : (moments : List ℕ) (object : Object) (ids : Option Stamp) → length (masters object) ≤ 1 → AllPairs IsBefore (flat_map (dated_rows (row_at moments object) moments object) (option_to_list ids))
 all_rising moments object None one = λ i j d lt below. absurd (omega (arith, below))
@@ -247,3 +256,24 @@ instances moments object ids = flat_map (row_at moments object ids (starts momen
 pub dated_rows-merged : (moments : List ℕ) (object : Object) (ids : Stamp) → length (masters object) ≤ 1 →
     dated_rows (row_at moments object) moments object ids ≡ merged object ids (map (λ (r : Row). r.id) (instances moments object ids)) (instances moments object ids)
 dated_rows-merged moments object ids one = rw (ids_of_masters moments object ids (masters object) one) refl
+
+-- The rows of a window are made of the parts of it alone.
+
+pub filter-in_order : (p : Row → Bool) (xs : List Row) → AllPairs HasOtherKey xs → filter p (in_order xs) ≡ in_order (filter p xs)
+filter-in_order p xs other =
+    in_order-is (filter p (in_order xs)) (filter p xs) (AllPairs-filter IsBefore p (in_order xs) (in_order-rising xs other)) (AllPairs-filter HasOtherKey p xs other)
+    (λ row c. let both = Contains-unfilter p row (in_order xs) c in Contains-filter p row xs both.0 (in_order-only row xs both.1))
+    (λ row c. let both = Contains-unfilter p row xs c in Contains-filter p row (in_order xs) both.0 (in_order-has row xs both.1))
+
+none_lies : (object : Object) (window : ℤ) → filter (lies_in_window object window) (undated_rows object) ≡ []
+none_lies object window =
+    filter-none (lies_in_window object window) (undated_rows object)
+    (All-map (λ row. lies_in_window object window row ≡ false) undated_row (filter (λ (n : Numbered). is_none (own_start n.component)) (numbered object))
+    (All-everywhere (λ n. lies_in_window object window (undated_row n) ≡ false) (λ n. refl) (filter (λ (n : Numbered). is_none (own_start n.component)) (numbered object))))
+
+-- the overrides' own rows that lie in it, and the instances in it that no override names
+pub rows_in-parts : (moments : List ℕ) (object : Object) (ids : Stamp) (window : ℤ) → ids_start object ≡ Some ids → length (masters object) ≤ 1 →
+    rows_in_over moments object window ≡ in_order (filter (lies_in_window object window) (own_rows moments object ids) ++ filter (lies_in_window object window) (kept_instances moments object ids))
+rows_in-parts moments object ids window e one =
+    rw (filter-append, none_lies object window, e, append-nil (dated_rows (row_at moments object) moments object ids), filter-in_order (lies_in_window object window) (own_rows moments object ids ++ kept_instances moments object ids) (parts_apart moments object ids one))
+    (ap in_order (filter-append (lies_in_window object window) (own_rows moments object ids) (kept_instances moments object ids)))
