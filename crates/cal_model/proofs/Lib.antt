@@ -14,6 +14,16 @@ pub mod NearRows
 pub mod NearRanges
 pub mod WindowLaws
 pub mod RowsInOrder
+pub mod Counted
+pub mod Days
+pub mod Onsets
+pub mod Instants
+pub mod StretchLemmas
+pub mod Periods
+pub mod PassingMoments
+pub mod RecurrenceSetLemmas
+pub mod Rising
+pub mod ZoneTableLaws
 mod Samples
 mod TextExamples
 mod ReplyExamples
@@ -25,6 +35,7 @@ mod PassingExamples
 mod ZoneExamples
 mod RecurrenceSetExamples
 mod ZoneOnsetExamples
+mod StandardRecurrences
 mod RowExamples
 mod OverrideExamples
 mod LaterRowExamples

@@ -83,3 +83,28 @@ least = refl
 skipped : (exists_in short_stay (pos 36000) ≡ false) × (instant_of short_stay (pos 36000) ≡ pos 39600)
 unfolding exists_in instant_of offset_at
 skipped = (refl, refl)
+
+-- the offset before the first onset holds however early, and an onset's own moment has the new one
+offsets_in_order : (offset_at new_york (written 1601 1 1 0 0 0) ≡ neg_ℤ (pos 18000)) × (offset_at new_york (written 2025 3 9 6 59 59) ≡ neg_ℤ (pos 18000)) × (offset_at new_york (written 2025 3 9 7 0 0) ≡ neg_ℤ (pos 14400)) × (offset_at new_york (written 2100 1 1 0 0 0) ≡ neg_ℤ (pos 18000))
+unfolding offset_at
+offsets_in_order = (refl, refl, refl, refl)
+
+-- offsets of nearly a day: a jump of almost two days forward skips that long, and the instant is by the offset before it
+abbrev pub far_apart : ZoneTable
+far_apart = record { name = []; before = neg_ℤ (pos 86399); onsets = onset (pos 0) (pos 86399) ∷ [] }
+
+far_gap : (exists_in far_apart (neg_ℤ (pos 86400)) ≡ true) × (exists_in far_apart (neg_ℤ (pos 86399)) ≡ false) × (exists_in far_apart (pos 86398) ≡ false) × (exists_in far_apart (pos 86399) ≡ true)
+unfolding exists_in offset_at
+far_gap = (refl, refl, refl, refl)
+
+far_instants : (instant_of far_apart (neg_ℤ (pos 86400)) ≡ neg_ℤ (pos 1)) × (instant_of far_apart (neg_ℤ (pos 86399)) ≡ pos 0) × (instant_of far_apart (pos 86398) ≡ pos 172797) × (instant_of far_apart (pos 86399) ≡ pos 0)
+unfolding instant_of offset_at
+far_instants = (refl, refl, refl, refl)
+
+-- and the same jump back lets each time of that long stand twice, of which the first counts
+abbrev pub far_back : ZoneTable
+far_back = record { name = []; before = pos 86399; onsets = onset (pos 0) (neg_ℤ (pos 86399)) ∷ [] }
+
+far_fold : (instant_of far_back (neg_ℤ (pos 86399)) ≡ neg_ℤ (pos 172798)) × (instant_of far_back (pos 86398) ≡ neg_ℤ (pos 1)) × (instant_of far_back (pos 86399) ≡ pos 172798)
+unfolding instant_of offset_at
+far_fold = (refl, refl, refl)

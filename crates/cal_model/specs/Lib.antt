@@ -25,6 +25,7 @@ pub mod Passing
 pub mod NextPassing
 pub mod Zones
 pub mod TableBounds
+pub mod Stretches
 pub mod RecurrenceSet
 pub mod ZoneOnsets
 pub mod Alignment

@@ -1,5 +1,5 @@
 -- Small words on lists and whole numbers that the definitions share.
-use Rattle.std.specs.Prelude.{ℕ, zero, suc, ◌+◌, ◌-◌, Bool, false, ◌==◌, if◌then◌else◌, List, [], ◌∷◌, ℤ, pos, negsuc, int_lt, length}
+use Rattle.std.specs.Prelude.{ℕ, zero, suc, ◌+◌, ◌-◌, Bool, false, ◌==◌, if◌then◌else◌, List, [], ◌∷◌, ℤ, pos, negsuc, ◌+ℤ◌, ◌*ℤ◌, int_lt, length}
 use Rattle.std.specs.List.{list_any}
 use Rattle.cal_moment.specs.Calendar.{moment_number}
 use Rattle.cal_moment.specs.declared.stamp.Local.{Local}
@@ -54,6 +54,10 @@ least_of z (x ∷ xs) = least_of (if int_lt x z then x else z) xs
 abbrev pub greatest_of : ℤ → List ℤ → ℤ
 greatest_of z [] = z
 greatest_of z (x ∷ xs) = greatest_of (if int_lt z x then x else z) xs
+
+-- the digits of a local time, as seconds from 1970
+abbrev pub local_seconds : Local → ℤ
+local_seconds local = local.day *ℤ pos 86400 +ℤ pos local.second
 
 -- a local time as a moment: seconds from 1 January of the year 0
 abbrev pub moment_of_local : Local → ℕ

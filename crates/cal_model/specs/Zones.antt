@@ -1,5 +1,5 @@
--- Zone conversion: the offset at an instant, the instant of a local time, and whether a local time exists. From RFC 5545, 3.3.5 and 3.6.5.
--- Instants and local times are seconds from 1970. A table is the set of its onsets, in rising order, and the offset before them.
+-- Zone conversion: the offset at an instant, the instant of a local time, and whether a local time exists. From RFC 5545, 3.3.5 (form 3) and 3.6.5.
+-- Instants and local times are seconds from 1970, local ones by their digits. A table is the set of its onsets, in rising order, and the offset before them. Everything here is the latest, the least or the first of a set; nothing searches in the table's order.
 use Rattle.std.specs.Prelude.{◌≡◌, ◌≢◌, ◌⊎◌, Bool, not, List, [], ◌∷◌, map, filter, ℤ, pos, ◌+ℤ◌, ◌-ℤ◌, ◌≤ℤ◌, ◌<ℤ◌, int_le, int_lt}
 use Rattle.cal_model.specs.declared.zone.Onset.{Onset}
 use Rattle.cal_model.specs.declared.zone.ZoneTable.{ZoneTable}
@@ -9,6 +9,7 @@ use Rattle.cal_model.specs.Numbers.{is_empty, same_int, last_or_else, least_of}
 abbrev pub offset_among : ℤ → List Onset → ℤ → ℤ
 offset_among before onsets u = last_or_else before (map (λ (o : Onset). o.offset) (filter (λ (o : Onset). int_le o.at.0 u) onsets))
 
+-- the offset at an instant
 unfoldable pub offset_at : ZoneTable → ℤ → ℤ
 offset_at table u = offset_among table.before table.onsets u
 
@@ -20,7 +21,7 @@ local_at table u = u +ℤ offset_at table u
 abbrev pub offsets : ZoneTable → List ℤ
 offsets table = table.before ∷ map (λ (o : Onset). o.offset) table.onsets
 
--- the instants whose local time this is
+-- the instants whose local time this is: each is the local time less an offset that the zone has
 abbrev pub instants_of : ZoneTable → ℤ → List ℤ
 instants_of table l = filter (λ u. same_int (local_at table u) l) (map (λ o. l -ℤ o) (offsets table))
 
@@ -41,11 +42,11 @@ abbrev pub least_or_after_gap : ZoneTable → ℤ → List ℤ → ℤ
 least_or_after_gap table l [] = after_gap table l (onsets_past table l)
 least_or_after_gap table l (u ∷ us) = least_of u us
 
--- the instant of a local time: the least that has it, else the one by the offset before the gap
+-- the instant of a local time: the least that has it (so of a time that stands twice the first), else the one by the offset before the gap
 unfoldable pub instant_of : ZoneTable → ℤ → ℤ
 instant_of table l = least_or_after_gap table l (instants_of table l)
 
--- The same in the standard's own words, which the function above meets.
+-- The same in the standard's own words. The function above meets them, and nothing else does (`instant_of-is` and `IsInstantOf-same` in `proofs/Instants`).
 
 -- u is the least instant with this local time
 abbrev pub IsLeastInstant : ZoneTable → ℤ → ℤ → Type 0
@@ -55,6 +56,7 @@ IsLeastInstant table l u = (local_at table u ≡ l) × ((v : ℤ) → v <ℤ u �
 abbrev pub IsFirstPast : ZoneTable → ℤ → ℤ → Type 0
 IsFirstPast table l t = (l <ℤ local_at table t) × ((v : ℤ) → v <ℤ t → local_at table v ≤ℤ l)
 
+-- no instant has this local time
 abbrev pub IsSkipped : ZoneTable → ℤ → Type 0
 IsSkipped table l = (v : ℤ) → local_at table v ≢ l
 

@@ -17,11 +17,13 @@ pub mod report;
 pub mod request;
 pub mod row;
 pub mod rule;
+pub mod rules;
 pub mod selection;
 pub mod store;
 #[cfg(test)]
 mod tests;
 pub mod zone;
+mod zone_time;
 
 pub use filter::{
     Collation, CompFilter, Filter, ParamFilter, ParamTest, PropFilter, PropTest, TextMatch,
@@ -35,6 +37,8 @@ pub use report::ReportRequest;
 pub use request::{Content, Event, Method, Request, Tags};
 pub use row::{Fixed, Range, Row, RowKind};
 pub use rule::{DayPart, Freq, Rule, Until};
+pub use rules::Rules;
 pub use selection::{CompPick, PropPick, Recur, Selection};
 pub use store::CalendarData;
 pub use zone::{Onset, ZonePart, ZoneTable};
+pub use zone_time::{exists, offset_at, to_utc};

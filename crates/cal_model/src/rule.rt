@@ -42,7 +42,7 @@ pub struct Rule {
     pub freq: Freq,
     /// At least 1.
     pub interval: u32,
-    /// How many moments the rule gives, the start counted.
+    /// How many moments the rule gives, the start counted. At least 1.
     pub count: Option<u32>,
     pub until: Option<Until>,
     /// The first day of a week: 0 is Monday.
@@ -60,7 +60,7 @@ pub struct Rule {
     pub by_hour: List<u8>,
     /// Minutes, 0 to 59.
     pub by_minute: List<u8>,
-    /// Seconds, 0 to 60.
+    /// Seconds, 0 to 59; a written 60 is read as 59.
     pub by_second: List<u8>,
     /// Places among the moments of one period, 1 to 366 or -366 to -1.
     pub by_set_pos: List<i16>,
