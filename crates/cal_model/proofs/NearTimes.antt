@@ -6,6 +6,7 @@ use Rattle.std.proofs.lemmas.Bool.{cases_Bool}
 use Rattle.std.proofs.lemmas.List.Elements.{All-head, All-tail, All-cons, All-map, All-filter, All-weaker, filter_passes}
 use Rattle.cal_model.specs.declared.zone.Onset.{Onset}
 use Rattle.cal_model.specs.declared.zone.ZoneTable.{ZoneTable}
+use Rattle.cal_model.specs.TableBounds.{IsOffset, IsTable}
 use Rattle.cal_model.specs.Nearness.{IsNear, HasShortOffsets}
 use Rattle.cal_model.specs.Numbers.{last_or_else, least_of, same_int, is_empty}
 use Rattle.cal_model.proofs.Everywhere.{same_int-true}
@@ -71,3 +72,14 @@ least_shows table l (u ∷ us) some all =
 pub local_at-instant_of : (table : ZoneTable) (l : ℤ) → exists_in table l ≡ true → local_at table (instant_of table l) ≡ l
 unfolding instant_of exists_in
 local_at-instant_of table l some = least_shows table l (instants_of table l) some (all_show table l)
+
+-- a table that was made of parts has such offsets
+
+offset-short : (o : ℤ) → IsOffset o → IsNear 86400 o (pos 0)
+offset-short o h = (omega (arith, ints, h), omega (arith, ints, h))
+
+pub HasShortOffsets-table : (table : ZoneTable) → IsTable table → HasShortOffsets table
+HasShortOffsets-table table is = record {
+  before = offset-short table.before is.before;
+  after = All-weaker (λ (o : Onset). IsOffset o.offset) (λ (o : Onset). IsNear 86400 o.offset (pos 0)) (λ o h. offset-short o.offset h) table.onsets is.offsets;
+}

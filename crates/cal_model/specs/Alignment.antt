@@ -8,7 +8,7 @@ use Rattle.cal_moment.specs.declared.stamp.Length.{Length}
 use Rattle.cal_model.specs.declared.zone.ZoneTable.{ZoneTable}
 use Rattle.cal_model.specs.declared.row.RowKind.{RowKind}
 use Rattle.cal_model.specs.declared.row.RowKind.TheVariants as kind
-use Rattle.cal_model.specs.Numbers.{same_int}
+use Rattle.cal_model.specs.Numbers.{same_int, local_seconds}
 use Rattle.cal_model.specs.Zones.{exists_in, instant_of, local_at}
 use Rattle.cal_model.specs.RecurrenceSet.{Reading, plain_reading, utc_reading}
 
@@ -23,8 +23,8 @@ zone_of zones number = get_or zones number utc_zone
 -- a stamp's written value: the digits, of a DATE those of its midnight, of an instant those in UTC
 abbrev pub written_value : Stamp → ℤ
 written_value (Date d) = d.0 *ℤ pos 86400
-written_value (Floating l) = l.day *ℤ pos 86400 +ℤ pos l.second
-written_value (Zoned l zone) = l.day *ℤ pos 86400 +ℤ pos l.second
+written_value (Floating l) = local_seconds l
+written_value (Zoned l zone) = local_seconds l
 written_value (Utc u) = u.0
 
 -- the same as a moment of a rule

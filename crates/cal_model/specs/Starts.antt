@@ -9,8 +9,6 @@ use Rattle.cal_moment.specs.declared.stamp.Period.{Period}
 use Rattle.cal_moment.specs.declared.stamp.PeriodEnd.{PeriodEnd}
 use Rattle.cal_moment.specs.declared.stamp.PeriodEnd.TheVariants.{At, After}
 use Rattle.cal_model.specs.declared.rule.Rule.{Rule}
-use Rattle.cal_model.specs.declared.rule.Freq.{Freq}
-use Rattle.cal_model.specs.declared.rule.Freq.TheVariants.{Secondly, Minutely}
 use Rattle.cal_model.specs.declared.zone.ZoneTable.{ZoneTable}
 use Rattle.cal_model.specs.declared.object.Component.{Component}
 use Rattle.cal_model.specs.declared.object.Object.{Object}
@@ -19,6 +17,7 @@ use Rattle.cal_model.specs.declared.object.Kind.TheVariants.{Todo, FreeBusy}
 use Rattle.cal_model.specs.declared.object.Extent.{Extent}
 use Rattle.cal_model.specs.declared.object.Extent.TheVariants as extent
 use Rattle.cal_model.specs.Numbers.{same_int, greatest_of}
+use Rattle.cal_model.specs.NextPassing.{is_fine}
 use Rattle.cal_model.specs.RecurrenceSet.{recurrence_set_over}
 use Rattle.cal_model.specs.Alignment.{align, reading_of, value_of, written_moment, names_start, start_on, plus_length}
 
@@ -132,12 +131,7 @@ end_of_instance moments zones s c r =
     if list_any (same_int r) (plain_starts moments zones s c) then end_of_extent zones s c.extent r
     else latest_of r (map (λ (p : Period). end_of_period zones s r p.end) (filter (λ (p : Period). same_int r (date_start zones s p.start)) c.periods))
 
--- Rules that no server expands.
-
-abbrev pub is_fine : Freq → Bool
-is_fine Secondly = true
-is_fine Minutely = true
-is_fine other = false
+-- Rules that the server doesn't expand.
 
 -- some rule of the object recurs by seconds or minutes, used or not
 abbrev pub has_fine_rule : Object → Bool
