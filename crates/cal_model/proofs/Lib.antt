@@ -6,6 +6,14 @@ pub mod LineLemmas
 pub mod QueryLemmas
 pub mod RequestLemmas
 pub mod UtcLemmas
+pub mod NearTimes
+pub mod RisingLists
+pub mod Everywhere
+pub mod RowBounds
+pub mod NearRows
+pub mod NearRanges
+pub mod WindowLaws
+pub mod RowsInOrder
 pub mod Counted
 pub mod Days
 pub mod Onsets
@@ -29,6 +37,8 @@ mod RecurrenceSetExamples
 mod ZoneOnsetExamples
 mod StandardRecurrences
 mod RowExamples
-mod MovedRowExamples
+mod OverrideExamples
+mod LaterRowExamples
 mod OverlapExamples
+mod BusyTimeExamples
 mod CostExamples
