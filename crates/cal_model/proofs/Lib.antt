@@ -13,3 +13,5 @@ mod StepExamples
 mod FrameExamples
 mod QueryExamples
 mod ScriptExamples
+mod RuleTextExamples
+mod ValueExamples
