@@ -1,3 +1,4 @@
+pub mod CutLemmas
 mod Dates
 pub mod EndLemmas
 pub mod EventLemmas
@@ -6,6 +7,7 @@ pub mod LineLemmas
 pub mod QueryLemmas
 pub mod RequestLemmas
 pub mod UtcLemmas
+pub mod ValueLaws
 mod Samples
 mod TextExamples
 mod ReplyExamples
