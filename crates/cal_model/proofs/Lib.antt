@@ -3,6 +3,7 @@ mod Dates
 pub mod EndLemmas
 pub mod EventLemmas
 pub mod FrameLemmas
+pub mod LengthLaws
 pub mod LineLemmas
 pub mod QueryLemmas
 pub mod RequestLemmas
