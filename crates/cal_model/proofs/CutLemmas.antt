@@ -93,7 +93,7 @@ count_of-SpellsCount text n s =
     let wide : length text ≡ w = ap length s.spelled ∙ length-digits w n in
     let number : number_at 0 w text ≡ n = ap (number_at 0 w) s.spelled ∙ number_at-digits w n s.fits in
     let tests : (nat_le 1 w && nat_le w 9 && nat_lt n (10 ^ w) && bytes_eq text (digits w n)) ≡ true =
-      λ i. le-leb 1 w s.some i && le-leb w 9 s.most i && lt-ltb n (10 ^ w) s.fits i && (bytes_eq-Decides text (digits w n)).1 s.spelled i in
+    λ i. le-leb 1 w s.some i && le-leb w 9 s.most i && lt-ltb n (10 ^ w) s.fits i && (bytes_eq-Decides text (digits w n)).1 s.spelled i in
     ap (λ k. count_by text k (number_at 0 k text)) wide
     ∙ (ap (count_by text w) number ∙ ap (λ b. if b then Some n else None) tests)
 
@@ -160,11 +160,11 @@ cut-some octet [] parts e = absurd (none-some parts e)
 cut-some octet (c ∷ text) parts e =
     elim (cases_Bool (c == octet)) [
       | inl same ↦ (let found = sym (ap (λ b. if b then Some ([], text) else onto_cut c (cut octet text)) same) ∙ e in
-        let these : ([], text) ≡ parts = same_Some ([], text) parts found in
-        ap (λ o. o ∷ text) (eqb-true c octet same) ∙ ap (λ (p : List ℕ × List ℕ). p.0 ++ (octet ∷ p.1)) these)
+          let these : ([], text) ≡ parts = same_Some ([], text) parts found in
+          ap (λ o. o ∷ text) (eqb-true c octet same) ∙ ap (λ (p : List ℕ × List ℕ). p.0 ++ (octet ∷ p.1)) these)
       | inr other ↦ (let found = sym (ap (λ b. if b then Some ([], text) else onto_cut c (cut octet text)) other) ∙ e in
-        let behind = option_map_some (λ (p : List ℕ × List ℕ). (c ∷ p.0, p.1)) (cut octet text) parts found in
-        ap (λ t. c ∷ t) (cut-some octet text behind.0 behind.1) ∙ ap (λ (p : List ℕ × List ℕ). p.0 ++ (octet ∷ p.1)) behind.2)
+          let behind = option_map_some (λ (p : List ℕ × List ℕ). (c ∷ p.0, p.1)) (cut octet text) parts found in
+          ap (λ t. c ∷ t) (cut-some octet text behind.0 behind.1) ∙ ap (λ (p : List ℕ × List ℕ). p.0 ++ (octet ∷ p.1)) behind.2)
     ]
 
 -- A number and a letter behind it.

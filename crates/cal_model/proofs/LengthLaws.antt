@@ -67,10 +67,10 @@ parts_of-SpellsParts (unit ∷ units) text seconds letters s =
     let later = map letter_and_seconds units in
     elim s [
       | inl without ↦ (ap (parts_found (unit_seconds unit) later text) (count_before-none (unit_letter unit) text (lacks-parts (unit_letter unit) units text seconds letters.0 letters.1 without))
-      ∙ parts_of-SpellsParts units text seconds letters.2 without)
+          ∙ parts_of-SpellsParts units text seconds letters.2 without)
       | inr part ↦ (ap (parts_found (unit_seconds unit) later text) (ap (count_before (unit_letter unit)) part.spelled ∙ count_before-append (unit_letter unit) part.number part.rest part.n letters.0 part.spells_number)
-      ∙ (ap (option_map (λ others. part.n * unit_seconds unit + others)) (parts_of-SpellsParts units part.rest part.others letters.2 part.spells_rest)
-      ∙ ap (λ n. Some n) (sym part.total)))
+          ∙ (ap (option_map (λ others. part.n * unit_seconds unit + others)) (parts_of-SpellsParts units part.rest part.others letters.2 part.spells_rest)
+          ∙ ap (λ n. Some n) (sym part.total)))
     ]
 
 -- a part in front, where the law holds of what follows it
@@ -182,10 +182,10 @@ SpellsBody-days : (text : List ℕ) (days : ℕ) → days_of text ≡ Some days 
 SpellsBody-days text days e =
     elim (cases_Option (count_with 87 text)) [
       | inl none ↦ (let front = count_with-some 68 text days (sym (ap (λ o. or_else (option_map (λ n. 7 * n) o) (count_with 68 text)) none) ∙ e) in
-        days_alone front.number front.spells front.split refl)
+          days_alone front.number front.spells front.split refl)
       | inr some ↦ (let front = count_with-some 87 text some.0 some.1 in
-        let number = same_Some (7 * some.0) days (sym (ap (λ o. or_else (option_map (λ n. 7 * n) o) (count_with 68 text)) some.1) ∙ e) in
-        weeks front.number some.0 front.spells front.split (sym number) refl)
+          let number = same_Some (7 * some.0) days (sym (ap (λ o. or_else (option_map (λ n. 7 * n) o) (count_with 68 text)) some.1) ∙ e) in
+          weeks front.number some.0 front.spells front.split (sym number) refl)
     ]
 
 -- perhaps days, and times
@@ -202,9 +202,9 @@ SpellsBody-body_of : (text : List ℕ) (days seconds : ℕ) → body_of text ≡
 SpellsBody-body_of text days seconds e =
     elim (cases_Option (cut 84 text)) [
       | inl none ↦ (let parts = both_some (days_of text) (Some 0) (days, seconds) (sym (ap (body_cut text) none) ∙ e) in
-        subst (λ (s : ℕ). SpellsBody text days s) (same_Some 0 seconds parts.1) (SpellsBody-days text days parts.0))
+          subst (λ (s : ℕ). SpellsBody text days s) (same_Some 0 seconds parts.1) (SpellsBody-days text days parts.0))
       | inr some ↦ (let parts = both_some (days_before some.0.0) (times_of some.0.1) (days, seconds) (sym (ap (body_cut text) some.1) ∙ e) in
-        SpellsBody-times text some.0.0 some.0.1 days seconds (cut-some 84 text some.0 some.1) parts.0 parts.1)
+          SpellsBody-times text some.0.0 some.0.1 days seconds (cut-some 84 text some.0 some.1) parts.0 parts.1)
     ]
 
 -- Signs
@@ -218,9 +218,9 @@ SpellsSign-sign_of [] negative e = inr (refl, sym (same_Some false negative e))
 SpellsSign-sign_of (c ∷ []) negative e =
     elim (cases_Bool (c == 45)) [
       | inl minus ↦ (let is = same_Some true negative (sym (ap (λ b. if b then Some true else (if c == 43 then Some false else None)) minus) ∙ e) in
-        inl (ap (λ o. o ∷ []) (eqb-true c 45 minus) ∙ ap sign_text is))
+          inl (ap (λ o. o ∷ []) (eqb-true c 45 minus) ∙ ap sign_text is))
       | inr other ↦ (let plus = if_some (c == 43) (Some false) negative (sym (ap (λ b. if b then Some true else (if c == 43 then Some false else None)) other) ∙ e) in
-        inl (ap (λ o. o ∷ []) (eqb-true c 43 plus.0) ∙ ap sign_text (same_Some false negative plus.1)))
+          inl (ap (λ o. o ∷ []) (eqb-true c 43 plus.0) ∙ ap sign_text (same_Some false negative plus.1)))
     ]
 SpellsSign-sign_of (c ∷ d ∷ text) negative e = absurd (none-some negative e)
 

@@ -135,7 +135,7 @@ date_time_of-SpellsDateTime text value s =
     let d = s.spells_date in
     let t = s.spells_time in
     let whole : text ≡ whole_text d.year d.month d.day t.hour t.minute t.second value.1 =
-      s.spelled ∙ ap₂ (λ date time. date ++ (codes "T" ++ (time ++ utc_text value.1))) d.spelled t.spelled in
+    s.spelled ∙ ap₂ (λ date time. date ++ (codes "T" ++ (time ++ utc_text value.1))) d.spelled t.spelled in
     let date = sym (ap date_of d.spelled) ∙ date_of-SpellsDate s.date (as_day value.0.day) d in
     let time = sym (ap time_of t.spelled) ∙ time_of-SpellsTime s.time value.0.second t in
     ap date_time_of whole
@@ -168,7 +168,7 @@ date_time_by-some text utc value e =
       spells_date = SpellsDate-date_of (take 8 text) (as_day value.0.day) parts.date;
       spells_time = SpellsTime-time_of (take 6 (drop 9 text)) value.0.second parts.time;
       spelled = sym (take-append-drop 8 text) ∙ (ap (λ t. take 8 text ++ t) (is_same_text (drop 8 text) behind found.0)
-      ∙ ap (λ u. take 8 text ++ (codes "T" ++ (take 6 (drop 9 text) ++ utc_text u))) parts.flag);
+          ∙ ap (λ u. take 8 text ++ (codes "T" ++ (take 6 (drop 9 text) ++ utc_text u))) parts.flag);
     }
 
 -- A text that has a local time spells its DATE-TIME.
@@ -253,10 +253,10 @@ offset_of-SpellsOffset text value s =
     let whole = ap offset_of s.spelled in
     elim s.spells_second [
       | inl none ↦ (ap offset_of (s.spelled ∙ ap (offset_text s.negative s.hour s.minute) none.0)
-      ∙ (without_second s.negative s.hour s.minute s.hour_in s.minute_in
-      ∙ (ap (λ n. Some (signed s.negative (3600 * s.hour + 60 * s.minute + n))) (sym none.1) ∙ ap (λ n. Some n) (sym s.number))))
+          ∙ (without_second s.negative s.hour s.minute s.hour_in s.minute_in
+          ∙ (ap (λ n. Some (signed s.negative (3600 * s.hour + 60 * s.minute + n))) (sym none.1) ∙ ap (λ n. Some n) (sym s.number))))
       | inr some ↦ (ap offset_of (s.spelled ∙ ap (offset_text s.negative s.hour s.minute) some.1)
-      ∙ (with_second s.negative s.hour s.minute s.second s.hour_in s.minute_in some.0 ∙ ap (λ n. Some n) (sym s.number)))
+          ∙ (with_second s.negative s.hour s.minute s.second s.hour_in s.minute_in some.0 ∙ ap (λ n. Some n) (sym s.number)))
     ]
 
 -- the seconds of an offset that passes its test
@@ -264,7 +264,7 @@ spells_second : (text : List ℕ) (negative : Bool) (hour minute : ℕ) → text
 spells_second text negative hour minute e bound =
     elim (cases_Bool (length text == 5)) [
       | inl short ↦ (let none : second_text text ≡ [] = ap (λ b. if b then [] else digits 2 (number_at 5 2 text)) short in
-      inl (none, ap (number_at 5 2) (e ∙ ap (offset_text negative hour minute) none) ∙ no_second negative hour minute))
+          inl (none, ap (number_at 5 2) (e ∙ ap (offset_text negative hour minute) none) ∙ no_second negative hour minute))
       | inr long ↦ inr (bound, ap (λ b. if b then [] else digits 2 (number_at 5 2 text)) long)
     ]
 
