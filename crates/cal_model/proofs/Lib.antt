@@ -17,4 +17,5 @@ mod FrameExamples
 mod QueryExamples
 mod ScriptExamples
 mod RuleTextExamples
+mod RulePlaceExamples
 mod ValueExamples

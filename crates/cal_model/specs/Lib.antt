@@ -5,6 +5,7 @@ pub mod UtcTexts
 pub mod ValueTexts
 pub mod StampTexts
 pub mod RuleTexts
+pub mod BadValues
 pub mod ServerState
 pub mod EventTimes
 pub mod Queries
