@@ -1,3 +1,4 @@
+pub mod BadValueLaws
 pub mod CutLemmas
 mod Dates
 pub mod EndLemmas
