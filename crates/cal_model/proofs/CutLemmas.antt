@@ -50,14 +50,14 @@ after_digits : ℕ → List ℕ → ℕ
 after_digits n text = fold (λ m octet. m * 10 + (octet - 48)) n text
 
 module _ (count n : ℕ) (h : n < 10 ^ suc count) where
-  first_below : n / 10 ^ count < 10
+  pub first_below : n / 10 ^ count < 10
   first_below = div_below n (10 ^ count) 10 (one-le-pow count 10 (omega arith)) (omega (arith, pow-suc 10 count, h))
 
-  rest_below : n % 10 ^ count < 10 ^ count
+  pub rest_below : n % 10 ^ count < 10 ^ count
   rest_below = mod_below n (10 ^ count) (one-le-pow count 10 (omega arith))
 
 -- a product of a sum
-sum_times : (m q unit r : ℕ) → (m * 10 + q) * unit + r ≡ m * (unit * 10) + (q * unit + r)
+pub sum_times : (m q unit r : ℕ) → (m * 10 + q) * unit + r ≡ m * (unit * 10) + (q * unit + r)
 sum_times m q unit r = grind arith
 
 pub fold-digits : (count n m : ℕ) → n < 10 ^ count → fold (λ (k : ℕ) (octet : ℕ). k * 10 + (octet - 48)) m (digits count n) ≡ m * 10 ^ count + n

@@ -5,6 +5,7 @@ pub mod EndLemmas
 pub mod EventLemmas
 pub mod FrameLemmas
 pub mod LengthLaws
+pub mod NumberFronts
 pub mod LineLemmas
 pub mod QueryLemmas
 pub mod RequestLemmas
