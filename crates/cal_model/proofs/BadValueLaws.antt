@@ -71,7 +71,7 @@ can_go_on-BeginsOne front e =
 -- Lists
 
 -- the pieces of two texts that stand one behind the other: the last of the first goes on with the first of the second
-joined : List (List ℕ) → List (List ℕ) → List (List ℕ)
+unfoldable pub joined : List (List ℕ) → List (List ℕ) → List (List ℕ)
 joined [] qs = qs
 joined (p ∷ []) [] = p ∷ []
 joined (p ∷ []) (q ∷ qs) = (p ++ q) ∷ qs
@@ -89,7 +89,7 @@ final (p ∷ []) = p
 final (p ∷ next ∷ ps) = final (next ∷ ps)
 
 -- a text has a first piece
-first_piece : (s : ℕ) (text : List ℕ) → (p : List ℕ) × (ps : List (List ℕ)) × (pieces s text ≡ p ∷ ps)
+pub first_piece : (s : ℕ) (text : List ℕ) → (p : List ℕ) × (ps : List (List ℕ)) × (pieces s text ≡ p ∷ ps)
 first_piece s [] = ([], [], refl)
 first_piece s (c ∷ text) =
     elim (cases_Bool (c == s)) [
@@ -105,7 +105,7 @@ onto_first-joined c p [] [] = refl
 onto_first-joined c p [] (q ∷ qs) = refl
 onto_first-joined c p (next ∷ ps) qs = refl
 
-pieces-append : (s : ℕ) (a b : List ℕ) → pieces s (a ++ b) ≡ joined (pieces s a) (pieces s b)
+pub pieces-append : (s : ℕ) (a b : List ℕ) → pieces s (a ++ b) ≡ joined (pieces s a) (pieces s b)
 unfolding joined
 pieces-append s [] b = let first = first_piece s b in first.2 ∙ sym (ap (joined ([] ∷ [])) first.2)
 pieces-append s (c ∷ a) b =
@@ -121,7 +121,7 @@ pieces-append s (c ∷ a) b =
     ]
 
 -- a text without the separator is one piece
-pieces-lacks : (s : ℕ) (text : List ℕ) → Lacks s text → pieces s text ≡ text ∷ []
+pub pieces-lacks : (s : ℕ) (text : List ℕ) → Lacks s text → pieces s text ≡ text ∷ []
 pieces-lacks s [] lacks = refl
 pieces-lacks s (c ∷ text) lacks =
     ap (λ b. if b then [] ∷ pieces s text else onto_first c (pieces s text)) (ne_eqb c s lacks.0) ∙ ap (onto_first c) (pieces-lacks s text lacks.1)

@@ -7,6 +7,7 @@ pub mod FrameLemmas
 pub mod LengthLaws
 pub mod NumberFronts
 pub mod LineLemmas
+pub mod ListFronts
 pub mod QueryLemmas
 pub mod RequestLemmas
 pub mod UtcLemmas
