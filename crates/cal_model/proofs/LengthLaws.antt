@@ -28,7 +28,7 @@ same_letters : map letter_and_seconds time_units ≡ time_letters
 same_letters = refl
 
 -- an option that is not empty has no octet count of 0
-some_octets : (text : List ℕ) → text ≢ [] → (length text == 0) ≡ false
+pub some_octets : (text : List ℕ) → text ≢ [] → (length text == 0) ≡ false
 some_octets [] some = absurd (some refl)
 some_octets (c ∷ text) some = ne_eqb (length (c ∷ text)) 0 (λ e. omega (arith, e))
 

@@ -1,6 +1,7 @@
 pub mod BadValueLaws
 pub mod CutLemmas
 mod Dates
+pub mod DayFronts
 pub mod EndLemmas
 pub mod EventLemmas
 pub mod FrameLemmas

@@ -11,7 +11,7 @@ use Rattle.cal_model.specs.RuleTexts.{if_between, number_of, if_place, place_num
 use Rattle.cal_model.specs.BadValues.{value_ends}
 use Rattle.cal_model.proofs.BadValueLaws.{joined, first_piece, pieces-append, pieces-lacks}
 use Rattle.cal_model.proofs.CutLemmas.{cases_Option, option_map_some, and_then_some, if_some, Lacks}
-use Rattle.cal_model.proofs.NumberFronts.{IsDigitEnd, Nearer, IntegerFront, integer_front}
+use Rattle.cal_model.proofs.NumberFronts.{IsDigitEnd, Nearer, IntegerFront, integer_front, abs-signed}
 use Rattle.cal_model.proofs.NumberFronts.IsDigitEnd.{nothing, a_zero, a_one}
 use Rattle.cal_model.proofs.NumberFronts.Nearer.{same, one, less}
 
@@ -44,10 +44,10 @@ HasFronts {X} read Below = (text h : List ℕ) (x : X) → read (text ++ h) ≡ 
 abbrev pub Anything : {X : Type 0} → X → X → Type 0
 Anything {X} y x = Unit {0}
 
-digit_end : (end : List ℕ) → IsDigitEnd end → IsAmong end value_ends
-digit_end end (nothing e) = inl e
-digit_end end (a_zero e) = inr (inl e)
-digit_end end (a_one e) = inr (inr (inl e))
+digit_end : (end : List ℕ) (n : ℕ) → IsDigitEnd end n → IsAmong end value_ends
+digit_end end n (nothing e) = inl e
+digit_end end n (a_zero e none) = inr (inl e)
+digit_end end n (a_one e) = inr (inr (inl e))
 
 -- no end has a comma or a semicolon
 no_commas : HoldsOfAll (Lacks 44) value_ends
@@ -129,7 +129,7 @@ pub record IsNarrow {X : Type 0} (keep : ℤ → Option X) : Type 0 where
   pub takes_one : (x : X) × (keep (pos 1) ≡ Some x)
   pub takes_less : (negative : Bool) (m n : ℕ) (x : X) → 1 ≤ m → m ≤ n → keep (signed negative n) ≡ Some x → (y : X) × (keep (signed negative m) ≡ Some y)
 
-kept : {X : Type 0} → (keep : ℤ → Option X) → IsNarrow keep → (number z : ℤ) (x : X) → Nearer number z → keep z ≡ Some x → (y : X) × (keep number ≡ Some y)
+pub kept : {X : Type 0} → (keep : ℤ → Option X) → IsNarrow keep → (number z : ℤ) (x : X) → Nearer number z → keep z ≡ Some x → (y : X) × (keep number ≡ Some y)
 kept {X} keep narrow number z x (same e) is = (x, ap keep e ∙ is)
 kept {X} keep narrow number z x (one e) is = (narrow.takes_one.0, ap keep e ∙ narrow.takes_one.1)
 kept {X} keep narrow number z x (less negative m n some most a b) is =
@@ -140,7 +140,7 @@ integer_fronts {X} keep narrow text h x e =
     let z = and_then_some keep (integer_of (text ++ h)) x e in
     let front = integer_front text h z.0 z.1 in
     let y = kept keep narrow front.number z.0 x front.near z.2 in
-    record { end = front.end; is_end = digit_end front.end front.is_end; value = y.0; reads = ap (option_and_then keep) front.reads ∙ y.1; below = tt }
+    record { end = front.end; is_end = digit_end front.end (nat_abs z.0) front.is_end; value = y.0; reads = ap (option_and_then keep) front.reads ∙ y.1; below = tt }
 
 abbrev bounded : ℕ → ℕ → ℕ → Option ℕ
 bounded low high n = if nat_le low n && nat_le n high then Some n else None
@@ -162,11 +162,6 @@ between_less low high true m (suc n) x bound some most e = absurd (none-some x e
 pub number_fronts : (low high : ℕ) → low ≤ 1 → 1 ≤ high → HasFronts (number_of low high) Anything
 number_fronts low high some most =
     integer_fronts (if_between low high) (record { takes_one = (1, between-one low high 1 some most); takes_less = λ negative m n x positive le e. between_less low high negative m n x some positive le e })
-
-abs-signed : (negative : Bool) (n : ℕ) → nat_abs (signed negative n) ≡ n
-abs-signed false n = refl
-abs-signed true zero = refl
-abs-signed true (suc n) = refl
 
 place_less : (limit : ℕ) (negative : Bool) (m n : ℕ) (x : ℤ) → 1 ≤ m → m ≤ n → if_place limit (signed negative n) ≡ Some x → (y : ℤ) × (if_place limit (signed negative m) ≡ Some y)
 place_less limit negative m n x some most e =

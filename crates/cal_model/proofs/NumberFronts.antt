@@ -1,5 +1,6 @@
 -- Fronts of integers: where a text begins an integer, it is one or becomes one with one more digit, which is nearer to 0 or is 1.
 use Rattle.std.proofs.Common.{◌≡◌, ℕ, zero, suc, ◌+◌, ◌-◌, ◌*◌, ◌/◌, ◌%◌, ◌^◌, ◌<◌, ◌≤◌, Bool, true, false, ◌&&◌, ◌||◌, ◌==◌, if◌then◌else◌, List, [], ◌∷◌, ◌++◌, length, drop, fold, codes, Option, Some, None, option_map, ℤ, pos, refl, sym, ap, ap₂, subst, ◌∙◌, arith, ◌⊎◌, inl, inr}
+use Rattle.std.specs.Prelude.{nat_abs}
 use Rattle.std.proofs.Math.Nat.{pow-suc, one-le-pow, mul-le-mul_right}
 use Rattle.std.proofs.lemmas.Bool.{cases_Bool, cases_lt, eqb-true}
 use Rattle.std.proofs.lemmas.List.{length-append, append-nil}
@@ -70,16 +71,16 @@ value_of_count text n s =
 
 -- Numbers
 
--- the ends that make a front a number
-pub data IsDigitEnd (end : List ℕ) : Type 0 where
-  nothing : end ≡ [] → IsDigitEnd end
-  a_zero : end ≡ codes "0" → IsDigitEnd end
-  a_one : end ≡ codes "1" → IsDigitEnd end
+-- the ends that make a front a number; a zero only where the number is 0
+pub data IsDigitEnd (end : List ℕ) (n : ℕ) : Type 0 where
+  nothing : end ≡ [] → IsDigitEnd end n
+  a_zero : end ≡ codes "0" → n ≡ 0 → IsDigitEnd end n
+  a_one : end ≡ codes "1" → IsDigitEnd end n
 
 -- a front of the digits of a number, with an end that makes it the number, or one from 1 to it
 record CountFront (text : List ℕ) (n : ℕ) : Type 0 where
   end : List ℕ
-  is_end : IsDigitEnd end
+  is_end : IsDigitEnd end n
   number : ℕ
   counts : count_of (text ++ end) ≡ Some number
   near : (number ≡ n) ⊎ ((1 ≤ number) × (number ≤ n))
@@ -90,7 +91,7 @@ digits_push_one [] are = (record { low = omega arith; high = omega arith }, tt)
 digits_push_one (c ∷ text) are = (are.0, digits_push_one text are.1)
 
 empty_front : (h : List ℕ) (n : ℕ) → CountFront [] n
-empty_front h zero = record { end = codes "0"; is_end = a_zero refl; number = 0; counts = count_of-SpellsCount (codes "0") 0 (count_of_digits (codes "0") (record { low = omega arith; high = omega arith }, tt) (omega arith) (omega arith)); near = inl refl }
+empty_front h zero = record { end = codes "0"; is_end = a_zero refl refl; number = 0; counts = count_of-SpellsCount (codes "0") 0 (count_of_digits (codes "0") (record { low = omega arith; high = omega arith }, tt) (omega arith) (omega arith)); near = inl refl }
 empty_front h (suc n) = record { end = codes "1"; is_end = a_one refl; number = 1; counts = count_of-SpellsCount (codes "1") 1 (count_of_digits (codes "1") (record { low = omega arith; high = omega arith }, tt) (omega arith) (omega arith)); near = inr (omega arith, omega arith) }
 
 -- a front with a digit, of a number
@@ -136,7 +137,7 @@ pub data Nearer (number z : ℤ) : Type 0 where
 -- a front of an integer, with such an end
 pub record IntegerFront (text : List ℕ) (z : ℤ) : Type 0 where
   pub end : List ℕ
-  pub is_end : IsDigitEnd end
+  pub is_end : IsDigitEnd end (nat_abs z)
   pub number : ℤ
   pub reads : integer_of (text ++ end) ≡ Some number
   pub near : Nearer number z
@@ -159,13 +160,18 @@ cases_sign c =
       ]
     ]
 
+pub abs-signed : (negative : Bool) (n : ℕ) → nat_abs (signed negative n) ≡ n
+abs-signed false n = refl
+abs-signed true zero = refl
+abs-signed true (suc n) = refl
+
 near_signed : (negative : Bool) (m n : ℕ) → (m ≡ n) ⊎ ((1 ≤ m) × (m ≤ n)) → Nearer (signed negative m) (signed negative n)
 near_signed negative m n near = elim near [ inl e ↦ same (ap (signed negative) e) | inr between ↦ less negative m n between.0 between.1 refl refl ]
 
 signed_front : (negative : Bool) (c : ℕ) (digits_text : List ℕ) (text : List ℕ) (n : ℕ) (z : ℤ) → signed negative n ≡ z → (front : CountFront digits_text n) → integer_of (text ++ front.end) ≡ option_map (signed negative) (count_of (digits_text ++ front.end)) → IntegerFront text z
 signed_front negative c digits_text text n z is front reads = record {
   end = front.end;
-  is_end = front.is_end;
+  is_end = subst (λ (k : ℕ). IsDigitEnd front.end k) (sym (sym (ap nat_abs is) ∙ abs-signed negative n)) front.is_end;
   number = signed negative front.number;
   reads = reads ∙ ap (option_map (signed negative)) front.counts;
   near = subst (λ (a : ℤ). Nearer (signed negative front.number) a) is (near_signed negative front.number n front.near);
