@@ -11,6 +11,7 @@ pub mod LineLemmas
 pub mod ListFronts
 pub mod QueryLemmas
 pub mod RequestLemmas
+pub mod RuleRows
 pub mod UntilFronts
 pub mod UtcLemmas
 pub mod ValueLaws
