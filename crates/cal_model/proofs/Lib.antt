@@ -12,6 +12,7 @@ pub mod ListFronts
 pub mod QueryLemmas
 pub mod RequestLemmas
 pub mod RuleRows
+pub mod RuleTable
 pub mod UntilFronts
 pub mod UtcLemmas
 pub mod ValueLaws

@@ -117,7 +117,7 @@ list_is_some {X} read text xs e =
     first_some None os e = absurd (none-some xs e)
     first_some (Some x) os e = let rest = option_map_some (λ xs. x ∷ xs) (every os) xs e in ap has_some (sym rest.2) ∙ some_items [] x rest.0
 
-below_is_some : {X : Type 0} {Below : X → X → Type 0} → (ys xs : List X) → ListBelow Below ys xs → has_some xs ≡ true
+pub below_is_some : {X : Type 0} {Below : X → X → Type 0} → (ys xs : List X) → ListBelow Below ys xs → has_some xs ≡ true
 below_is_some {X} {Below} ys xs b = ap has_some b.those ∙ some_items b.before b.began b.more
 
 -- ordinals of a list that is below another
@@ -125,7 +125,7 @@ any_more : (before : List DayPart) (y x : DayPart) (more : List DayPart) → Day
 any_more [] y x more below e = or_implies (is_ordinal y) false (is_ordinal x) (list_any is_ordinal more) below (λ f. absurd (false≢true f)) e
 any_more (d ∷ before) y x more below e = or_implies (is_ordinal d) (list_any is_ordinal (before ++ (y ∷ []))) (is_ordinal d) (list_any is_ordinal (before ++ (x ∷ more))) (λ f. f) (any_more before y x more below) e
 
-days_below : (ys xs : List DayPart) → ListBelow DayBelow ys xs → Implies (list_any is_ordinal ys) (list_any is_ordinal xs)
+pub days_below : (ys xs : List DayPart) → ListBelow DayBelow ys xs → Implies (list_any is_ordinal ys) (list_any is_ordinal xs)
 days_below ys xs b e = ap (list_any is_ordinal) b.those ∙ any_more b.before b.last b.began b.more b.below (sym (ap (list_any is_ordinal) b.these) ∙ e)
 
 -- Rows
@@ -160,23 +160,23 @@ pub record RowFront (row : Row) : Type 0 where
   pub goes_on : (front h : List ℕ) (rule r : Rule) → row.1 (front ++ h) rule ≡ Some r → (end : List ℕ) × IsEndOf row.0 front end × Instead row (front ++ h) rule r (front ++ end)
 
 -- a row by what its value is put into
-abbrev putting : {X : Type 0} → (X → Rule → Rule) → (List ℕ → Option X) → Effect
+abbrev pub putting : {X : Type 0} → (X → Rule → Rule) → (List ℕ → Option X) → Effect
 putting {X} put read text rule = option_map (λ x. put x rule) (read text)
 
 -- what a row needs
-record PutFront {X : Type 0} (name : List ℕ) (put : X → Rule → Rule) (read : List ℕ → Option X) (Below : X → X → Type 0) : Type 0 where
-  upper : raised_all name ≡ name
-  named : is_name name ≡ true
-  other : bytes_eq name (codes "FREQ") ≡ false
-  sample : List ℕ
-  tried : IsAmong (name ++ (61 ∷ sample)) whole_parts
-  value : X
-  reads : read sample ≡ Some value
-  first : (text : List ℕ) (x : X) (rule : Rule) → read text ≡ Some x → Lesser (put value rule) (put x rule)
-  lesser : (y x : X) (rule : Rule) → Below y x → Lesser (put y rule) (put x rule)
-  fronts : HasFronts read Below
+pub record PutFront {X : Type 0} (name : List ℕ) (put : X → Rule → Rule) (read : List ℕ → Option X) (Below : X → X → Type 0) : Type 0 where
+  pub upper : raised_all name ≡ name
+  pub named : is_name name ≡ true
+  pub other : bytes_eq name (codes "FREQ") ≡ false
+  pub sample : List ℕ
+  pub tried : IsAmong (name ++ (61 ∷ sample)) whole_parts
+  pub value : X
+  pub reads : read sample ≡ Some value
+  pub first : (text : List ℕ) (x : X) (rule : Rule) → read text ≡ Some x → Lesser (put value rule) (put x rule)
+  pub lesser : (y x : X) (rule : Rule) → Below y x → Lesser (put y rule) (put x rule)
+  pub fronts : HasFronts read Below
 
-put_row : {X : Type 0} {Below : X → X → Type 0} → (name : List ℕ) (put : X → Rule → Rule) (read : List ℕ → Option X) → PutFront name put read Below → RowFront (name, putting put read)
+pub put_row : {X : Type 0} {Below : X → X → Type 0} → (name : List ℕ) (put : X → Rule → Rule) (read : List ℕ → Option X) → PutFront name put read Below → RowFront (name, putting put read)
 put_row {X} {Below} name put read f = record {
   upper = f.upper;
   named = f.named;
@@ -186,21 +186,27 @@ put_row {X} {Below} name put read f = record {
   where
     whole : (value : List ℕ) (rule r : Rule) → putting put read value rule ≡ Some r → (text : List ℕ) × IsAmong (name ++ (61 ∷ text)) whole_parts × Instead (name, putting put read) value rule r text
     whole value rule r e =
-        let x = option_map_some (λ x. put x rule) (read value) r e in
-        (f.sample, f.tried, record {
-          result = put f.value rule;
-          puts = ap (option_map (λ x. put x rule)) f.reads;
-          lesser = subst (λ (s : Rule). Lesser (put f.value rule) s) x.2 (f.first value x.0 rule x.1);
-          freq = inr f.other;
-        })
+        let x = option_map_some (λ x. put x rule) (read value) r e in (
+          f.sample,
+          f.tried,
+          record {
+            result = put f.value rule;
+            puts = ap (option_map (λ x. put x rule)) f.reads;
+            lesser = subst (λ (s : Rule). Lesser (put f.value rule) s) x.2 (f.first value x.0 rule x.1);
+            freq = inr f.other;
+          },
+        )
 
     goes_on : (front h : List ℕ) (rule r : Rule) → putting put read (front ++ h) rule ≡ Some r → (end : List ℕ) × IsEndOf name front end × Instead (name, putting put read) (front ++ h) rule r (front ++ end)
     goes_on front h rule r e =
         let x = option_map_some (λ x. put x rule) (read (front ++ h)) r e in
-        let item = f.fronts front h x.0 x.1 in
-        (item.end, inl item.is_end, record {
-          result = put item.value rule;
-          puts = ap (option_map (λ x. put x rule)) item.reads;
-          lesser = subst (λ (s : Rule). Lesser (put item.value rule) s) x.2 (f.lesser item.value x.0 rule item.below);
-          freq = inr f.other;
-        })
+        let item = f.fronts front h x.0 x.1 in (
+          item.end,
+          inl item.is_end,
+          record {
+            result = put item.value rule;
+            puts = ap (option_map (λ x. put x rule)) item.reads;
+            lesser = subst (λ (s : Rule). Lesser (put item.value rule) s) x.2 (f.lesser item.value x.0 rule item.below);
+            freq = inr f.other;
+          },
+        )
