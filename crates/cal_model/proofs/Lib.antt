@@ -9,6 +9,7 @@ pub mod LengthLaws
 pub mod NumberFronts
 pub mod LineLemmas
 pub mod ListFronts
+pub mod PartFronts
 pub mod QueryLemmas
 pub mod RequestLemmas
 pub mod RuleRows
