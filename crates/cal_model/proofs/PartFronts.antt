@@ -4,7 +4,7 @@ use Rattle.std.specs.Prelude.{replicate}
 use Rattle.std.specs.List.{list_all, starts_with}
 use Rattle.std.proofs.Math.Seq.{drop-append-add}
 use Rattle.std.proofs.lemmas.Bool.{cases_Bool, false≢true, and_parts, lt-ltb, ltb-true, eqb-true, eq-eqb}
-use Rattle.std.proofs.lemmas.List.{length-append, append-nil, drop-append-le}
+use Rattle.std.proofs.lemmas.List.{length-append, length-drop, append-nil, drop-append-le}
 use Rattle.std.proofs.lemmas.Option.{none-some, same_Some}
 use Rattle.cal_base.specs.ContentLines.{is_name, is_name_octet}
 use Rattle.cal_base.specs.Text.{raised, raised_all}
@@ -231,3 +231,135 @@ value_front room n v h rule r named e =
     behind : (name whole : List ℕ) → Lacks 59 (name ++ (61 ∷ whole)) → Lacks 59 whole
     behind [] whole lacks = lacks.1
     behind (c ∷ name) whole lacks = behind name whole lacks.1
+
+-- A front within a name
+
+-- a row by its name
+abbrev row_named : List ℕ → Option Row
+row_named name = find (λ (row : Row). bytes_eq name row.0) meanings
+
+all_a : (room : ℕ) → list_all is_name_octet (replicate room 65) ≡ true
+all_a zero = refl
+all_a (suc room) = all_a room
+
+length-replicate : (room : ℕ) → length (replicate {A = ℕ} room 65) ≡ room
+length-replicate zero = refl
+length-replicate (suc room) = ap suc (length-replicate room)
+
+-- a name of one's own, as it is raised
+record IsOwnName (name : List ℕ) : Type 0 where
+  rest : List ℕ
+  is : name ≡ 88 ∷ 45 ∷ rest
+
+own_begins : (u x : List ℕ) (room : ℕ) → starts_with nat_eq (raised_all (u ++ x)) (codes "X-") ≡ true → IsOwnName (raised_all (u ++ drop (length u) (own_name room)))
+own_begins [] x room e = record { rest = raised_all (replicate room 65); is = refl }
+own_begins (c ∷ []) x room e =
+    let front = is_same_text (codes "X-") (take 2 (raised_all (c ∷ x))) e in
+    let first : raised c ≡ 88 = sym (first_of 88 45 (raised c) (take 1 (raised_all x)) front) in
+    record { rest = raised_all (replicate room 65); is = ap (λ d. d ∷ 45 ∷ raised_all (replicate room 65)) first }
+  where
+    first_of : (a b d : ℕ) (t : List ℕ) → a ∷ b ∷ [] ≡ d ∷ t → a ≡ d
+    first_of a b d t e = cc
+own_begins (c ∷ d ∷ u) x room e =
+    let front = is_same_text (codes "X-") (take 2 (raised_all (c ∷ d ∷ u ++ x))) e in
+    let tail = drop (length u) (replicate room 65) in
+    record { rest = raised_all (u ++ tail); is = ap (λ t. t ++ raised_all (u ++ tail)) (sym front) }
+
+-- a part with such a name says nothing
+own_says_nothing : (name value : List ℕ) (rule : Rule) → IsOwnName name → with_part (name, value) rule ≡ Some rule
+own_says_nothing name value rule own = ap (λ n. with_part (n, value) rule) own.is
+
+own_is_not_freq : (name : List ℕ) → IsOwnName name → name ≡ codes "FREQ" → ⊥
+own_is_not_freq name own is = false≢true (sym (ap (λ n. bytes_eq n (codes "FREQ")) own.is) ∙ ap (λ n. bytes_eq n (codes "FREQ")) is)
+
+-- a name that a front and the rest of another name make
+made_name : (u x name : List ℕ) → is_name (u ++ x) ≡ true → list_all is_name_octet name ≡ true → 1 ≤ length (u ++ drop (length u) name) → is_name (u ++ drop (length u) name) ≡ true
+made_name u x name named all some =
+    let whole = and_parts (nat_lt 0 (length (u ++ x))) (list_all is_name_octet (u ++ x)) named in
+    named_by (u ++ drop (length u) name) some (all-append u (drop (length u) name) (all-left u x whole.1) (all-drop (length u) name all))
+
+made_length : (u name : List ℕ) → length u ≤ length name → length (u ++ drop (length u) name) ≡ length name
+made_length u name le = omega (arith, length-append u (drop (length u) name), length-drop (length u) name, le)
+
+made_text : (u name value : List ℕ) → length u ≤ length name → u ++ drop (length u) (name ++ (61 ∷ value)) ≡ (u ++ drop (length u) name) ++ (61 ∷ value)
+made_text u name value le = ap (λ t. u ++ t) (drop-append-le (length u) name (61 ∷ value) le) ∙ sym (append_assoc u (drop (length u) name) (61 ∷ value))
+
+known_front : (room : ℕ) (u x value : List ℕ) (rule r : Rule) (row : Row) → is_name (u ++ x) ≡ true → RowFront row → raised_all (u ++ x) ≡ row.0 → row_named (raised_all (u ++ x)) ≡ Some row → row.1 value rule ≡ Some r → PartFront room u (raised_all (u ++ x), value) rule r
+known_front room u x value rule r row named its is found e =
+    let name = row.0 in
+    let other = its.whole value rule r e in
+    let text = other.0 in
+    let size : length name ≡ length u + length x = omega (arith, ap length is, length-raised (u ++ x), length-append u x) in
+    let le : length u ≤ length name = omega (arith, size) in
+    let some : 1 ≤ length name = omega (arith, size, length-append u x, ltb-true 0 (length (u ++ x)) (and_parts (nat_lt 0 (length (u ++ x))) (list_all is_name_octet (u ++ x)) named).0) in
+    let its_all = (and_parts (nat_lt 0 (length name)) (list_all is_name_octet name) its.named).1 in
+    let made = u ++ drop (length u) name in
+    let made_named = made_name u x name named its_all (omega (arith, made_length u name le, some)) in
+    record {
+      end = drop (length u) (name ++ (61 ∷ text));
+      tried = whole_tried (name ++ (61 ∷ text)) u room other.1;
+      lacks = lacks-drop 59 (length u) (name ++ (61 ∷ text)) (among (Lacks 59) (name ++ (61 ∷ text)) whole_parts whole_parts_lack other.1);
+      made = (name, text);
+      reads = ap part_of (made_text u name text le) ∙ (part_of-named made text made_named ∙ ap (λ n. Some (n, text)) (raised_with u x name is its.upper));
+      name = inl (sym is);
+      freq = λ f. (is ∙ f, same_freq name text value other.2.freq f);
+      result = other.2.result;
+      puts = ap (by_row (name, text) rule) (sym (ap row_named is) ∙ found) ∙ other.2.puts;
+      lesser = other.2.lesser;
+    }
+
+own_front : (room : ℕ) (u x value : List ℕ) (rule r : Rule) → length u ≤ room → is_name (u ++ x) ≡ true → (if starts_with nat_eq (raised_all (u ++ x)) (codes "X-") then Some rule else None) ≡ Some r → PartFront room u (raised_all (u ++ x), value) rule r
+own_front room u x value rule r le named e =
+    let test = if_some (starts_with nat_eq (raised_all (u ++ x)) (codes "X-")) (Some rule) r e in
+    let name = own_name room in
+    let made = u ++ drop (length u) name in
+    let own = own_begins u x room test.0 in
+    let size : length name ≡ room + 2 = omega (arith, length-replicate room) in
+    let within : length u ≤ length name = omega (arith, size, le) in
+    let made_named = made_name u x name named (all_a room) (omega (arith, made_length u name within, size)) in
+    record {
+      end = drop (length u) (name ++ codes "=");
+      tried = own_tried u room;
+      lacks = lacks-drop 59 (length u) (name ++ codes "=") (lacks-append 59 name (codes "=") (own_lacks room) (λ e. omega (arith, e), tt));
+      made = (raised_all made, []);
+      reads = ap part_of (made_text u name [] within) ∙ part_of-named made [] made_named;
+      name = inr (length-raised made ∙ (made_length u name within ∙ size));
+      freq = λ f. absurd (own_is_not_freq (raised_all made) own f);
+      result = rule;
+      puts = own_says_nothing (raised_all made) [] rule own;
+      lesser = subst (λ (s : Rule). Lesser rule s) (same_Some rule r test.1) (lesser_same rule);
+    }
+  where
+    lacks_a : (room : ℕ) → Lacks 59 (replicate room 65)
+    lacks_a zero = tt
+    lacks_a (suc room) = (λ e. omega (arith, e), lacks_a room)
+
+    own_lacks : (room : ℕ) → Lacks 59 (own_name room)
+    own_lacks room = (λ e. omega (arith, e), (λ e. omega (arith, e), lacks_a room))
+
+-- The front of a part goes on with one of the ends that are tried.
+pub part_front : (room : ℕ) (u h : List ℕ) (part : Part) (rule r : Rule) → length u ≤ room → part_of (u ++ h) ≡ Some part → with_part part rule ≡ Some r → PartFront room u part rule r
+part_front room u h part rule r le reads e =
+    let parts = and_then_some if_named (cut 61 (u ++ h)) part reads in
+    let named = if_some (is_name parts.0.0) (Some (raised_all parts.0.0, parts.0.1)) part parts.2 in
+    let is : (raised_all parts.0.0, parts.0.1) ≡ part = same_Some (raised_all parts.0.0, parts.0.1) part named.1 in
+    elim (cases_Option (cut 61 u)) [
+      | inl none ↦ (let x = cut-behind 61 u h parts.0 none parts.1 in
+        let same : (raised_all (u ++ x.0), parts.0.1) ≡ part = sym (ap (λ n. (raised_all n, parts.0.1)) x.1) ∙ is in
+        let name = sym (ap is_name x.1) ∙ named.0 in
+        subst (λ (p : Part). PartFront room u p rule r) same (within_name x.0 parts.0.1 name (ap (λ p. with_part p rule) same ∙ e)))
+      | inr found ↦ (let both : (found.0.0, found.0.1 ++ h) ≡ parts.0 = same_Some (found.0.0, found.0.1 ++ h) parts.0 (sym (cut-front 61 u h found.0 found.1) ∙ parts.1) in
+        let same : (raised_all found.0.0, found.0.1 ++ h) ≡ part = ap (λ (p : List ℕ × List ℕ). (raised_all p.0, p.1)) both ∙ is in
+        let name : is_name found.0.0 ≡ true = ap (λ (p : List ℕ × List ℕ). is_name p.0) both ∙ named.0 in
+        subst (λ (t : List ℕ). PartFront room t part rule r) (sym (cut-some 61 u found.0 found.1))
+        (subst (λ (p : Part). PartFront room (found.0.0 ++ (61 ∷ found.0.1)) p rule r) same (value_front room found.0.0 found.0.1 h rule r name (ap (λ p. with_part p rule) same ∙ e))))
+    ]
+  where
+    within_name : (x value : List ℕ) → is_name (u ++ x) ≡ true → with_part (raised_all (u ++ x), value) rule ≡ Some r → PartFront room u (raised_all (u ++ x), value) rule r
+    within_name x value name puts =
+        let part : Part = (raised_all (u ++ x), value) in
+        elim (cases_Option (row_named (raised_all (u ++ x)))) [
+          | inl none ↦ own_front room u x value rule r le name (sym (ap (by_row part rule) none) ∙ puts)
+          | inr found ↦ (let its = row_of RowFront meanings part found.0 rows_go_on found.1 in
+            known_front room u x value rule r found.0 name its.0 its.1 found.1 (sym (ap (by_row part rule) found.1) ∙ puts))
+        ]
