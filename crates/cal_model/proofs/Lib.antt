@@ -12,6 +12,7 @@ pub mod ListFronts
 pub mod PartFronts
 pub mod QueryLemmas
 pub mod RequestLemmas
+pub mod RuleFronts
 pub mod RuleRows
 pub mod RuleTable
 pub mod UntilFronts

@@ -58,7 +58,7 @@ no_semicolons = grind arith
 
 -- Lists
 
-every-cons : {X : Type 0} → (o : Option X) (os : List (Option X)) (xs : List X) → every (o ∷ os) ≡ Some xs → (x : X) × (more : List X) × (o ≡ Some x) × (every os ≡ Some more) × (x ∷ more ≡ xs)
+pub every-cons : {X : Type 0} → (o : Option X) (os : List (Option X)) (xs : List X) → every (o ∷ os) ≡ Some xs → (x : X) × (more : List X) × (o ≡ Some x) × (every os ≡ Some more) × (x ∷ more ≡ xs)
 every-cons None os xs e = absurd (none-some xs e)
 every-cons (Some x) os xs e = let rest = option_map_some (λ more. x ∷ more) (every os) xs e in (x, rest.0, refl, rest.1, rest.2)
 

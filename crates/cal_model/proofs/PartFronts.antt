@@ -114,7 +114,7 @@ whole_parts_lack = grind arith
 
 -- Rows
 
-row_of : (P : Row → Type 0) (rows : List Row) (part : Part) (row : Row) → HoldsOfRows P rows → find (λ (row : Row). has_name row.0 part) rows ≡ Some row → P row × (part.0 ≡ row.0)
+pub row_of : (P : Row → Type 0) (rows : List Row) (part : Part) (row : Row) → HoldsOfRows P rows → find (λ (row : Row). has_name row.0 part) rows ≡ Some row → P row × (part.0 ≡ row.0)
 row_of P [] part row all e = absurd (none-some row e)
 row_of P (first ∷ rows) part row all e =
     elim (cases_Bool (has_name first.0 part)) [
@@ -123,7 +123,7 @@ row_of P (first ∷ rows) part row all e =
       | inr not ↦ row_of P rows part row all.1 (sym (ap (λ b. if b then Some first else find (λ (row : Row). has_name row.0 part) rows) not) ∙ e)
     ]
 
-abbrev by_row : Part → Rule → Option Row → Option Rule
+abbrev pub by_row : Part → Rule → Option Row → Option Rule
 by_row part rule o = elim o [
   | None ↦ if starts_with nat_eq part.0 (codes "X-") then Some rule else None
   | Some row ↦ row.1 part.1 rule

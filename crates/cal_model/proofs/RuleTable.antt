@@ -255,16 +255,13 @@ until_row = record { upper = refl; named = refl; whole = λ value rule r e. whol
 
     whole : (value : List ℕ) (rule r : Rule) → putting (λ x rule. record rule { until = Some x }) until_of value rule ≡ Some r → (text : List ℕ) × IsAmong (codes "UNTIL" ++ (61 ∷ text)) whole_parts × Instead (codes "UNTIL", putting (λ x rule. record rule { until = Some x }) until_of) value rule r text
     whole value rule r e =
-        let x = option_map_some (λ x. record rule { until = Some x }) (until_of value) r e in (
-          first_pattern,
-          inr (inr (inr (inr (inr (inr (inr (inl refl))))))),
-          record {
-            result = record rule { until = Some until_sample.0 };
-            puts = ap (option_map (λ (x : Until). record rule { until = Some x })) until_sample.1;
-            lesser = subst (λ (s : Rule). Lesser (record rule { until = Some until_sample.0 }) s) x.2 (less until_sample.0 x.0 rule);
-            freq = inr refl;
-          },
-        )
+        let x = option_map_some (λ x. record rule { until = Some x }) (until_of value) r e in
+        (first_pattern, inr (inr (inr (inr (inr (inr (inr (inl refl))))))), record {
+          result = record rule { until = Some until_sample.0 };
+          puts = ap (option_map (λ (x : Until). record rule { until = Some x })) until_sample.1;
+          lesser = subst (λ (s : Rule). Lesser (record rule { until = Some until_sample.0 }) s) x.2 (less until_sample.0 x.0 rule);
+          freq = inr refl;
+        })
 
     end_of : (front end : List ℕ) → (end ≡ drop (length front) first_pattern) ⊎ (end ≡ drop (length front) second_pattern) → IsEndOf (codes "UNTIL") front end
     end_of front end is = elim is [ inl e ↦ inr (first_pattern, inr (inr (inr (inr (inr (inr (inr (inl refl))))))), e) | inr e ↦ inr (second_pattern, inr (inr (inr (inr (inr (inr (inr (inr (inl refl)))))))), e) ]
@@ -272,16 +269,13 @@ until_row = record { upper = refl; named = refl; whole = λ value rule r e. whol
     goes_on : (front h : List ℕ) (rule r : Rule) → putting (λ x rule. record rule { until = Some x }) until_of (front ++ h) rule ≡ Some r → (end : List ℕ) × IsEndOf (codes "UNTIL") front end × Instead (codes "UNTIL", putting (λ x rule. record rule { until = Some x }) until_of) (front ++ h) rule r (front ++ end)
     goes_on front h rule r e =
         let x = option_map_some (λ x. record rule { until = Some x }) (until_of (front ++ h)) r e in
-        let u = until_front front h x.0 x.1 in (
-          u.end,
-          end_of front u.end u.is_end,
-          record {
-            result = record rule { until = Some u.value };
-            puts = ap (option_map (λ (x : Until). record rule { until = Some x })) u.reads;
-            lesser = subst (λ (s : Rule). Lesser (record rule { until = Some u.value }) s) x.2 (less u.value x.0 rule);
-            freq = inr refl;
-          },
-        )
+        let u = until_front front h x.0 x.1 in
+        (u.end, end_of front u.end u.is_end, record {
+          result = record rule { until = Some u.value };
+          puts = ap (option_map (λ (x : Until). record rule { until = Some x })) u.reads;
+          lesser = subst (λ (s : Rule). Lesser (record rule { until = Some u.value }) s) x.2 (less u.value x.0 rule);
+          freq = inr refl;
+        })
 
 -- FREQ
 
@@ -355,32 +349,26 @@ freq_row = record { upper = refl; named = refl; whole = λ value rule r e. whole
   where
     whole : (value : List ℕ) (rule r : Rule) → freq_effect value rule ≡ Some r → (text : List ℕ) × IsAmong (codes "FREQ" ++ (61 ∷ text)) whole_parts × Instead (codes "FREQ", freq_effect) value rule r text
     whole value rule r e =
-        let f = option_map_some (λ freq. rule) (freq_of value) r e in (
-          freq_word f.0,
-          freq_tried f.0,
-          record {
-            result = rule;
-            puts = ap (option_map (λ freq. rule)) (freq_of-word f.0);
-            lesser = subst (λ (s : Rule). Lesser rule s) f.2 (lesser_same rule);
-            freq = inl (freq_of-word f.0 ∙ sym f.1);
-          },
-        )
+        let f = option_map_some (λ freq. rule) (freq_of value) r e in
+        (freq_word f.0, freq_tried f.0, record {
+          result = rule;
+          puts = ap (option_map (λ freq. rule)) (freq_of-word f.0);
+          lesser = subst (λ (s : Rule). Lesser rule s) f.2 (lesser_same rule);
+          freq = inl (freq_of-word f.0 ∙ sym f.1);
+        })
 
     goes_on : (front h : List ℕ) (rule r : Rule) → freq_effect (front ++ h) rule ≡ Some r → (end : List ℕ) × IsEndOf (codes "FREQ") front end × Instead (codes "FREQ", freq_effect) (front ++ h) rule r (front ++ end)
     goes_on front h rule r e =
         let f = option_map_some (λ freq. rule) (freq_of (front ++ h)) r e in
         let word = freq_word f.0 in
         let raised_is = raised-freq (front ++ h) f.0 f.1 in
-        let same = freq_by_raised (front ++ drop (length front) word) (front ++ h) (raised_with front h word raised_is (freq_upper f.0) ∙ sym raised_is) in (
-          drop (length front) word,
-          inr (word, freq_tried f.0, refl),
-          record {
-            result = rule;
-            puts = ap (option_map (λ freq. rule)) (same ∙ f.1);
-            lesser = subst (λ (s : Rule). Lesser rule s) f.2 (lesser_same rule);
-            freq = inl same;
-          },
-        )
+        let same = freq_by_raised (front ++ drop (length front) word) (front ++ h) (raised_with front h word raised_is (freq_upper f.0) ∙ sym raised_is) in
+        (drop (length front) word, inr (word, freq_tried f.0, refl), record {
+          result = rule;
+          puts = ap (option_map (λ freq. rule)) (same ∙ f.1);
+          lesser = subst (λ (s : Rule). Lesser rule s) f.2 (lesser_same rule);
+          freq = inl same;
+        })
 
 -- All rows
 
@@ -393,9 +381,18 @@ rows_go_on = (freq_row, (interval_row, (count_row, (until_row, (week_start_row, 
 
 -- What a row leaves in a rule
 
+-- what the first rule has of what others refuse, the second has too, ordinals aside
+pub record Keeps (r s : Rule) : Type 0 where
+  pub freq : r.freq ≡ s.freq
+  pub count : Implies (is_some r.count) (is_some s.count)
+  pub until : Implies (is_some r.until) (is_some s.until)
+  pub weeks : Implies (has_some r.by_week) (has_some s.by_week)
+  pub year_days : Implies (has_some r.by_year_day) (has_some s.by_year_day)
+  pub month_days : Implies (has_some r.by_month_day) (has_some s.by_month_day)
+
 -- a part that is put in keeps what is refused, and all but BYDAY keep the days
 pub record Grows (row : Row) (rule r : Rule) : Type 0 where
-  pub lesser : Implies (list_any is_ordinal rule.by_day) (list_any is_ordinal r.by_day) → Lesser rule r
+  pub keeps : Keeps rule r
   pub days : (row.0 ≡ codes "BYDAY") ⊎ (r.by_day ≡ rule.by_day)
 
 abbrev pub RowGrows : Row → Type 0
@@ -405,85 +402,85 @@ interval_grows : RowGrows (codes "INTERVAL", putting (λ x rule. record rule { i
 interval_grows value rule r e =
     let x = option_map_some (λ x. record rule { interval = x }) ((number_of 1 999999999) value) r e in
     subst (λ (s : Rule). Grows (codes "INTERVAL", putting (λ x rule. record rule { interval = x }) (number_of 1 999999999)) rule s) x.2
-    (record { lesser = λ ordinals. record { freq = refl; count = λ e. e; until = λ e. e; weeks = λ e. e; year_days = λ e. e; month_days = λ e. e; ordinals = ordinals }; days = inr refl })
+    (record { keeps = record { freq = refl; count = λ e. e; until = λ e. e; weeks = λ e. e; year_days = λ e. e; month_days = λ e. e }; days = inr refl })
 
 count_grows : RowGrows (codes "COUNT", putting (λ x rule. record rule { count = Some x }) (number_of 1 999999999))
 count_grows value rule r e =
     let x = option_map_some (λ x. record rule { count = Some x }) ((number_of 1 999999999) value) r e in
     subst (λ (s : Rule). Grows (codes "COUNT", putting (λ x rule. record rule { count = Some x }) (number_of 1 999999999)) rule s) x.2
-    (record { lesser = λ ordinals. record { freq = refl; count = λ _. refl; until = λ e. e; weeks = λ e. e; year_days = λ e. e; month_days = λ e. e; ordinals = ordinals }; days = inr refl })
+    (record { keeps = record { freq = refl; count = λ _. refl; until = λ e. e; weeks = λ e. e; year_days = λ e. e; month_days = λ e. e }; days = inr refl })
 
 until_grows : RowGrows (codes "UNTIL", putting (λ x rule. record rule { until = Some x }) until_of)
 until_grows value rule r e =
     let x = option_map_some (λ x. record rule { until = Some x }) (until_of value) r e in
     subst (λ (s : Rule). Grows (codes "UNTIL", putting (λ x rule. record rule { until = Some x }) until_of) rule s) x.2
-    (record { lesser = λ ordinals. record { freq = refl; count = λ e. e; until = λ _. refl; weeks = λ e. e; year_days = λ e. e; month_days = λ e. e; ordinals = ordinals }; days = inr refl })
+    (record { keeps = record { freq = refl; count = λ e. e; until = λ _. refl; weeks = λ e. e; year_days = λ e. e; month_days = λ e. e }; days = inr refl })
 
 week_start_grows : RowGrows (codes "WKST", putting (λ x rule. record rule { week_start = x }) weekday_named)
 week_start_grows value rule r e =
     let x = option_map_some (λ x. record rule { week_start = x }) (weekday_named value) r e in
     subst (λ (s : Rule). Grows (codes "WKST", putting (λ x rule. record rule { week_start = x }) weekday_named) rule s) x.2
-    (record { lesser = λ ordinals. record { freq = refl; count = λ e. e; until = λ e. e; weeks = λ e. e; year_days = λ e. e; month_days = λ e. e; ordinals = ordinals }; days = inr refl })
+    (record { keeps = record { freq = refl; count = λ e. e; until = λ e. e; weeks = λ e. e; year_days = λ e. e; month_days = λ e. e }; days = inr refl })
 
 month_grows : RowGrows (codes "BYMONTH", putting (λ x rule. record rule { by_month = x }) (list_of (number_of 1 12)))
 month_grows value rule r e =
     let x = option_map_some (λ x. record rule { by_month = x }) ((list_of (number_of 1 12)) value) r e in
     subst (λ (s : Rule). Grows (codes "BYMONTH", putting (λ x rule. record rule { by_month = x }) (list_of (number_of 1 12))) rule s) x.2
-    (record { lesser = λ ordinals. record { freq = refl; count = λ e. e; until = λ e. e; weeks = λ e. e; year_days = λ e. e; month_days = λ e. e; ordinals = ordinals }; days = inr refl })
+    (record { keeps = record { freq = refl; count = λ e. e; until = λ e. e; weeks = λ e. e; year_days = λ e. e; month_days = λ e. e }; days = inr refl })
 
 week_grows : RowGrows (codes "BYWEEKNO", putting (λ x rule. record rule { by_week = x }) (list_of (place_number 53)))
 week_grows value rule r e =
     let x = option_map_some (λ x. record rule { by_week = x }) ((list_of (place_number 53)) value) r e in
     subst (λ (s : Rule). Grows (codes "BYWEEKNO", putting (λ x rule. record rule { by_week = x }) (list_of (place_number 53))) rule s) x.2
-    (record { lesser = λ ordinals. record { freq = refl; count = λ e. e; until = λ e. e; weeks = λ _. list_is_some (place_number 53) value x.0 x.1; year_days = λ e. e; month_days = λ e. e; ordinals = ordinals }; days = inr refl })
+    (record { keeps = record { freq = refl; count = λ e. e; until = λ e. e; weeks = λ _. list_is_some (place_number 53) value x.0 x.1; year_days = λ e. e; month_days = λ e. e }; days = inr refl })
 
 year_day_grows : RowGrows (codes "BYYEARDAY", putting (λ x rule. record rule { by_year_day = x }) (list_of (place_number 366)))
 year_day_grows value rule r e =
     let x = option_map_some (λ x. record rule { by_year_day = x }) ((list_of (place_number 366)) value) r e in
     subst (λ (s : Rule). Grows (codes "BYYEARDAY", putting (λ x rule. record rule { by_year_day = x }) (list_of (place_number 366))) rule s) x.2
-    (record { lesser = λ ordinals. record { freq = refl; count = λ e. e; until = λ e. e; weeks = λ e. e; year_days = λ _. list_is_some (place_number 366) value x.0 x.1; month_days = λ e. e; ordinals = ordinals }; days = inr refl })
+    (record { keeps = record { freq = refl; count = λ e. e; until = λ e. e; weeks = λ e. e; year_days = λ _. list_is_some (place_number 366) value x.0 x.1; month_days = λ e. e }; days = inr refl })
 
 month_day_grows : RowGrows (codes "BYMONTHDAY", putting (λ x rule. record rule { by_month_day = x }) (list_of (place_number 31)))
 month_day_grows value rule r e =
     let x = option_map_some (λ x. record rule { by_month_day = x }) ((list_of (place_number 31)) value) r e in
     subst (λ (s : Rule). Grows (codes "BYMONTHDAY", putting (λ x rule. record rule { by_month_day = x }) (list_of (place_number 31))) rule s) x.2
-    (record { lesser = λ ordinals. record { freq = refl; count = λ e. e; until = λ e. e; weeks = λ e. e; year_days = λ e. e; month_days = λ _. list_is_some (place_number 31) value x.0 x.1; ordinals = ordinals }; days = inr refl })
+    (record { keeps = record { freq = refl; count = λ e. e; until = λ e. e; weeks = λ e. e; year_days = λ e. e; month_days = λ _. list_is_some (place_number 31) value x.0 x.1 }; days = inr refl })
 
 day_grows : RowGrows (codes "BYDAY", putting (λ x rule. record rule { by_day = x }) (list_of day_of))
 day_grows value rule r e =
     let x = option_map_some (λ x. record rule { by_day = x }) ((list_of day_of) value) r e in
     subst (λ (s : Rule). Grows (codes "BYDAY", putting (λ x rule. record rule { by_day = x }) (list_of day_of)) rule s) x.2
-    (record { lesser = λ ordinals. record { freq = refl; count = λ e. e; until = λ e. e; weeks = λ e. e; year_days = λ e. e; month_days = λ e. e; ordinals = ordinals }; days = inl refl })
+    (record { keeps = record { freq = refl; count = λ e. e; until = λ e. e; weeks = λ e. e; year_days = λ e. e; month_days = λ e. e }; days = inl refl })
 
 hour_grows : RowGrows (codes "BYHOUR", putting (λ x rule. record rule { by_hour = x }) (list_of (number_of 0 23)))
 hour_grows value rule r e =
     let x = option_map_some (λ x. record rule { by_hour = x }) ((list_of (number_of 0 23)) value) r e in
     subst (λ (s : Rule). Grows (codes "BYHOUR", putting (λ x rule. record rule { by_hour = x }) (list_of (number_of 0 23))) rule s) x.2
-    (record { lesser = λ ordinals. record { freq = refl; count = λ e. e; until = λ e. e; weeks = λ e. e; year_days = λ e. e; month_days = λ e. e; ordinals = ordinals }; days = inr refl })
+    (record { keeps = record { freq = refl; count = λ e. e; until = λ e. e; weeks = λ e. e; year_days = λ e. e; month_days = λ e. e }; days = inr refl })
 
 minute_grows : RowGrows (codes "BYMINUTE", putting (λ x rule. record rule { by_minute = x }) (list_of (number_of 0 59)))
 minute_grows value rule r e =
     let x = option_map_some (λ x. record rule { by_minute = x }) ((list_of (number_of 0 59)) value) r e in
     subst (λ (s : Rule). Grows (codes "BYMINUTE", putting (λ x rule. record rule { by_minute = x }) (list_of (number_of 0 59))) rule s) x.2
-    (record { lesser = λ ordinals. record { freq = refl; count = λ e. e; until = λ e. e; weeks = λ e. e; year_days = λ e. e; month_days = λ e. e; ordinals = ordinals }; days = inr refl })
+    (record { keeps = record { freq = refl; count = λ e. e; until = λ e. e; weeks = λ e. e; year_days = λ e. e; month_days = λ e. e }; days = inr refl })
 
 second_grows : RowGrows (codes "BYSECOND", putting (λ x rule. record rule { by_second = x }) (list_of second_number))
 second_grows value rule r e =
     let x = option_map_some (λ x. record rule { by_second = x }) ((list_of second_number) value) r e in
     subst (λ (s : Rule). Grows (codes "BYSECOND", putting (λ x rule. record rule { by_second = x }) (list_of second_number)) rule s) x.2
-    (record { lesser = λ ordinals. record { freq = refl; count = λ e. e; until = λ e. e; weeks = λ e. e; year_days = λ e. e; month_days = λ e. e; ordinals = ordinals }; days = inr refl })
+    (record { keeps = record { freq = refl; count = λ e. e; until = λ e. e; weeks = λ e. e; year_days = λ e. e; month_days = λ e. e }; days = inr refl })
 
 set_pos_grows : RowGrows (codes "BYSETPOS", putting (λ x rule. record rule { by_set_pos = x }) (list_of (place_number 366)))
 set_pos_grows value rule r e =
     let x = option_map_some (λ x. record rule { by_set_pos = x }) ((list_of (place_number 366)) value) r e in
     subst (λ (s : Rule). Grows (codes "BYSETPOS", putting (λ x rule. record rule { by_set_pos = x }) (list_of (place_number 366))) rule s) x.2
-    (record { lesser = λ ordinals. record { freq = refl; count = λ e. e; until = λ e. e; weeks = λ e. e; year_days = λ e. e; month_days = λ e. e; ordinals = ordinals }; days = inr refl })
+    (record { keeps = record { freq = refl; count = λ e. e; until = λ e. e; weeks = λ e. e; year_days = λ e. e; month_days = λ e. e }; days = inr refl })
 
 freq_grows : RowGrows (codes "FREQ", freq_effect)
 freq_grows value rule r e =
     let x = option_map_some (λ freq. rule) (freq_of value) r e in
     subst (λ (s : Rule). Grows (codes "FREQ", freq_effect) rule s) x.2
-    (record { lesser = λ ordinals. lesser_same rule; days = inr refl })
+    (record { keeps = record { freq = refl; count = λ e. e; until = λ e. e; weeks = λ e. e; year_days = λ e. e; month_days = λ e. e }; days = inr refl })
 
 pub rows_grow : HoldsOfRows RowGrows meanings
 rows_grow = (freq_grows, (interval_grows, (count_grows, (until_grows, (week_start_grows, (month_grows, (week_grows, (year_day_grows, (month_day_grows, (day_grows, (hour_grows, (minute_grows, (second_grows, (set_pos_grows, tt))))))))))))))
