@@ -72,7 +72,7 @@ cut-behind s (c ∷ text) h parts none e =
 
 -- Names
 
-length-raised : (text : List ℕ) → length (raised_all text) ≡ length text
+pub length-raised : (text : List ℕ) → length (raised_all text) ≡ length text
 length-raised [] = refl
 length-raised (c ∷ text) = ap suc (length-raised text)
 
@@ -345,14 +345,14 @@ part_front room u h part rule r le reads e =
     let is : (raised_all parts.0.0, parts.0.1) ≡ part = same_Some (raised_all parts.0.0, parts.0.1) part named.1 in
     elim (cases_Option (cut 61 u)) [
       | inl none ↦ (let x = cut-behind 61 u h parts.0 none parts.1 in
-        let same : (raised_all (u ++ x.0), parts.0.1) ≡ part = sym (ap (λ n. (raised_all n, parts.0.1)) x.1) ∙ is in
-        let name = sym (ap is_name x.1) ∙ named.0 in
-        subst (λ (p : Part). PartFront room u p rule r) same (within_name x.0 parts.0.1 name (ap (λ p. with_part p rule) same ∙ e)))
+          let same : (raised_all (u ++ x.0), parts.0.1) ≡ part = sym (ap (λ n. (raised_all n, parts.0.1)) x.1) ∙ is in
+          let name = sym (ap is_name x.1) ∙ named.0 in
+          subst (λ (p : Part). PartFront room u p rule r) same (within_name x.0 parts.0.1 name (ap (λ p. with_part p rule) same ∙ e)))
       | inr found ↦ (let both : (found.0.0, found.0.1 ++ h) ≡ parts.0 = same_Some (found.0.0, found.0.1 ++ h) parts.0 (sym (cut-front 61 u h found.0 found.1) ∙ parts.1) in
-        let same : (raised_all found.0.0, found.0.1 ++ h) ≡ part = ap (λ (p : List ℕ × List ℕ). (raised_all p.0, p.1)) both ∙ is in
-        let name : is_name found.0.0 ≡ true = ap (λ (p : List ℕ × List ℕ). is_name p.0) both ∙ named.0 in
-        subst (λ (t : List ℕ). PartFront room t part rule r) (sym (cut-some 61 u found.0 found.1))
-        (subst (λ (p : Part). PartFront room (found.0.0 ++ (61 ∷ found.0.1)) p rule r) same (value_front room found.0.0 found.0.1 h rule r name (ap (λ p. with_part p rule) same ∙ e))))
+          let same : (raised_all found.0.0, found.0.1 ++ h) ≡ part = ap (λ (p : List ℕ × List ℕ). (raised_all p.0, p.1)) both ∙ is in
+          let name : is_name found.0.0 ≡ true = ap (λ (p : List ℕ × List ℕ). is_name p.0) both ∙ named.0 in
+          subst (λ (t : List ℕ). PartFront room t part rule r) (sym (cut-some 61 u found.0 found.1))
+          (subst (λ (p : Part). PartFront room (found.0.0 ++ (61 ∷ found.0.1)) p rule r) same (value_front room found.0.0 found.0.1 h rule r name (ap (λ p. with_part p rule) same ∙ e))))
     ]
   where
     within_name : (x value : List ℕ) → is_name (u ++ x) ≡ true → with_part (raised_all (u ++ x), value) rule ≡ Some r → PartFront room u (raised_all (u ++ x), value) rule r
@@ -361,5 +361,5 @@ part_front room u h part rule r le reads e =
         elim (cases_Option (row_named (raised_all (u ++ x)))) [
           | inl none ↦ own_front room u x value rule r le name (sym (ap (by_row part rule) none) ∙ puts)
           | inr found ↦ (let its = row_of RowFront meanings part found.0 rows_go_on found.1 in
-            known_front room u x value rule r found.0 name its.0 its.1 found.1 (sym (ap (by_row part rule) found.1) ∙ puts))
+              known_front room u x value rule r found.0 name its.0 its.1 found.1 (sym (ap (by_row part rule) found.1) ∙ puts))
         ]

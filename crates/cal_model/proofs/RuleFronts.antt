@@ -4,16 +4,19 @@ use Rattle.std.specs.List.{list_any, last_or, starts_with}
 use Rattle.std.proofs.lemmas.Bool.{cases_Bool, false≢true, and_parts}
 use Rattle.std.proofs.lemmas.List.{length-append, append-nil}
 use Rattle.std.proofs.lemmas.Option.{none-some, same_Some}
-use Rattle.cal_base.specs.ContentLines.{pieces, onto_first, every}
+use Rattle.cal_base.specs.ContentLines.{pieces, onto_first, every, is_name}
+use Rattle.cal_base.specs.Text.{raised_all}
 use Rattle.cal_moment.specs.BadPlace.{BeginsOne}
 use Rattle.cal_model.specs.declared.rule.Freq.{Freq}
+use Rattle.cal_model.specs.declared.rule.Freq.TheVariants.{Secondly, Minutely, Hourly, Daily, Weekly, Monthly, Yearly}
 use Rattle.cal_model.specs.declared.rule.Rule.{Rule}
-use Rattle.cal_model.specs.RuleTexts.{Part, part_of, without_last_empty, rule_parts, has_name, is_each_once, freq_of, freq_in, meanings, with_part, with_parts, every_time, is_ordinal, is_allowed, if_allowed, rule_of_freq, rule_of_parts, rule_in_grammar}
+use Rattle.cal_model.specs.RuleTexts.{Part, if_named, part_of, without_last_empty, rule_parts, has_name, is_each_once, freq_of, freq_in, meanings, with_part, with_parts, every_time, is_ordinal, is_allowed, if_allowed, rule_of_freq, rule_of_parts, rule_in_grammar}
+use Rattle.cal_model.specs.ValueTexts.{cut}
 use Rattle.cal_model.specs.BadValues.{Reads, frequency_parts, last_part, part_ends, endings, rests, can_go_on, FrontsOfRulesAreTried}
 use Rattle.cal_model.proofs.BadValueLaws.{joined, firsts, final, first_piece, pieces-append, pieces-lacks, can_go_on-BeginsOne}
 use Rattle.cal_model.proofs.CutLemmas.{cases_Option, option_map_some, and_then_some, if_some, is_same_text, same_text, no_octets, Lacks, cut-some}
 use Rattle.cal_model.proofs.ListFronts.{IsAmong, HoldsOfAll, every-cons}
-use Rattle.cal_model.proofs.PartFronts.{among-left, among-right, among-map, row_of, by_row, ends_of, PartFront, part_front}
+use Rattle.cal_model.proofs.PartFronts.{length-raised, among-left, among-right, among-map, row_of, by_row, ends_of, PartFront, part_front}
 use Rattle.cal_model.proofs.RuleRows.{Implies, Lesser, lesser_then, Row, allowed_less}
 use Rattle.cal_model.proofs.RuleTable.{freq_word, freq_of-word, Keeps, Grows, RowGrows, rows_grow}
 
@@ -112,10 +115,10 @@ part_grows : (part : Part) (rule r : Rule) → with_part part rule ≡ Some r �
 part_grows part rule r e =
     elim (cases_Option (find (λ (row : Row). has_name row.0 part) meanings)) [
       | inl none ↦ (let same = same_Some rule r (if_some (starts_with nat_eq part.0 (codes "X-")) (Some rule) r (sym (ap (by_row part rule) none) ∙ e)).1 in
-        (subst (λ (s : Rule). Keeps rule s) same (keeps_same rule), inr (ap (λ (s : Rule). s.by_day) (sym same))))
+          (subst (λ (s : Rule). Keeps rule s) same (keeps_same rule), inr (ap (λ (s : Rule). s.by_day) (sym same))))
       | inr found ↦ (let its = row_of RowGrows meanings part found.0 rows_grow found.1 in
-        let grows = its.0 part.1 rule r (sym (ap (by_row part rule) found.1) ∙ e) in
-        (grows.keeps, elim grows.days [ inl is ↦ inl (its.1 ∙ is) | inr same ↦ inr same ]))
+          let grows = its.0 part.1 rule r (sym (ap (by_row part rule) found.1) ∙ e) in
+          (grows.keeps, elim grows.days [ inl is ↦ inl (its.1 ∙ is) | inr same ↦ inr same ]))
     ]
 
 parts_keep : (parts : List Part) (rule r : Rule) → with_parts parts rule ≡ Some r → Keeps rule r
@@ -141,3 +144,210 @@ days_of_others (part ∷ parts) rule r others e =
     let first = and_then_some (with_parts parts) (with_part part rule) r e in
     let none = or_false (has_name (codes "BYDAY") part) (list_any (has_name (codes "BYDAY")) parts) others in
     days_of_others parts first.0 r none.1 first.2 ∙ days_of_other part rule first.0 none.0 first.1
+
+-- Names
+
+name_short : (k : ℕ) (text : List ℕ) (part : Part) → length text ≤ k → part_of text ≡ Some part → length part.0 ≤ k
+name_short k text part le e =
+    let parts = and_then_some if_named (cut 61 text) part e in
+    let named = if_some (is_name parts.0.0) (Some (raised_all parts.0.0, parts.0.1)) part parts.2 in
+    let is : (raised_all parts.0.0, parts.0.1) ≡ part = same_Some (raised_all parts.0.0, parts.0.1) part named.1 in
+    omega (arith, ap (λ (p : Part). length p.0) is, length-raised parts.0.0, ap length (cut-some 61 text parts.0 parts.1), length-append parts.0.0 (61 ∷ parts.0.1), le)
+
+names_short : (k : ℕ) (fs : List (List ℕ)) (parts : List Part) → HoldsOfAll (IsShort k) fs → every (map part_of fs) ≡ Some parts → AreShort k parts
+unfolding IsShort AreShort
+names_short k [] parts all e = subst (AreShort k) (same_Some [] parts e) tt
+names_short k (t ∷ fs) parts all e =
+    let first = every-cons (part_of t) (map part_of fs) parts e in
+    subst (AreShort k) first.4 (name_short k t first.0 all.0 first.2, names_short k fs first.1 all.1 first.3)
+
+-- no part of the first has a name of the second
+Apart : List Part → List Part → Type 0
+Apart [] others = Unit {0}
+Apart (part ∷ parts) others = (list_any (has_name part.0) others ≡ false) × Apart parts others
+
+any-split : {A : Type 0} → (test : A → Bool) (a b : List A) → list_any test (a ++ b) ≡ false → (list_any test a ≡ false) × (list_any test b ≡ false)
+any-split test [] b e = (refl, e)
+any-split test (x ∷ a) b e =
+    let first = or_false (test x) (list_any test (a ++ b)) e in
+    let rest = any-split test a b first.1 in
+    (ap₂ (λ p q. p || q) first.0 rest.0, rest.1)
+
+any-join : {A : Type 0} → (test : A → Bool) (a b : List A) → list_any test a ≡ false → list_any test b ≡ false → list_any test (a ++ b) ≡ false
+any-join test [] b x y = y
+any-join test (c ∷ a) b x y =
+    let first = or_false (test c) (list_any test a) x in
+    ap₂ (λ p q. p || q) first.0 (any-join test a b first.1 y)
+
+not_true : (b : Bool) → not b ≡ true → b ≡ false
+not_true true e = sym e
+not_true false e = refl
+
+once-split : (a b : List Part) → is_each_once (a ++ b) ≡ true → (is_each_once a ≡ true) × Apart a b × (is_each_once b ≡ true)
+unfolding Apart
+once-split [] b e = (refl, tt, e)
+once-split (part ∷ a) b e =
+    let parts = and_parts (not (list_any (has_name part.0) (a ++ b))) (is_each_once (a ++ b)) e in
+    let apart = any-split (has_name part.0) a b (not_true (list_any (has_name part.0) (a ++ b)) parts.0) in
+    let rest = once-split a b parts.1 in
+    (ap₂ (λ p q. not p && q) apart.0 rest.0, (apart.1, rest.1), rest.2)
+
+once-join : (a b : List Part) → is_each_once a ≡ true → Apart a b → is_each_once b ≡ true → is_each_once (a ++ b) ≡ true
+unfolding Apart
+once-join [] b x apart y = y
+once-join (part ∷ a) b x apart y =
+    let parts = and_parts (not (list_any (has_name part.0) a)) (is_each_once a) x in
+    ap₂ (λ p q. not p && q) (any-join (has_name part.0) a b (not_true (list_any (has_name part.0) a) parts.0) apart.0) (once-join a b parts.1 apart.1 y)
+
+-- a test of two texts, the other way round
+other_way : (a b : List ℕ) → bytes_eq a b ≡ false → bytes_eq b a ≡ false
+other_way a b e =
+    elim (cases_Bool (bytes_eq b a)) [
+      | inl same ↦ absurd (false≢true (sym e ∙ (ap (λ t. bytes_eq a t) (is_same_text b a same) ∙ same_text a)))
+      | inr other ↦ other
+    ]
+
+-- what stands for a part is apart from the same parts
+apart_made : (k : ℕ) (before behind : List Part) (part made : Part) → Apart before (part ∷ behind) → AreShort k before → (made.0 ≡ part.0) ⊎ (length made.0 ≡ k + 2) → Apart before (made ∷ [])
+unfolding Apart AreShort
+apart_made k [] behind part made apart short name = tt
+apart_made k (a ∷ before) behind part made apart short name =
+    let other : has_name a.0 part ≡ false = (or_false (has_name a.0 part) (list_any (has_name a.0) behind) apart.0).0 in
+    (ap (λ b. b || false) (elim name [ inl same ↦ (ap (λ n. bytes_eq n a.0) same ∙ other) | inr long ↦ long_name a.0 made.0 (omega (arith, long, short.0)) ]), apart_made k before behind part made apart.1 short.1 name)
+  where
+    long_name : (n m : List ℕ) → length n < length m → bytes_eq m n ≡ false
+    long_name n m lt =
+        elim (cases_Bool (bytes_eq m n)) [
+          | inl same ↦ absurd (omega (arith, ap length (is_same_text m n same), lt))
+          | inr other ↦ other
+        ]
+
+-- one more part, whose name none of the others has
+apart_more : (before others : List Part) (more : Part) → Apart before others → list_any (has_name more.0) before ≡ false → Apart before (others ++ (more ∷ []))
+unfolding Apart
+apart_more [] others more apart none = tt
+apart_more (a ∷ before) others more apart none =
+    let first = or_false (has_name more.0 a) (list_any (has_name more.0) before) none in
+    (any-join (has_name a.0) others (more ∷ []) apart.0 (ap (λ b. b || false) (other_way a.0 more.0 first.0)), apart_more before others more apart.1 first.1)
+
+-- parts that are apart from others lack a name that the others have
+apart_lacks : (name : List ℕ) (before others : List Part) → Apart before others → list_any (has_name name) others ≡ true → list_any (has_name name) before ≡ false
+unfolding Apart
+apart_lacks name [] others apart has = refl
+apart_lacks name (a ∷ before) others apart has =
+    let first : has_name name a ≡ false = elim (cases_Bool (has_name name a)) [
+      | inl is ↦ absurd (false≢true (sym apart.0 ∙ (ap (λ n. list_any (has_name n) others) (is_same_text a.0 name is) ∙ has)))
+      | inr other ↦ other
+    ] in
+    ap₂ (λ p q. p || q) first (apart_lacks name before others apart.1 has)
+
+-- FREQ
+
+find-left : (test : Part → Bool) (a b : List Part) (q : Part) → find test a ≡ Some q → find test (a ++ b) ≡ Some q
+find-left test [] b q e = absurd (none-some q e)
+find-left test (x ∷ a) b q e =
+    elim (cases_Bool (test x)) [
+      | inl is ↦ (ap (λ t. if t then Some x else find test (a ++ b)) is ∙ (sym (ap (λ t. if t then Some x else find test a) is) ∙ e))
+      | inr not ↦ (ap (λ t. if t then Some x else find test (a ++ b)) not ∙ find-left test a b q (sym (ap (λ t. if t then Some x else find test a) not) ∙ e))
+    ]
+
+-- where none is found none passes, and the others decide
+find-right : (test : Part → Bool) (a b : List Part) → find test a ≡ None → (list_any test a ≡ false) × (find test (a ++ b) ≡ find test b)
+find-right test [] b e = (refl, refl)
+find-right test (x ∷ a) b e =
+    elim (cases_Bool (test x)) [
+      | inl is ↦ absurd (none-some x (sym e ∙ ap (λ t. if t then Some x else find test a) is))
+      | inr not ↦ (let rest = find-right test a b (sym (ap (λ t. if t then Some x else find test a) not) ∙ e) in
+          (ap₂ (λ p q. p || q) not rest.0, ap (λ t. if t then Some x else find test (a ++ b)) not ∙ rest.1))
+    ]
+
+-- FREQ as a part behind the others
+abbrev freq_part : Freq → Part
+freq_part f = (codes "FREQ", freq_word f)
+
+abbrev freq_text : Freq → List ℕ
+freq_text f = codes "FREQ=" ++ freq_word f
+
+freq_text_is : (f : Freq) → (part_of (freq_text f) ≡ Some (freq_part f)) × (pieces 59 (59 ∷ freq_text f) ≡ [] ∷ freq_text f ∷ []) × (without_last_empty (freq_text f ∷ []) ≡ freq_text f ∷ [])
+freq_text_is Secondly = (refl, refl, refl)
+freq_text_is Minutely = (refl, refl, refl)
+freq_text_is Hourly = (refl, refl, refl)
+freq_text_is Daily = (refl, refl, refl)
+freq_text_is Weekly = (refl, refl, refl)
+freq_text_is Monthly = (refl, refl, refl)
+freq_text_is Yearly = (refl, refl, refl)
+
+freq_says_nothing : (f : Freq) (rule : Rule) → with_part (freq_part f) rule ≡ Some rule
+freq_says_nothing f rule = ap (option_map (λ freq. rule)) (freq_of-word f)
+
+freq_ending : (f : Freq) → IsAmong (59 ∷ freq_text f) endings
+freq_ending Secondly = inr (inl refl)
+freq_ending Minutely = inr (inr (inl refl))
+freq_ending Hourly = inr (inr (inr (inl refl)))
+freq_ending Daily = inr (inr (inr (inr (inl refl))))
+freq_ending Weekly = inr (inr (inr (inr (inr (inl refl)))))
+freq_ending Monthly = inr (inr (inr (inr (inr (inr (inl refl))))))
+freq_ending Yearly = inr (inr (inr (inr (inr (inr (inr (inl refl)))))))
+
+-- Rests
+
+among-flat_map : (f : List ℕ → List (List ℕ)) (x y : List ℕ) (xs : List (List ℕ)) → IsAmong x xs → IsAmong y (f x) → IsAmong y (flat_map f xs)
+among-flat_map f x y [] is its = absurd is
+among-flat_map f x y (z ∷ xs) is its =
+    elim is [
+      | inl e ↦ among-left y (f z) (flat_map f xs) (subst (λ (t : List ℕ). IsAmong y (f t)) e its)
+      | inr more ↦ among-right y (f z) (flat_map f xs) (among-flat_map f x y xs more its)
+    ]
+
+any_among : (test : List ℕ → Bool) (x : List ℕ) (xs : List (List ℕ)) → IsAmong x xs → test x ≡ true → list_any test xs ≡ true
+any_among test x [] is e = absurd is
+any_among test x (y ∷ xs) is e =
+    elim is [
+      | inl same ↦ ap (λ b. b || list_any test xs) (sym (ap test same) ∙ e)
+      | inr more ↦ (ap (λ b. test y || b) (any_among test x xs more e) ∙ or_true (test y))
+    ]
+  where
+    or_true : (b : Bool) → (b || true) ≡ true
+    or_true true = refl
+    or_true false = refl
+
+last_is : (front p : List ℕ) (ps : List (List ℕ)) → pieces 59 front ≡ p ∷ ps → last_part front ≡ final (p ∷ ps)
+last_is front p ps e = ap (λ qs. unwrap_or (last_or None qs) []) e ∙ last-final p ps
+
+-- a rest that makes a rule is found
+found_rest : (front u end ending : List ℕ) (r : Rule) → last_part front ≡ u → IsAmong end (ends_of u (length front)) → IsAmong ending endings → rule_in_grammar (front ++ (end ++ ending)) ≡ Some r → can_go_on front ≡ true
+found_rest front u end ending r last tried ended e =
+    any_among (λ rest. is_some (rule_in_grammar (front ++ rest))) (end ++ ending) (rests front)
+    (among-flat_map (λ end. map (λ ending. end ++ ending) endings) end (end ++ ending) (part_ends front) (subst (λ (t : List ℕ). IsAmong end (ends_of t (length front))) (sym last) tried) (among-map (λ ending. end ++ ending) ending endings ended))
+    (ap is_some e)
+
+-- Rules of pieces
+
+abbrev rule_of_pieces : List (List ℕ) → Option Rule
+rule_of_pieces ps = option_and_then rule_of_parts (every (map part_of (without_last_empty ps)))
+
+by_pieces : (text : List ℕ) (ps : List (List ℕ)) → pieces 59 text ≡ ps → rule_in_grammar text ≡ rule_of_pieces ps
+unfolding rule_in_grammar
+by_pieces text ps e = ap rule_of_pieces e
+
+-- what makes parts a rule
+record ArePartsOf (parts : List Part) (f : Freq) (r : Rule) : Type 0 where
+  once : is_each_once parts ≡ true
+  freq : freq_in parts ≡ Some f
+  said : with_parts parts (every_time f) ≡ Some r
+  allowed : is_allowed r ≡ true
+
+parts_make : (parts : List Part) (f : Freq) (r : Rule) → ArePartsOf parts f r → rule_of_parts parts ≡ Some r
+parts_make parts f r a =
+    ap (λ b. if b then option_and_then (rule_of_freq parts) (freq_in parts) else None) a.once
+    ∙ (ap (option_and_then (rule_of_freq parts)) a.freq
+    ∙ (ap (option_and_then if_allowed) a.said ∙ ap (λ b. if b then Some r else None) a.allowed))
+
+parts_made : (parts : List Part) (r : Rule) → rule_of_parts parts ≡ Some r → (f : Freq) × ArePartsOf parts f r
+parts_made parts r e =
+    let test = if_some (is_each_once parts) (option_and_then (rule_of_freq parts) (freq_in parts)) r e in
+    let freq = and_then_some (rule_of_freq parts) (freq_in parts) r test.1 in
+    let said = and_then_some if_allowed (with_parts parts (every_time freq.0)) r freq.2 in
+    let allowed = if_some (is_allowed said.0) (Some said.0) r said.2 in
+    let same = same_Some said.0 r allowed.1 in
+    (freq.0, record { once = test.0; freq = freq.1; said = said.1 ∙ ap (λ s. Some s) same; allowed = ap is_allowed (sym same) ∙ allowed.0 })

@@ -255,13 +255,16 @@ until_row = record { upper = refl; named = refl; whole = λ value rule r e. whol
 
     whole : (value : List ℕ) (rule r : Rule) → putting (λ x rule. record rule { until = Some x }) until_of value rule ≡ Some r → (text : List ℕ) × IsAmong (codes "UNTIL" ++ (61 ∷ text)) whole_parts × Instead (codes "UNTIL", putting (λ x rule. record rule { until = Some x }) until_of) value rule r text
     whole value rule r e =
-        let x = option_map_some (λ x. record rule { until = Some x }) (until_of value) r e in
-        (first_pattern, inr (inr (inr (inr (inr (inr (inr (inl refl))))))), record {
-          result = record rule { until = Some until_sample.0 };
-          puts = ap (option_map (λ (x : Until). record rule { until = Some x })) until_sample.1;
-          lesser = subst (λ (s : Rule). Lesser (record rule { until = Some until_sample.0 }) s) x.2 (less until_sample.0 x.0 rule);
-          freq = inr refl;
-        })
+        let x = option_map_some (λ x. record rule { until = Some x }) (until_of value) r e in (
+          first_pattern,
+          inr (inr (inr (inr (inr (inr (inr (inl refl))))))),
+          record {
+            result = record rule { until = Some until_sample.0 };
+            puts = ap (option_map (λ (x : Until). record rule { until = Some x })) until_sample.1;
+            lesser = subst (λ (s : Rule). Lesser (record rule { until = Some until_sample.0 }) s) x.2 (less until_sample.0 x.0 rule);
+            freq = inr refl;
+          },
+        )
 
     end_of : (front end : List ℕ) → (end ≡ drop (length front) first_pattern) ⊎ (end ≡ drop (length front) second_pattern) → IsEndOf (codes "UNTIL") front end
     end_of front end is = elim is [ inl e ↦ inr (first_pattern, inr (inr (inr (inr (inr (inr (inr (inl refl))))))), e) | inr e ↦ inr (second_pattern, inr (inr (inr (inr (inr (inr (inr (inr (inl refl)))))))), e) ]
@@ -269,13 +272,16 @@ until_row = record { upper = refl; named = refl; whole = λ value rule r e. whol
     goes_on : (front h : List ℕ) (rule r : Rule) → putting (λ x rule. record rule { until = Some x }) until_of (front ++ h) rule ≡ Some r → (end : List ℕ) × IsEndOf (codes "UNTIL") front end × Instead (codes "UNTIL", putting (λ x rule. record rule { until = Some x }) until_of) (front ++ h) rule r (front ++ end)
     goes_on front h rule r e =
         let x = option_map_some (λ x. record rule { until = Some x }) (until_of (front ++ h)) r e in
-        let u = until_front front h x.0 x.1 in
-        (u.end, end_of front u.end u.is_end, record {
-          result = record rule { until = Some u.value };
-          puts = ap (option_map (λ (x : Until). record rule { until = Some x })) u.reads;
-          lesser = subst (λ (s : Rule). Lesser (record rule { until = Some u.value }) s) x.2 (less u.value x.0 rule);
-          freq = inr refl;
-        })
+        let u = until_front front h x.0 x.1 in (
+          u.end,
+          end_of front u.end u.is_end,
+          record {
+            result = record rule { until = Some u.value };
+            puts = ap (option_map (λ (x : Until). record rule { until = Some x })) u.reads;
+            lesser = subst (λ (s : Rule). Lesser (record rule { until = Some u.value }) s) x.2 (less u.value x.0 rule);
+            freq = inr refl;
+          },
+        )
 
 -- FREQ
 
@@ -349,26 +355,32 @@ freq_row = record { upper = refl; named = refl; whole = λ value rule r e. whole
   where
     whole : (value : List ℕ) (rule r : Rule) → freq_effect value rule ≡ Some r → (text : List ℕ) × IsAmong (codes "FREQ" ++ (61 ∷ text)) whole_parts × Instead (codes "FREQ", freq_effect) value rule r text
     whole value rule r e =
-        let f = option_map_some (λ freq. rule) (freq_of value) r e in
-        (freq_word f.0, freq_tried f.0, record {
-          result = rule;
-          puts = ap (option_map (λ freq. rule)) (freq_of-word f.0);
-          lesser = subst (λ (s : Rule). Lesser rule s) f.2 (lesser_same rule);
-          freq = inl (freq_of-word f.0 ∙ sym f.1);
-        })
+        let f = option_map_some (λ freq. rule) (freq_of value) r e in (
+          freq_word f.0,
+          freq_tried f.0,
+          record {
+            result = rule;
+            puts = ap (option_map (λ freq. rule)) (freq_of-word f.0);
+            lesser = subst (λ (s : Rule). Lesser rule s) f.2 (lesser_same rule);
+            freq = inl (freq_of-word f.0 ∙ sym f.1);
+          },
+        )
 
     goes_on : (front h : List ℕ) (rule r : Rule) → freq_effect (front ++ h) rule ≡ Some r → (end : List ℕ) × IsEndOf (codes "FREQ") front end × Instead (codes "FREQ", freq_effect) (front ++ h) rule r (front ++ end)
     goes_on front h rule r e =
         let f = option_map_some (λ freq. rule) (freq_of (front ++ h)) r e in
         let word = freq_word f.0 in
         let raised_is = raised-freq (front ++ h) f.0 f.1 in
-        let same = freq_by_raised (front ++ drop (length front) word) (front ++ h) (raised_with front h word raised_is (freq_upper f.0) ∙ sym raised_is) in
-        (drop (length front) word, inr (word, freq_tried f.0, refl), record {
-          result = rule;
-          puts = ap (option_map (λ freq. rule)) (same ∙ f.1);
-          lesser = subst (λ (s : Rule). Lesser rule s) f.2 (lesser_same rule);
-          freq = inl same;
-        })
+        let same = freq_by_raised (front ++ drop (length front) word) (front ++ h) (raised_with front h word raised_is (freq_upper f.0) ∙ sym raised_is) in (
+          drop (length front) word,
+          inr (word, freq_tried f.0, refl),
+          record {
+            result = rule;
+            puts = ap (option_map (λ freq. rule)) (same ∙ f.1);
+            lesser = subst (λ (s : Rule). Lesser rule s) f.2 (lesser_same rule);
+            freq = inl same;
+          },
+        )
 
 -- All rows
 
