@@ -15,6 +15,7 @@ use Rattle.cal_model.specs.ValueTexts.{cut}
 use Rattle.cal_model.specs.BadValues.{Reads, frequency_parts, last_part, part_ends, endings, rests, can_go_on, FrontsOfRulesAreTried}
 use Rattle.cal_model.proofs.BadValueLaws.{joined, firsts, final, first_piece, pieces-append, pieces-lacks, can_go_on-BeginsOne}
 use Rattle.cal_model.proofs.CutLemmas.{cases_Option, option_map_some, and_then_some, if_some, is_same_text, same_text, no_octets, Lacks, cut-some}
+use Rattle.cal_model.proofs.LengthLaws.{some_octets}
 use Rattle.cal_model.proofs.ListFronts.{IsAmong, HoldsOfAll, every-cons}
 use Rattle.cal_model.proofs.PartFronts.{length-raised, among-left, among-right, among-map, row_of, by_row, ends_of, PartFront, part_front}
 use Rattle.cal_model.proofs.RuleRows.{Implies, Lesser, lesser_then, Row, allowed_less}
@@ -351,3 +352,151 @@ parts_made parts r e =
     let allowed = if_some (is_allowed said.0) (Some said.0) r said.2 in
     let same = same_Some said.0 r allowed.1 in
     (freq.0, record { once = test.0; freq = freq.1; said = said.1 ∙ ap (λ s. Some s) same; allowed = ap is_allowed (sym same) ∙ allowed.0 })
+
+-- The made rule
+
+-- the front of a rule's pieces: whole parts, and one that is broken off
+record BrokenOff (front : List ℕ) (fs : List (List ℕ)) (u : List ℕ) (before : List Part) : Type 0 where
+  last : last_part front ≡ u
+  with_rest : (rest h : List ℕ) (more : List (List ℕ)) → pieces 59 rest ≡ h ∷ more → pieces 59 (front ++ rest) ≡ fs ++ ((u ++ h) ∷ more)
+  read : every (map part_of fs) ≡ Some before
+
+no_part : (part : Part) → part_of [] ≡ Some part → ⊥
+no_part part e = none-some part e
+
+whole_piece : (w : List ℕ) (part : Part) → part_of w ≡ Some part → without_last_empty (w ∷ []) ≡ w ∷ []
+whole_piece [] part e = absurd (no_part part e)
+whole_piece (c ∷ w) part e = ap (λ b. if b then [] else (c ∷ w) ∷ []) (some_octets (c ∷ w) (λ none. omega (arith, ap length none)))
+
+-- with the end of a part alone
+made_alone : (front : List ℕ) (fs : List (List ℕ)) (u end : List ℕ) (before : List Part) (made : Part) (f : Freq) (r : Rule) → BrokenOff front fs u before → Lacks 59 end → part_of (u ++ end) ≡ Some made → ArePartsOf (before ++ (made ∷ [])) f r → rule_in_grammar (front ++ (end ++ [])) ≡ Some r
+made_alone front fs u end before made f r broken lacks reads parts =
+    let rest : pieces 59 (end ++ []) ≡ end ∷ [] = ap (pieces 59) (append-nil end) ∙ pieces-lacks 59 end lacks in
+    by_pieces (front ++ (end ++ [])) (fs ++ ((u ++ end) ∷ [])) (broken.with_rest (end ++ []) end [] rest)
+    ∙ (ap (λ ps. option_and_then rule_of_parts (every (map part_of ps))) (without-append fs (u ++ end) [] ∙ ap (λ ps. fs ++ ps) (whole_piece (u ++ end) made reads))
+    ∙ (ap (option_and_then rule_of_parts) (every-join fs ((u ++ end) ∷ []) before (made ∷ []) broken.read (ap (λ o. every (o ∷ [])) reads))
+    ∙ parts_make (before ++ (made ∷ [])) f r parts))
+
+-- with FREQ behind it
+made_with_freq : (front : List ℕ) (fs : List (List ℕ)) (u end : List ℕ) (before : List Part) (made : Part) (f : Freq) (r : Rule) → BrokenOff front fs u before → Lacks 59 end → part_of (u ++ end) ≡ Some made → ArePartsOf (before ++ (made ∷ freq_part f ∷ [])) f r → rule_in_grammar (front ++ (end ++ (59 ∷ freq_text f))) ≡ Some r
+unfolding joined
+made_with_freq front fs u end before made f r broken lacks reads parts =
+    let is = freq_text_is f in
+    let rest : pieces 59 (end ++ (59 ∷ freq_text f)) ≡ end ∷ freq_text f ∷ [] =
+      pieces-append 59 end (59 ∷ freq_text f) ∙ (ap₂ joined (pieces-lacks 59 end lacks) is.1 ∙ ap (λ t. t ∷ freq_text f ∷ []) (append-nil end)) in
+    by_pieces (front ++ (end ++ (59 ∷ freq_text f))) (fs ++ ((u ++ end) ∷ freq_text f ∷ [])) (broken.with_rest (end ++ (59 ∷ freq_text f)) end (freq_text f ∷ []) rest)
+    ∙ (ap (λ ps. option_and_then rule_of_parts (every (map part_of ps))) (without-append fs (u ++ end) (freq_text f ∷ []) ∙ ap (λ ps. fs ++ ((u ++ end) ∷ ps)) is.2)
+    ∙ (ap (option_and_then rule_of_parts) (every-join fs ((u ++ end) ∷ freq_text f ∷ []) before (made ∷ freq_part f ∷ []) broken.read (ap₂ (λ o p. every (o ∷ p ∷ [])) reads is.0))
+    ∙ parts_make (before ++ (made ∷ freq_part f ∷ [])) f r parts))
+
+or_with_true : (b : Bool) → (b || true) ≡ true
+or_with_true true = refl
+or_with_true false = refl
+
+-- what the parts behind leave is no less, ordinals among it: where BYDAY is behind, there are none before
+rest_keeps : (before : List Part) (part : Part) (behind : List Part) (f : Freq) (s t r : Rule) → Apart before (part ∷ behind) → is_each_once (part ∷ behind) ≡ true → with_parts before (every_time f) ≡ Some s → with_part part s ≡ Some t → with_parts behind t ≡ Some r → Lesser t r
+rest_keeps before part behind f s t r apart once first second third =
+    lesser_by t r (parts_keep behind t r third)
+    (elim (cases_Bool (list_any (has_name (codes "BYDAY")) behind)) [
+      | inl has ↦ (λ some. absurd (false≢true (sym (ap (list_any is_ordinal) (no_days has)) ∙ some)))
+      | inr none ↦ (λ some. ap (list_any is_ordinal) (days_of_others behind t r none third) ∙ some)
+    ])
+  where
+    not_behind : not (list_any (has_name part.0) behind) ≡ true
+    not_behind = (and_parts (not (list_any (has_name part.0) behind)) (is_each_once behind) once).0
+
+    other_part : list_any (has_name (codes "BYDAY")) behind ≡ true → has_name (codes "BYDAY") part ≡ false
+    other_part has = elim (cases_Bool (has_name (codes "BYDAY") part)) [
+      | inl is ↦ absurd (false≢true (sym (not_true (list_any (has_name part.0) behind) not_behind) ∙ (ap (λ n. list_any (has_name n) behind) (is_same_text part.0 (codes "BYDAY") is) ∙ has)))
+      | inr other ↦ other
+    ]
+
+    no_days : list_any (has_name (codes "BYDAY")) behind ≡ true → t.by_day ≡ []
+    no_days has =
+        days_of_other part s t (other_part has) second
+        ∙ days_of_others before (every_time f) s (apart_lacks (codes "BYDAY") before (part ∷ behind) apart (ap (λ b. has_name (codes "BYDAY") part || b) has ∙ or_with_true (has_name (codes "BYDAY") part))) first
+
+-- a rule that goes on behind a part that is broken off
+goes_on : (front : List ℕ) (fs : List (List ℕ)) (u h : List ℕ) (before : List Part) (part : Part) (behind : List Part) (f : Freq) (r : Rule) → BrokenOff front fs u before → AreShort (length front) before → length u ≤ length front → part_of (u ++ h) ≡ Some part → ArePartsOf (before ++ (part ∷ behind)) f r → can_go_on front ≡ true
+goes_on front fs u h before part behind f r broken short within reads whole =
+    let k = length front in
+    let once = once-split before (part ∷ behind) whole.once in
+    let first = with-split before (part ∷ behind) (every_time f) r whole.said in
+    let second = and_then_some (with_parts behind) (with_part part first.0) r first.2 in
+    let made = part_front k u h part first.0 second.0 within reads second.1 in
+    let lesser = lesser_then made.result second.0 r made.lesser (rest_keeps before part behind f first.0 second.0 r once.1 once.2 first.1 second.1 second.2) in
+    let allowed = allowed_less made.result r lesser whole.allowed in
+    let apart = apart_made k before behind part made.made once.1 short made.name in
+    let said : with_parts (before ++ (made.made ∷ [])) (every_time f) ≡ Some made.result =
+      with-join before (made.made ∷ []) (every_time f) first.0 first.1 ∙ ap (option_and_then (with_parts [])) made.puts in
+    let alone : freq_in (before ++ (made.made ∷ [])) ≡ Some f → can_go_on front ≡ true = λ freq.
+      found_rest front u made.end [] made.result broken.last made.tried (inl refl)
+      (made_alone front fs u made.end before made.made f made.result broken made.lacks made.reads
+      (record { once = once-join before (made.made ∷ []) once.0 apart refl; freq = freq; said = said; allowed = allowed })) in
+    elim (cases_Option (find (has_name (codes "FREQ")) before)) [
+      | inr q ↦ alone
+        (ap (option_and_then (λ (part : Part). freq_of part.1)) (find-left (has_name (codes "FREQ")) before (made.made ∷ []) q.0 q.1 ∙ sym (find-left (has_name (codes "FREQ")) before (part ∷ behind) q.0 q.1))
+        ∙ whole.freq)
+      | inl none ↦ (let old = find-right (has_name (codes "FREQ")) before (part ∷ behind) none in
+        let new = find-right (has_name (codes "FREQ")) before (made.made ∷ []) none in
+        elim (cases_Bool (has_name (codes "FREQ") made.made)) [
+          | inl is ↦ (let its = made.freq (is_same_text made.made.0 (codes "FREQ") is) in
+            let here : find (has_name (codes "FREQ")) (part ∷ behind) ≡ Some part = ap (λ b. if b then Some part else find (has_name (codes "FREQ")) behind) (ap (λ n. bytes_eq n (codes "FREQ")) its.0) in
+            let there : find (has_name (codes "FREQ")) (made.made ∷ []) ≡ Some made.made = ap (λ b. if b then Some made.made else None) is in
+            let freq : freq_of part.1 ≡ Some f = sym (ap (option_and_then (λ (part : Part). freq_of part.1)) (old.1 ∙ here)) ∙ whole.freq in
+            alone (ap (option_and_then (λ (part : Part). freq_of part.1)) (new.1 ∙ there) ∙ (its.1 ∙ freq)))
+          | inr other ↦ (let more = find-right (has_name (codes "FREQ")) before (made.made ∷ freq_part f ∷ []) none in
+            let there : find (has_name (codes "FREQ")) (made.made ∷ freq_part f ∷ []) ≡ Some (freq_part f) = ap (λ b. if b then Some made.made else Some (freq_part f)) other in
+            found_rest front u made.end (59 ∷ freq_text f) made.result broken.last made.tried (freq_ending f)
+            (made_with_freq front fs u made.end before made.made f made.result broken made.lacks made.reads
+            (record {
+              once = once-join before (made.made ∷ freq_part f ∷ []) once.0 (apart_more before (made.made ∷ []) (freq_part f) apart old.0) (ap (λ b. not (b || false) && true) (other_way made.made.0 (codes "FREQ") other));
+              freq = ap (option_and_then (λ (part : Part). freq_of part.1)) (more.1 ∙ there) ∙ freq_of-word f;
+              said = with-join before (made.made ∷ freq_part f ∷ []) (every_time f) first.0 first.1 ∙ (ap (option_and_then (with_parts (freq_part f ∷ []))) made.puts ∙ ap (option_and_then (with_parts [])) (freq_says_nothing f made.result));
+              allowed = allowed;
+            })))
+        ])
+    ]
+
+-- a last piece is passed over, or it is a part
+last_cases : (w : List ℕ) (more : List (List ℕ)) → ((w ≡ []) × (more ≡ [])) ⊎ ((behind : List (List ℕ)) × (without_last_empty (w ∷ more) ≡ w ∷ behind))
+last_cases w [] =
+    elim (cases_Bool (length w == 0)) [
+      | inl none ↦ inl (no_octets w none, refl)
+      | inr some ↦ inr ([], ap (λ b. if b then [] else w ∷ []) some)
+    ]
+last_cases w (next ∷ more) = inr (without_last_empty (next ∷ more), refl)
+
+both_empty : (u h : List ℕ) → u ++ h ≡ [] → u ≡ []
+both_empty [] h e = refl
+both_empty (c ∷ u) h e = absurd (omega (arith, ap length e))
+
+-- The front of a rule passes the trial.
+pub BeginsOne-can_go_on : (front : List ℕ) → BeginsOne (Reads rule_in_grammar) front → can_go_on front ≡ true
+BeginsOne-can_go_on front begins =
+    let rest = begins.0 in
+    let r = begins.1.0 in
+    let a = first_piece 59 front in
+    let b = first_piece 59 rest in
+    let fs = firsts (a.0 ∷ a.1) in
+    let u = final (a.0 ∷ a.1) in
+    let short = firsts_short (length front) a.0 a.1 (subst (HoldsOfAll (IsShort (length front))) a.2 (pieces_short 59 front)) in
+    let with_rest : (rest h : List ℕ) (more : List (List ℕ)) → pieces 59 rest ≡ h ∷ more → pieces 59 (front ++ rest) ≡ fs ++ ((u ++ h) ∷ more) = λ rest h more e.
+      pieces-append 59 front rest ∙ (ap₂ joined a.2 e ∙ joined-firsts a.0 a.1 h more) in
+    let split = with_rest rest b.0 b.1 b.2 in
+    let last = last_is front a.0 a.1 a.2 in
+    let rule = sym (by_pieces (front ++ rest) (fs ++ ((u ++ b.0) ∷ b.1)) split) ∙ begins.1.1 in
+    elim (last_cases (u ++ b.0) b.1) [
+      | inl skipped ↦ (let nothing : u ≡ [] = both_empty u b.0 skipped.0 in
+        let same : (u ++ []) ∷ [] ≡ (u ++ b.0) ∷ b.1 = ap₂ (λ t ts. t ∷ ts) (append-nil u ∙ (nothing ∙ sym skipped.0)) (sym skipped.1) in
+        found_rest front u [] [] r last (inl refl) (inl refl) (by_pieces (front ++ []) (fs ++ ((u ++ []) ∷ [])) (with_rest [] [] [] refl) ∙ (ap (λ ts. rule_of_pieces (fs ++ ts)) same ∙ rule)))
+      | inr part ↦ (let pieces_are : without_last_empty (fs ++ ((u ++ b.0) ∷ b.1)) ≡ fs ++ ((u ++ b.0) ∷ part.0) = without-append fs (u ++ b.0) b.1 ∙ ap (λ ps. fs ++ ps) part.1 in
+        let parts = and_then_some rule_of_parts (every (map part_of (fs ++ ((u ++ b.0) ∷ part.0)))) r (sym (ap (λ ps. option_and_then rule_of_parts (every (map part_of ps))) pieces_are) ∙ rule) in
+        let each = every-split fs (u ++ b.0) part.0 parts.0 parts.1 in
+        let made = parts_made (each.0 ++ (each.1 ∷ each.2)) r (sym (ap rule_of_parts each.6) ∙ parts.2) in
+        goes_on front fs u b.0 each.0 each.1 each.2 made.0 r (record { last = last; with_rest = with_rest; read = each.3 }) (names_short (length front) fs each.0 short.0 each.3) short.1 each.4 made.1)
+    ]
+
+-- So the trial is exact.
+pub trial_is_exact : FrontsOfRulesAreTried
+trial_is_exact front = (can_go_on-BeginsOne front, BeginsOne-can_go_on front)
