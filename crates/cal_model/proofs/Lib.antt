@@ -18,6 +18,7 @@ pub mod RuleTable
 pub mod UntilFronts
 pub mod UtcLemmas
 pub mod ValueLaws
+pub mod ValuePlaces
 mod Samples
 mod TextExamples
 mod ReplyExamples

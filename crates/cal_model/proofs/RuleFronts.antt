@@ -383,7 +383,7 @@ unfolding joined
 made_with_freq front fs u end before made f r broken lacks reads parts =
     let is = freq_text_is f in
     let rest : pieces 59 (end ++ (59 ∷ freq_text f)) ≡ end ∷ freq_text f ∷ [] =
-      pieces-append 59 end (59 ∷ freq_text f) ∙ (ap₂ joined (pieces-lacks 59 end lacks) is.1 ∙ ap (λ t. t ∷ freq_text f ∷ []) (append-nil end)) in
+    pieces-append 59 end (59 ∷ freq_text f) ∙ (ap₂ joined (pieces-lacks 59 end lacks) is.1 ∙ ap (λ t. t ∷ freq_text f ∷ []) (append-nil end)) in
     by_pieces (front ++ (end ++ (59 ∷ freq_text f))) (fs ++ ((u ++ end) ∷ freq_text f ∷ [])) (broken.with_rest (end ++ (59 ∷ freq_text f)) end (freq_text f ∷ []) rest)
     ∙ (ap (λ ps. option_and_then rule_of_parts (every (map part_of ps))) (without-append fs (u ++ end) (freq_text f ∷ []) ∙ ap (λ ps. fs ++ ((u ++ end) ∷ ps)) is.2)
     ∙ (ap (option_and_then rule_of_parts) (every-join fs ((u ++ end) ∷ freq_text f ∷ []) before (made ∷ freq_part f ∷ []) broken.read (ap₂ (λ o p. every (o ∷ p ∷ [])) reads is.0))
@@ -428,34 +428,34 @@ goes_on front fs u h before part behind f r broken short within reads whole =
     let allowed = allowed_less made.result r lesser whole.allowed in
     let apart = apart_made k before behind part made.made once.1 short made.name in
     let said : with_parts (before ++ (made.made ∷ [])) (every_time f) ≡ Some made.result =
-      with-join before (made.made ∷ []) (every_time f) first.0 first.1 ∙ ap (option_and_then (with_parts [])) made.puts in
+    with-join before (made.made ∷ []) (every_time f) first.0 first.1 ∙ ap (option_and_then (with_parts [])) made.puts in
     let alone : freq_in (before ++ (made.made ∷ [])) ≡ Some f → can_go_on front ≡ true = λ freq.
-      found_rest front u made.end [] made.result broken.last made.tried (inl refl)
-      (made_alone front fs u made.end before made.made f made.result broken made.lacks made.reads
-      (record { once = once-join before (made.made ∷ []) once.0 apart refl; freq = freq; said = said; allowed = allowed })) in
+    found_rest front u made.end [] made.result broken.last made.tried (inl refl)
+    (made_alone front fs u made.end before made.made f made.result broken made.lacks made.reads
+    (record { once = once-join before (made.made ∷ []) once.0 apart refl; freq = freq; said = said; allowed = allowed })) in
     elim (cases_Option (find (has_name (codes "FREQ")) before)) [
       | inr q ↦ alone
-        (ap (option_and_then (λ (part : Part). freq_of part.1)) (find-left (has_name (codes "FREQ")) before (made.made ∷ []) q.0 q.1 ∙ sym (find-left (has_name (codes "FREQ")) before (part ∷ behind) q.0 q.1))
-        ∙ whole.freq)
+          (ap (option_and_then (λ (part : Part). freq_of part.1)) (find-left (has_name (codes "FREQ")) before (made.made ∷ []) q.0 q.1 ∙ sym (find-left (has_name (codes "FREQ")) before (part ∷ behind) q.0 q.1))
+          ∙ whole.freq)
       | inl none ↦ (let old = find-right (has_name (codes "FREQ")) before (part ∷ behind) none in
-        let new = find-right (has_name (codes "FREQ")) before (made.made ∷ []) none in
-        elim (cases_Bool (has_name (codes "FREQ") made.made)) [
-          | inl is ↦ (let its = made.freq (is_same_text made.made.0 (codes "FREQ") is) in
-            let here : find (has_name (codes "FREQ")) (part ∷ behind) ≡ Some part = ap (λ b. if b then Some part else find (has_name (codes "FREQ")) behind) (ap (λ n. bytes_eq n (codes "FREQ")) its.0) in
-            let there : find (has_name (codes "FREQ")) (made.made ∷ []) ≡ Some made.made = ap (λ b. if b then Some made.made else None) is in
-            let freq : freq_of part.1 ≡ Some f = sym (ap (option_and_then (λ (part : Part). freq_of part.1)) (old.1 ∙ here)) ∙ whole.freq in
-            alone (ap (option_and_then (λ (part : Part). freq_of part.1)) (new.1 ∙ there) ∙ (its.1 ∙ freq)))
-          | inr other ↦ (let more = find-right (has_name (codes "FREQ")) before (made.made ∷ freq_part f ∷ []) none in
-            let there : find (has_name (codes "FREQ")) (made.made ∷ freq_part f ∷ []) ≡ Some (freq_part f) = ap (λ b. if b then Some made.made else Some (freq_part f)) other in
-            found_rest front u made.end (59 ∷ freq_text f) made.result broken.last made.tried (freq_ending f)
-            (made_with_freq front fs u made.end before made.made f made.result broken made.lacks made.reads
-            (record {
-              once = once-join before (made.made ∷ freq_part f ∷ []) once.0 (apart_more before (made.made ∷ []) (freq_part f) apart old.0) (ap (λ b. not (b || false) && true) (other_way made.made.0 (codes "FREQ") other));
-              freq = ap (option_and_then (λ (part : Part). freq_of part.1)) (more.1 ∙ there) ∙ freq_of-word f;
-              said = with-join before (made.made ∷ freq_part f ∷ []) (every_time f) first.0 first.1 ∙ (ap (option_and_then (with_parts (freq_part f ∷ []))) made.puts ∙ ap (option_and_then (with_parts [])) (freq_says_nothing f made.result));
-              allowed = allowed;
-            })))
-        ])
+          let new = find-right (has_name (codes "FREQ")) before (made.made ∷ []) none in
+          elim (cases_Bool (has_name (codes "FREQ") made.made)) [
+            | inl is ↦ (let its = made.freq (is_same_text made.made.0 (codes "FREQ") is) in
+                let here : find (has_name (codes "FREQ")) (part ∷ behind) ≡ Some part = ap (λ b. if b then Some part else find (has_name (codes "FREQ")) behind) (ap (λ n. bytes_eq n (codes "FREQ")) its.0) in
+                let there : find (has_name (codes "FREQ")) (made.made ∷ []) ≡ Some made.made = ap (λ b. if b then Some made.made else None) is in
+                let freq : freq_of part.1 ≡ Some f = sym (ap (option_and_then (λ (part : Part). freq_of part.1)) (old.1 ∙ here)) ∙ whole.freq in
+                alone (ap (option_and_then (λ (part : Part). freq_of part.1)) (new.1 ∙ there) ∙ (its.1 ∙ freq)))
+            | inr other ↦ (let more = find-right (has_name (codes "FREQ")) before (made.made ∷ freq_part f ∷ []) none in
+                let there : find (has_name (codes "FREQ")) (made.made ∷ freq_part f ∷ []) ≡ Some (freq_part f) = ap (λ b. if b then Some made.made else Some (freq_part f)) other in
+                found_rest front u made.end (59 ∷ freq_text f) made.result broken.last made.tried (freq_ending f)
+                (made_with_freq front fs u made.end before made.made f made.result broken made.lacks made.reads
+                (record {
+                  once = once-join before (made.made ∷ freq_part f ∷ []) once.0 (apart_more before (made.made ∷ []) (freq_part f) apart old.0) (ap (λ b. not (b || false) && true) (other_way made.made.0 (codes "FREQ") other));
+                  freq = ap (option_and_then (λ (part : Part). freq_of part.1)) (more.1 ∙ there) ∙ freq_of-word f;
+                  said = with-join before (made.made ∷ freq_part f ∷ []) (every_time f) first.0 first.1 ∙ (ap (option_and_then (with_parts (freq_part f ∷ []))) made.puts ∙ ap (option_and_then (with_parts [])) (freq_says_nothing f made.result));
+                  allowed = allowed;
+                })))
+          ])
     ]
 
 -- a last piece is passed over, or it is a part
@@ -482,19 +482,19 @@ BeginsOne-can_go_on front begins =
     let u = final (a.0 ∷ a.1) in
     let short = firsts_short (length front) a.0 a.1 (subst (HoldsOfAll (IsShort (length front))) a.2 (pieces_short 59 front)) in
     let with_rest : (rest h : List ℕ) (more : List (List ℕ)) → pieces 59 rest ≡ h ∷ more → pieces 59 (front ++ rest) ≡ fs ++ ((u ++ h) ∷ more) = λ rest h more e.
-      pieces-append 59 front rest ∙ (ap₂ joined a.2 e ∙ joined-firsts a.0 a.1 h more) in
+    pieces-append 59 front rest ∙ (ap₂ joined a.2 e ∙ joined-firsts a.0 a.1 h more) in
     let split = with_rest rest b.0 b.1 b.2 in
     let last = last_is front a.0 a.1 a.2 in
     let rule = sym (by_pieces (front ++ rest) (fs ++ ((u ++ b.0) ∷ b.1)) split) ∙ begins.1.1 in
     elim (last_cases (u ++ b.0) b.1) [
       | inl skipped ↦ (let nothing : u ≡ [] = both_empty u b.0 skipped.0 in
-        let same : (u ++ []) ∷ [] ≡ (u ++ b.0) ∷ b.1 = ap₂ (λ t ts. t ∷ ts) (append-nil u ∙ (nothing ∙ sym skipped.0)) (sym skipped.1) in
-        found_rest front u [] [] r last (inl refl) (inl refl) (by_pieces (front ++ []) (fs ++ ((u ++ []) ∷ [])) (with_rest [] [] [] refl) ∙ (ap (λ ts. rule_of_pieces (fs ++ ts)) same ∙ rule)))
+          let same : (u ++ []) ∷ [] ≡ (u ++ b.0) ∷ b.1 = ap₂ (λ t ts. t ∷ ts) (append-nil u ∙ (nothing ∙ sym skipped.0)) (sym skipped.1) in
+          found_rest front u [] [] r last (inl refl) (inl refl) (by_pieces (front ++ []) (fs ++ ((u ++ []) ∷ [])) (with_rest [] [] [] refl) ∙ (ap (λ ts. rule_of_pieces (fs ++ ts)) same ∙ rule)))
       | inr part ↦ (let pieces_are : without_last_empty (fs ++ ((u ++ b.0) ∷ b.1)) ≡ fs ++ ((u ++ b.0) ∷ part.0) = without-append fs (u ++ b.0) b.1 ∙ ap (λ ps. fs ++ ps) part.1 in
-        let parts = and_then_some rule_of_parts (every (map part_of (fs ++ ((u ++ b.0) ∷ part.0)))) r (sym (ap (λ ps. option_and_then rule_of_parts (every (map part_of ps))) pieces_are) ∙ rule) in
-        let each = every-split fs (u ++ b.0) part.0 parts.0 parts.1 in
-        let made = parts_made (each.0 ++ (each.1 ∷ each.2)) r (sym (ap rule_of_parts each.6) ∙ parts.2) in
-        goes_on front fs u b.0 each.0 each.1 each.2 made.0 r (record { last = last; with_rest = with_rest; read = each.3 }) (names_short (length front) fs each.0 short.0 each.3) short.1 each.4 made.1)
+          let parts = and_then_some rule_of_parts (every (map part_of (fs ++ ((u ++ b.0) ∷ part.0)))) r (sym (ap (λ ps. option_and_then rule_of_parts (every (map part_of ps))) pieces_are) ∙ rule) in
+          let each = every-split fs (u ++ b.0) part.0 parts.0 parts.1 in
+          let made = parts_made (each.0 ++ (each.1 ∷ each.2)) r (sym (ap rule_of_parts each.6) ∙ parts.2) in
+          goes_on front fs u b.0 each.0 each.1 each.2 made.0 r (record { last = last; with_rest = with_rest; read = each.3 }) (names_short (length front) fs each.0 short.0 each.3) short.1 each.4 made.1)
     ]
 
 -- So the trial is exact.

@@ -13,6 +13,9 @@ use Rattle.cal_model.specs.declared.object.Related.TheVariants.{Start, End}
 use Rattle.cal_model.specs.declared.object.Trigger.TheVariants.{At as TriggerAt, From}
 use Rattle.cal_model.specs.ValueTexts.{count_of, integer_of, date_of, time_of, date_time_of, length_of, offset_of, unescaped}
 use Rattle.cal_model.specs.StampTexts.{stamps_in_grammar, stamps_of, periods_in_grammar, periods_of, has_periods, trigger_of, repeat_of}
+use Rattle.std.proofs.Common.{arith}
+use Rattle.std.proofs.lemmas.Option.{none-some}
+use Rattle.cal_model.specs.BadValues.{IsBadStampsAt, IsBadPeriodsAt}
 
 -- a day of the calendar since 1970
 abbrev day : ℕ → ℕ → ℕ → ℤ
@@ -283,3 +286,24 @@ four_times = refl
 less_than_once : repeat_of (codes "-1") ≡ None
 unfolding integer_of count_of
 less_than_once = refl
+
+-- Places
+
+-- where only a zone is missing the place is 0, for a stamp and for a period
+missing_zone : IsBadStampsAt zones (line (codes "DTSTART") (with (codes "TZID") (codes "Nowhere")) (codes "19970714T133000")) 0
+unfolding stamps_in_grammar date_time_of date_of time_of
+missing_zone = (refl, refl)
+
+missing_zone_of_period : IsBadPeriodsAt zones (line (codes "RDATE") (with (codes "TZID") (codes "Nowhere")) (codes "19970714T133000/PT1H")) 0
+unfolding periods_in_grammar date_time_of date_of time_of length_of count_of
+missing_zone_of_period = (refl, refl)
+
+-- outside the grammar a missing zone does not matter: the item behind the comma is missing
+empty_item_at_end : IsBadStampsAt zones (line (codes "EXDATE") (with (codes "TZID") (codes "Nowhere")) (codes "19970714T133000,")) 16
+unfolding stamps_in_grammar date_time_of date_of time_of
+empty_item_at_end = record {
+  outside = λ is. none-some is.0 is.1;
+  within = omega arith;
+  begins = (codes "19970715", (Zoned (local (day 1997 7 14) 48600) 2 ∷ Date (record { 0 = day 1997 7 15 }) ∷ [], refl));
+  longest = λ n above most begins. omega (arith, above, most);
+}
