@@ -1,16 +1,14 @@
 -- Fronts of texts: a shorter front goes on where a longer one does, a list goes on where its last item does, and what the trial of rules
 -- finds is a front of a rule.
-use Rattle.std.proofs.Common.{◌≡◌, ℕ, ◌+◌, ◌-◌, ◌<◌, ◌≤◌, Bool, true, false, ◌||◌, ◌==◌, if◌then◌else◌, List, [], ◌∷◌, ◌++◌, length, map, take, drop, Option, Some, None, is_some, option_map, refl, sym, ap, ap₂, subst, ◌∙◌, arith, ◌⊎◌, inl, inr, append_assoc}
-use Rattle.std.specs.Prelude.{All}
+use Rattle.std.proofs.Common.{◌≡◌, ℕ, ◌+◌, ◌<◌, ◌≤◌, Bool, true, ◌||◌, ◌==◌, if◌then◌else◌, List, [], ◌∷◌, ◌++◌, length, take, drop, Option, Some, None, is_some, refl, sym, ap, subst, ◌∙◌, arith, inl, inr, append_assoc}
 use Rattle.std.specs.List.{list_any}
-use Rattle.std.proofs.lemmas.Bool.{cases_Bool, cases_lt, false≢true, eqb-true, eq-eqb, ne_eqb}
-use Rattle.std.proofs.lemmas.List.{take-append-drop, take-take, append-nil}
-use Rattle.std.proofs.lemmas.Option.{none-some, same_Some}
-use Rattle.cal_base.specs.ContentLines.{pieces, onto_first, every}
+use Rattle.std.proofs.lemmas.Bool.{cases_Bool, cases_lt, false≢true, ne_eqb}
+use Rattle.std.proofs.lemmas.List.{take-append-drop, take-take}
+use Rattle.cal_base.specs.ContentLines.{pieces, onto_first}
 use Rattle.cal_moment.specs.BadPlace.{IsIn, BeginsOne, IsBadAt}
-use Rattle.cal_model.specs.RuleTexts.{rule_in_grammar, list_of}
+use Rattle.cal_model.specs.RuleTexts.{rule_in_grammar}
 use Rattle.cal_model.specs.BadValues.{Reads, can_go_on, rests}
-use Rattle.cal_model.proofs.CutLemmas.{cases_Option, option_map_some, Lacks}
+use Rattle.cal_model.proofs.CutLemmas.{Lacks}
 
 -- Fronts
 

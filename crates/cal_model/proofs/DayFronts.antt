@@ -1,20 +1,19 @@
 -- Fronts of weekdays, with an ordinal or without, and of words in a table.
-use Rattle.std.proofs.Common.{◌≡◌, ℕ, zero, suc, ◌+◌, ◌-◌, ◌<◌, ◌≤◌, Bool, true, false, ◌&&◌, ◌==◌, nat_le, nat_lt, if◌then◌else◌, List, [], ◌∷◌, ◌++◌, length, map, take, drop, find, bytes_eq, codes, Option, Some, None, option_map, option_and_then, ℤ, pos, refl, sym, ap, ap₂, subst, ◌∙◌, arith, ◌⊎◌, inl, inr, append_assoc}
+use Rattle.std.proofs.Common.{◌≡◌, ℕ, suc, ◌-◌, ◌<◌, ◌≤◌, true, ◌&&◌, nat_le, if◌then◌else◌, List, [], ◌∷◌, ◌++◌, length, take, drop, find, bytes_eq, codes, Option, Some, None, option_map, option_and_then, ℤ, pos, refl, sym, ap, ap₂, subst, ◌∙◌, arith, ◌⊎◌, inl, inr, append_assoc}
 use Rattle.std.specs.Prelude.{nat_abs}
 use Rattle.std.proofs.Math.Seq.{take-append_seam, drop-append_seam}
-use Rattle.std.proofs.lemmas.Bool.{cases_Bool, and_parts, leb-true, lt-ltb, false≢true, ne_eqb}
-use Rattle.std.proofs.lemmas.List.{length-append, append-nil}
+use Rattle.std.proofs.lemmas.Bool.{cases_Bool, and_parts, leb-true, lt-ltb, false≢true}
+use Rattle.std.proofs.lemmas.List.{length-append}
 use Rattle.std.proofs.lemmas.Option.{none-some, same_Some}
 use Rattle.cal_base.specs.Text.{raised, raised_all}
-use Rattle.cal_moment.specs.Texts.{signed}
 use Rattle.cal_model.specs.declared.rule.DayPart.{DayPart}
 use Rattle.cal_model.specs.RuleTexts.{word_of, weekdays, weekday_named, if_place, place_number, ordinal_of, day_part, day_of, is_ordinal}
 use Rattle.cal_model.specs.BadValues.{value_ends}
 use Rattle.cal_model.specs.ValueTexts.{integer_of}
-use Rattle.cal_model.proofs.CutLemmas.{cases_Option, option_map_some, and_then_some, if_some, is_same_text, no_octets}
+use Rattle.cal_model.proofs.CutLemmas.{and_then_some, if_some, is_same_text}
 use Rattle.cal_model.proofs.LengthLaws.{some_octets}
 use Rattle.cal_model.proofs.ListFronts.{IsAmong, ItemFront, HasFronts, Anything, kept, place_is_narrow}
-use Rattle.cal_model.proofs.NumberFronts.{IsDigitEnd, Nearer, IntegerFront, integer_front}
+use Rattle.cal_model.proofs.NumberFronts.{integer_front}
 use Rattle.cal_model.proofs.NumberFronts.IsDigitEnd.{nothing, a_zero, a_one}
 
 -- Words

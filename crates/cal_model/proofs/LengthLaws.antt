@@ -1,13 +1,13 @@
 -- The lengths that are computed are those that their texts spell.
-use Rattle.std.proofs.Common.{◌≡◌, ◌≢◌, ℕ, ◌+◌, ◌*◌, ◌<◌, ◌≤◌, Bool, true, false, ◌==◌, if◌then◌else◌, List, [], ◌∷◌, ◌++◌, length, map, codes, Option, Some, None, option_map, option_and_then, ℤ, pos, refl, sym, ap, ap₂, subst, ◌∙◌, arith, ◌⊎◌, inl, inr, append_assoc}
-use Rattle.std.proofs.lemmas.Bool.{eqb-true, eq-eqb, ne_eqb, cases_Bool}
+use Rattle.std.proofs.Common.{◌≡◌, ◌≢◌, ℕ, ◌+◌, ◌*◌, ◌<◌, Bool, true, false, ◌==◌, if◌then◌else◌, List, [], ◌∷◌, ◌++◌, length, map, codes, Option, Some, None, option_map, option_and_then, ℤ, refl, sym, ap, ap₂, subst, ◌∙◌, arith, inl, inr, append_assoc}
+use Rattle.std.proofs.lemmas.Bool.{eqb-true, ne_eqb, cases_Bool}
 use Rattle.std.proofs.lemmas.Option.{none-some, same_Some}
 use Rattle.cal_base.specs.ComponentTrees.{or_else}
 use Rattle.cal_moment.specs.declared.stamp.Length.{Length}
 use Rattle.cal_moment.specs.LengthTexts.{SpellsCount, SpellsPart, SpellsParts, SpellsTimes, SpellsBody, SpellsSign, SpellsLength, unit_letter, unit_seconds, time_units}
 use Rattle.cal_moment.specs.LengthTexts.SpellsBody.{weeks, days_alone, times_alone, days_and_times}
-use Rattle.cal_moment.specs.Texts.{sign_text, signed}
-use Rattle.cal_model.specs.ValueTexts.{count_of, cut, count_before, parts_of, time_letters, times_of, alone, count_with, days_of, both, days_before, body_of, sign_of, signed_length, length_of_parts, length_of}
+use Rattle.cal_moment.specs.Texts.{sign_text}
+use Rattle.cal_model.specs.ValueTexts.{cut, count_before, parts_of, time_letters, times_of, alone, count_with, days_of, both, days_before, body_of, sign_of, signed_length, length_of_parts, length_of}
 use Rattle.cal_model.proofs.CutLemmas.{cases_Option, option_map_some, and_then_some, if_some, no_octets, Lacks, lacks-append, lacks-count, cut-none, cut-append, cut-some, BeginsWithCount, count_before-append, count_before-none, count_before-some}
 
 -- Units

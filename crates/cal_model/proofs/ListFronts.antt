@@ -1,17 +1,16 @@
 -- Fronts of the values in rules: numbers, days and lists of them go on with one of the ends of a value.
-use Rattle.std.proofs.Common.{◌≡◌, ◌≢◌, ℕ, zero, suc, ◌+◌, ◌-◌, ◌<◌, ◌≤◌, Bool, true, false, ◌&&◌, ◌==◌, nat_le, if◌then◌else◌, List, [], ◌∷◌, ◌++◌, length, map, take, drop, codes, Option, Some, None, is_some, option_map, option_and_then, ℤ, pos, refl, sym, ap, ap₂, subst, ◌∙◌, arith, ◌⊎◌, inl, inr}
-use Rattle.std.specs.Prelude.{int_le, nat_abs, min}
-use Rattle.std.proofs.lemmas.Bool.{cases_Bool, le-leb, leb-true, and_parts, false≢true}
-use Rattle.std.proofs.lemmas.List.{length-append, append-nil}
-use Rattle.std.proofs.lemmas.Option.{none-some, same_Some}
-use Rattle.cal_base.specs.ContentLines.{pieces, every}
+use Rattle.std.proofs.Common.{◌≡◌, ℕ, zero, suc, ◌≤◌, Bool, true, false, ◌&&◌, nat_le, if◌then◌else◌, List, [], ◌∷◌, ◌++◌, map, Option, Some, None, option_map, option_and_then, ℤ, pos, refl, sym, ap, ap₂, subst, ◌∙◌, arith, ◌⊎◌, inl, inr}
+use Rattle.std.specs.Prelude.{nat_abs, min}
+use Rattle.std.proofs.lemmas.Bool.{le-leb, leb-true, and_parts}
+use Rattle.std.proofs.lemmas.Option.{none-some}
+use Rattle.cal_base.specs.ContentLines.{every}
 use Rattle.cal_moment.specs.Texts.{signed}
 use Rattle.cal_model.specs.ValueTexts.{integer_of}
 use Rattle.cal_model.specs.RuleTexts.{if_between, number_of, if_place, place_number, second_number, list_of}
 use Rattle.cal_model.specs.BadValues.{value_ends}
 use Rattle.cal_model.proofs.BadValueLaws.{joined, first_piece, pieces-append, pieces-lacks}
-use Rattle.cal_model.proofs.CutLemmas.{cases_Option, option_map_some, and_then_some, if_some, Lacks}
-use Rattle.cal_model.proofs.NumberFronts.{IsDigitEnd, Nearer, IntegerFront, integer_front, abs-signed}
+use Rattle.cal_model.proofs.CutLemmas.{option_map_some, and_then_some, if_some, Lacks}
+use Rattle.cal_model.proofs.NumberFronts.{IsDigitEnd, Nearer, integer_front, abs-signed}
 use Rattle.cal_model.proofs.NumberFronts.IsDigitEnd.{nothing, a_zero, a_one}
 use Rattle.cal_model.proofs.NumberFronts.Nearer.{same, one, less}
 

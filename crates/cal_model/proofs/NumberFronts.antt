@@ -1,15 +1,15 @@
 -- Fronts of integers: where a text begins an integer, it is one or becomes one with one more digit, which is nearer to 0 or is 1.
-use Rattle.std.proofs.Common.{◌≡◌, ℕ, zero, suc, ◌+◌, ◌-◌, ◌*◌, ◌/◌, ◌%◌, ◌^◌, ◌<◌, ◌≤◌, Bool, true, false, ◌&&◌, ◌||◌, ◌==◌, if◌then◌else◌, List, [], ◌∷◌, ◌++◌, length, drop, fold, codes, Option, Some, None, option_map, ℤ, pos, refl, sym, ap, ap₂, subst, ◌∙◌, arith, ◌⊎◌, inl, inr}
+use Rattle.std.proofs.Common.{◌≡◌, ℕ, zero, suc, ◌+◌, ◌-◌, ◌*◌, ◌/◌, ◌%◌, ◌^◌, ◌<◌, ◌≤◌, Bool, true, false, ◌&&◌, ◌||◌, ◌==◌, if◌then◌else◌, List, [], ◌∷◌, ◌++◌, length, drop, fold, codes, Some, option_map, ℤ, pos, refl, sym, ap, ap₂, subst, ◌∙◌, arith, ◌⊎◌, inl, inr}
 use Rattle.std.specs.Prelude.{nat_abs}
-use Rattle.std.proofs.Math.Nat.{pow-suc, one-le-pow, mul-le-mul_right}
+use Rattle.std.proofs.Math.Nat.{pow-suc, mul-le-mul_right}
 use Rattle.std.proofs.lemmas.Bool.{cases_Bool, cases_lt, eqb-true}
 use Rattle.std.proofs.lemmas.List.{length-append, append-nil}
 use Rattle.std.proofs.lemmas.List.Sums.{fold-append}
 use Rattle.std.proofs.lemmas.Nat.{div-mul-add, mod-mul-add}
 use Rattle.cal_moment.specs.LengthTexts.{SpellsCount}
 use Rattle.cal_moment.specs.Texts.{digits, signed}
-use Rattle.cal_model.specs.ValueTexts.{count_of, integer_of, is_negative, sign_length}
-use Rattle.cal_model.proofs.CutLemmas.{option_map_some, first_below, rest_below, fold-digits, length-digits, sum_times, SpellsCount-count_of, count_of-SpellsCount}
+use Rattle.cal_model.specs.ValueTexts.{count_of, integer_of}
+use Rattle.cal_model.proofs.CutLemmas.{option_map_some, first_below, rest_below, fold-digits, length-digits, SpellsCount-count_of, count_of-SpellsCount}
 
 -- Digits
 

@@ -1,20 +1,20 @@
 -- The front of a part of a rule: it becomes a part with one of the ends that are tried, which leaves less in the rule.
-use Rattle.std.proofs.Common.{◌≡◌, ◌≢◌, ℕ, zero, suc, ◌+◌, ◌-◌, ◌<◌, ◌≤◌, Bool, true, false, ◌&&◌, ◌||◌, ◌==◌, nat_eq, nat_lt, if◌then◌else◌, List, [], ◌∷◌, ◌++◌, length, map, take, drop, find, bytes_eq, codes, Option, Some, None, is_some, option_map, option_and_then, refl, sym, ap, ap₂, subst, ◌∙◌, arith, ◌⊎◌, inl, inr, append_assoc}
+use Rattle.std.proofs.Common.{◌≡◌, ℕ, zero, suc, ◌+◌, ◌≤◌, Bool, true, false, ◌&&◌, ◌==◌, nat_eq, nat_lt, if◌then◌else◌, List, [], ◌∷◌, ◌++◌, length, map, take, drop, find, bytes_eq, codes, Option, Some, None, is_some, option_map, option_and_then, refl, sym, ap, subst, ◌∙◌, arith, ◌⊎◌, inl, inr, append_assoc}
 use Rattle.std.specs.Prelude.{replicate}
 use Rattle.std.specs.List.{list_all, starts_with}
 use Rattle.std.proofs.Math.Seq.{drop-append-add}
-use Rattle.std.proofs.lemmas.Bool.{cases_Bool, false≢true, and_parts, lt-ltb, ltb-true, eqb-true, eq-eqb}
-use Rattle.std.proofs.lemmas.List.{length-append, length-drop, append-nil, drop-append-le}
+use Rattle.std.proofs.lemmas.Bool.{cases_Bool, false≢true, and_parts, lt-ltb, ltb-true}
+use Rattle.std.proofs.lemmas.List.{length-append, length-drop, drop-append-le}
 use Rattle.std.proofs.lemmas.Option.{none-some, same_Some}
 use Rattle.cal_base.specs.ContentLines.{is_name, is_name_octet}
 use Rattle.cal_base.specs.Text.{raised, raised_all}
 use Rattle.cal_model.specs.declared.rule.Rule.{Rule}
 use Rattle.cal_model.specs.ValueTexts.{cut}
 use Rattle.cal_model.specs.RuleTexts.{Part, if_named, part_of, has_name, freq_of, meanings, with_part}
-use Rattle.cal_model.specs.BadValues.{value_ends, frequency_parts, other_parts}
-use Rattle.cal_model.proofs.CutLemmas.{cases_Option, option_map_some, and_then_some, if_some, is_same_text, Lacks, lacks-append, cut-none, cut-append, cut-some}
+use Rattle.cal_model.specs.BadValues.{value_ends}
+use Rattle.cal_model.proofs.CutLemmas.{cases_Option, option_map_some, and_then_some, if_some, is_same_text, Lacks, lacks-append, cut-append, cut-some}
 use Rattle.cal_model.proofs.ListFronts.{IsAmong, HoldsOfAll, among, no_semicolons}
-use Rattle.cal_model.proofs.RuleRows.{Lesser, lesser_same, Effect, Row, whole_parts, Instead, IsEndOf, RowFront}
+use Rattle.cal_model.proofs.RuleRows.{Lesser, lesser_same, Row, whole_parts, RowFront}
 use Rattle.cal_model.proofs.RuleTable.{HoldsOfRows, rows_go_on, raised_with}
 
 -- Among joined and mapped lists

@@ -1,5 +1,5 @@
 -- The trial of rules is exact: it passes for the fronts of rules and for no others.
-use Rattle.std.proofs.Common.{◌≡◌, ◌≢◌, ℕ, zero, suc, ◌+◌, ◌-◌, ◌<◌, ◌≤◌, Bool, true, false, not, ◌&&◌, ◌||◌, ◌==◌, nat_eq, if◌then◌else◌, List, [], ◌∷◌, ◌++◌, length, map, flat_map, find, bytes_eq, codes, Option, Some, None, is_some, option_map, option_and_then, unwrap_or, refl, sym, ap, ap₂, subst, ◌∙◌, arith, ◌⊎◌, inl, inr, append_assoc}
+use Rattle.std.proofs.Common.{◌≡◌, ℕ, suc, ◌+◌, ◌<◌, ◌≤◌, Bool, true, false, not, ◌&&◌, ◌||◌, ◌==◌, nat_eq, if◌then◌else◌, List, [], ◌∷◌, ◌++◌, length, map, flat_map, find, bytes_eq, codes, Option, Some, None, is_some, option_map, option_and_then, unwrap_or, refl, sym, ap, ap₂, subst, ◌∙◌, arith, ◌⊎◌, inl, inr}
 use Rattle.std.specs.List.{list_any, last_or, starts_with}
 use Rattle.std.proofs.lemmas.Bool.{cases_Bool, false≢true, and_parts}
 use Rattle.std.proofs.lemmas.List.{length-append, append-nil}
@@ -10,16 +10,16 @@ use Rattle.cal_moment.specs.BadPlace.{BeginsOne}
 use Rattle.cal_model.specs.declared.rule.Freq.{Freq}
 use Rattle.cal_model.specs.declared.rule.Freq.TheVariants.{Secondly, Minutely, Hourly, Daily, Weekly, Monthly, Yearly}
 use Rattle.cal_model.specs.declared.rule.Rule.{Rule}
-use Rattle.cal_model.specs.RuleTexts.{Part, if_named, part_of, without_last_empty, rule_parts, has_name, is_each_once, freq_of, freq_in, meanings, with_part, with_parts, every_time, is_ordinal, is_allowed, if_allowed, rule_of_freq, rule_of_parts, rule_in_grammar}
+use Rattle.cal_model.specs.RuleTexts.{Part, if_named, part_of, without_last_empty, has_name, is_each_once, freq_of, freq_in, meanings, with_part, with_parts, every_time, is_ordinal, is_allowed, if_allowed, rule_of_freq, rule_of_parts, rule_in_grammar}
 use Rattle.cal_model.specs.ValueTexts.{cut}
-use Rattle.cal_model.specs.BadValues.{Reads, frequency_parts, last_part, part_ends, endings, rests, can_go_on, FrontsOfRulesAreTried}
+use Rattle.cal_model.specs.BadValues.{Reads, last_part, part_ends, endings, rests, can_go_on, FrontsOfRulesAreTried}
 use Rattle.cal_model.proofs.BadValueLaws.{joined, firsts, final, first_piece, pieces-append, pieces-lacks, can_go_on-BeginsOne}
-use Rattle.cal_model.proofs.CutLemmas.{cases_Option, option_map_some, and_then_some, if_some, is_same_text, same_text, no_octets, Lacks, cut-some}
+use Rattle.cal_model.proofs.CutLemmas.{cases_Option, and_then_some, if_some, is_same_text, same_text, no_octets, Lacks, cut-some}
 use Rattle.cal_model.proofs.LengthLaws.{some_octets}
 use Rattle.cal_model.proofs.ListFronts.{IsAmong, HoldsOfAll, every-cons}
-use Rattle.cal_model.proofs.PartFronts.{length-raised, among-left, among-right, among-map, row_of, by_row, ends_of, PartFront, part_front}
+use Rattle.cal_model.proofs.PartFronts.{length-raised, among-left, among-right, among-map, row_of, by_row, ends_of, part_front}
 use Rattle.cal_model.proofs.RuleRows.{Implies, Lesser, lesser_then, Row, allowed_less}
-use Rattle.cal_model.proofs.RuleTable.{freq_word, freq_of-word, Keeps, Grows, RowGrows, rows_grow}
+use Rattle.cal_model.proofs.RuleTable.{freq_word, freq_of-word, Keeps, RowGrows, rows_grow}
 
 -- Pieces
 

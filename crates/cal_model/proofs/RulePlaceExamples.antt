@@ -1,5 +1,5 @@
 -- Places of faults in the texts of rules.
-use Rattle.std.specs.Prelude.{◌≡◌, refl, ℕ, ◌+◌, ◌<◌, ◌≤◌, Bool, true, false, List, [], ◌∷◌, length, take, Option, Some, None, codes}
+use Rattle.std.specs.Prelude.{refl, codes}
 use Rattle.std.proofs.Common.{arith}
 use Rattle.cal_model.specs.ValueTexts.{count_of, integer_of, date_of, time_of, date_time_of}
 use Rattle.cal_model.specs.RuleTexts.{rule_in_grammar}

@@ -1,23 +1,20 @@
 -- The parts of a rule, row by row of their table: what each puts into a rule, and how the front of each goes on.
-use Rattle.std.proofs.Common.{◌≡◌, ℕ, zero, suc, ◌+◌, ◌-◌, ◌<◌, ◌≤◌, Bool, true, false, not, ◌&&◌, ◌||◌, ◌==◌, nat_lt, if◌then◌else◌, List, [], ◌∷◌, ◌++◌, length, map, take, drop, find, bytes_eq, codes, Option, Some, None, is_some, option_map, option_and_then, ℤ, pos, refl, sym, ap, ap₂, subst, ◌∙◌, arith, ◌⊎◌, inl, inr}
+use Rattle.std.proofs.Common.{◌≡◌, ℕ, Bool, true, false, not, ◌&&◌, ◌||◌, List, [], ◌∷◌, ◌++◌, length, map, drop, bytes_eq, codes, Option, Some, None, is_some, option_map, refl, sym, ap, ap₂, subst, ◌∙◌, arith, ◌⊎◌, inl, inr}
 use Rattle.std.specs.List.{list_any}
-use Rattle.std.proofs.lemmas.Bool.{cases_Bool, false≢true, lt-ltb}
-use Rattle.std.proofs.lemmas.Option.{none-some, same_Some}
-use Rattle.cal_base.specs.ContentLines.{pieces, every, is_name}
+use Rattle.std.proofs.lemmas.Bool.{false≢true, lt-ltb}
+use Rattle.std.proofs.lemmas.Option.{none-some}
+use Rattle.cal_base.specs.ContentLines.{every, is_name}
 use Rattle.cal_base.specs.Text.{raised_all}
 use Rattle.cal_model.specs.declared.rule.DayPart.{DayPart}
 use Rattle.cal_model.specs.declared.rule.Freq.{Freq}
 use Rattle.cal_model.specs.declared.rule.Freq.TheVariants.{Secondly, Minutely, Hourly, Daily, Weekly, Monthly, Yearly}
 use Rattle.cal_model.specs.declared.rule.Rule.{Rule}
-use Rattle.cal_model.specs.declared.rule.Until.{Until}
-use Rattle.cal_model.specs.ValueTexts.{count_of, integer_of, date_of, time_of, date_time_of}
-use Rattle.cal_model.specs.RuleTexts.{freq_of, frequencies, number_of, weekday_named, place_number, second_number, day_of, until_of, list_of, is_ordinal, has_some, refuses, has_ordinals, is_allowed, meanings}
+use Rattle.cal_model.specs.RuleTexts.{freq_of, list_of, is_ordinal, has_some, refuses, has_ordinals, is_allowed}
 use Rattle.cal_model.specs.BadValues.{value_ends, frequency_parts, other_parts}
 use Rattle.cal_model.proofs.BadValueLaws.{first_piece}
-use Rattle.cal_model.proofs.CutLemmas.{cases_Option, option_map_some}
-use Rattle.cal_model.proofs.DayFronts.{HasRow, word_row, weekday_fronts, DayBelow, day_fronts}
-use Rattle.cal_model.proofs.ListFronts.{IsAmong, ItemFront, HasFronts, Anything, ListBelow, list_fronts, number_fronts, place_fronts, second_fronts}
-use Rattle.cal_model.proofs.UntilFronts.{first_pattern, second_pattern, UntilFront, until_front}
+use Rattle.cal_model.proofs.CutLemmas.{option_map_some}
+use Rattle.cal_model.proofs.DayFronts.{DayBelow}
+use Rattle.cal_model.proofs.ListFronts.{IsAmong, HasFronts, ListBelow}
 
 -- Rules that refuse no more
 

@@ -1,8 +1,7 @@
 -- Rules that are read (RFC 5545, 3.3.10 and 3.8.5.3), texts that are refused, and what tells two readings apart.
-use Rattle.std.specs.Prelude.{◌≡◌, refl, ℕ, List, [], ◌∷◌, ◌++◌, Option, Some, None, codes, ℤ, pos, neg_ℤ}
+use Rattle.std.specs.Prelude.{◌≡◌, refl, ℕ, [], ◌∷◌, Some, None, codes, ℤ, pos, neg_ℤ}
 use Rattle.cal_model.specs.declared.rule.DayPart.{DayPart}
 use Rattle.cal_model.specs.declared.rule.Freq.TheVariants.{Secondly, Minutely, Hourly, Daily, Weekly, Monthly, Yearly}
-use Rattle.cal_model.specs.declared.rule.Rule.{Rule}
 use Rattle.cal_model.specs.declared.rule.Until.TheVariants.{Day as UntilDay, Local as UntilLocal, Utc as UntilUtc}
 use Rattle.cal_model.specs.ValueTexts.{count_of, integer_of, date_of, time_of, date_time_of}
 use Rattle.cal_model.specs.RuleTexts.{rule_in_grammar, rule_of, every_time}

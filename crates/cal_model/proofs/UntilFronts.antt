@@ -1,20 +1,19 @@
 -- Fronts of UNTIL: where a text begins a date or a time, it becomes one with the end of one of two times.
-use Rattle.std.proofs.Common.{◌≡◌, ℕ, zero, suc, ◌+◌, ◌-◌, ◌*◌, ◌/◌, ◌%◌, ◌^◌, ◌<◌, ◌≤◌, Bool, true, false, List, [], ◌∷◌, ◌++◌, length, take, drop, codes, Option, Some, None, option_map, pos, refl, sym, ap, ap₂, subst, ◌∙◌, arith, ◌⊎◌, inl, inr, append_assoc}
+use Rattle.std.proofs.Common.{◌≡◌, ℕ, zero, suc, ◌+◌, ◌-◌, ◌*◌, ◌/◌, ◌%◌, ◌^◌, ◌<◌, ◌≤◌, Bool, true, false, List, [], ◌∷◌, ◌++◌, length, take, drop, codes, Some, option_map, refl, sym, ap, ap₂, subst, ◌∙◌, arith, ◌⊎◌, inl, inr, append_assoc}
 use Rattle.std.specs.Prelude.{min}
 use Rattle.std.proofs.Math.Seq.{take-append_seam, take-append-add, drop-append-add}
 use Rattle.std.proofs.lemmas.Bool.{cases_lt}
 use Rattle.std.proofs.lemmas.List.{length-append, append-nil, take-append-le, drop-append-le, drop_all}
 use Rattle.std.proofs.lemmas.Nat.{div-mul-add, mod-mul-add}
-use Rattle.std.proofs.lemmas.Option.{none-some, same_Some}
 use Rattle.cal_base.specs.ComponentTrees.{or_else}
 use Rattle.cal_moment.specs.declared.stamp.Local.{Local}
 use Rattle.cal_moment.specs.Calendar.{IsDate, month_length, day_of_date, day_since_1970}
-use Rattle.cal_moment.specs.Texts.{digits, date_text, time_text, utc_text, SpellsDate, SpellsTime, SpellsDateTime}
+use Rattle.cal_moment.specs.Texts.{digits, date_text, time_text, utc_text, SpellsDateTime}
 use Rattle.cal_model.specs.declared.rule.Until.{Until}
 use Rattle.cal_model.specs.declared.rule.Until.TheVariants.{Day as UntilDay}
 use Rattle.cal_model.specs.ValueTexts.{date_of, date_time_of}
 use Rattle.cal_model.specs.RuleTexts.{until_of, until_time}
-use Rattle.cal_model.proofs.CutLemmas.{cases_Option, option_map_some, length-digits}
+use Rattle.cal_model.proofs.CutLemmas.{cases_Option, option_map_some}
 use Rattle.cal_model.proofs.ValueLaws.{SpellsDate-date_of, SpellsDateTime-date_time_of, date_time_of-SpellsDateTime}
 
 -- one digit before others

@@ -1,11 +1,9 @@
 -- Texts of values: those of RFC 5545, 3.3, and those that tell two readings apart.
-use Rattle.std.specs.Prelude.{◌≡◌, refl, ℕ, Bool, true, false, List, [], ◌∷◌, ◌++◌, Option, Some, None, codes, ℤ, pos, neg_ℤ}
+use Rattle.std.specs.Prelude.{◌≡◌, refl, ℕ, true, false, List, [], ◌∷◌, Some, None, codes, ℤ, pos, neg_ℤ}
 use Rattle.cal_base.specs.declared.line.Line.{Line}
 use Rattle.cal_base.specs.declared.line.Param.{Param}
-use Rattle.cal_moment.specs.declared.stamp.Day.{Day}
 use Rattle.cal_moment.specs.declared.stamp.Length.{Length}
 use Rattle.cal_moment.specs.declared.stamp.Local.{Local}
-use Rattle.cal_moment.specs.declared.stamp.Period.{Period}
 use Rattle.cal_moment.specs.declared.stamp.PeriodEnd.TheVariants.{At as EndAt, After}
 use Rattle.cal_moment.specs.declared.stamp.Stamp.TheVariants.{Date, Floating, Zoned, Utc as AtUtc}
 use Rattle.cal_moment.specs.Calendar.{day_of_date, day_since_1970}

@@ -1,16 +1,14 @@
 -- Places of faults: those of a computed value are those of the texts that spell it, a date or a time is bad where a time is, a list is bad
 -- where its first bad item is, and a rule is bad where its longest front ends that passes the trial.
-use Rattle.std.proofs.Common.{◌≡◌, ℕ, zero, suc, ◌+◌, ◌-◌, ◌<◌, ◌≤◌, Bool, true, false, ◌||◌, ◌==◌, if◌then◌else◌, List, [], ◌∷◌, ◌++◌, length, map, take, codes, Option, Some, None, option_map, pos, refl, sym, ap, ap₂, subst, ◌∙◌, arith, ◌⊎◌, inl, inr, append_assoc}
+use Rattle.std.proofs.Common.{◌≡◌, ℕ, ◌+◌, ◌<◌, ◌≤◌, Bool, true, false, ◌||◌, ◌==◌, if◌then◌else◌, List, [], ◌∷◌, ◌++◌, length, map, take, codes, Option, Some, None, option_map, refl, sym, ap, ap₂, subst, ◌∙◌, arith, inl, inr, append_assoc}
 use Rattle.std.proofs.lemmas.Bool.{cases_Bool, false≢true, ne_eqb}
-use Rattle.std.proofs.lemmas.List.{length-append, append-nil}
+use Rattle.std.proofs.lemmas.List.{length-append}
 use Rattle.std.proofs.lemmas.Option.{none-some}
 use Rattle.cal_base.specs.ContentLines.{pieces, every}
 use Rattle.cal_base.specs.declared.line.Line.{Line}
 use Rattle.cal_moment.specs.BadPlace.{IsIn, BeginsOne, IsBadAt}
 use Rattle.cal_moment.specs.LengthTexts.{SpellsLength}
-use Rattle.cal_moment.specs.Texts.{date_text, time_text, utc_text, SpellsDate, SpellsDateTime, SpellsOffset}
-use Rattle.cal_moment.specs.declared.stamp.Local.{Local}
-use Rattle.cal_moment.specs.declared.stamp.Stamp.{Stamp}
+use Rattle.cal_moment.specs.Texts.{utc_text, SpellsDate, SpellsDateTime, SpellsOffset}
 use Rattle.cal_moment.specs.declared.stamp.Stamp.TheVariants.{Date}
 use Rattle.cal_model.specs.declared.rule.Rule.{Rule}
 use Rattle.cal_model.specs.ValueTexts.{date_of, date_time_of, length_of, offset_of}

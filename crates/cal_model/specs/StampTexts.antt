@@ -1,6 +1,6 @@
 -- The stamps, periods, triggers and numbers that the value of a line is (RFC 5545, 3.3.4 to 3.3.9 and 3.8), with the parameters
 -- VALUE, TZID and RELATED. A value is cut into its items as a whole, and each item is read by itself.
-use Rattle.std.specs.Prelude.{ℕ, ◌-◌, Bool, true, false, ◌&&◌, ◌||◌, ◌==◌, nat_lt, if◌then◌else◌, List, [], ◌∷◌, map, length, find, bytes_eq, codes, Option, Some, None, option_map, option_and_then, ℤ, pos, int_le, nat_abs}
+use Rattle.std.specs.Prelude.{ℕ, Bool, true, false, ◌&&◌, ◌||◌, ◌==◌, nat_lt, if◌then◌else◌, List, [], ◌∷◌, map, length, find, bytes_eq, codes, Option, Some, None, option_map, option_and_then, ℤ, pos, int_le, nat_abs}
 use Rattle.std.specs.List.{list_any, list_all, position_or_len}
 use Rattle.cal_base.specs.declared.line.Line.{Line}
 use Rattle.cal_base.specs.declared.line.Param.{Param}
