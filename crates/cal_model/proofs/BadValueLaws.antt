@@ -7,7 +7,8 @@ use Rattle.std.proofs.lemmas.List.{take-append-drop, take-take}
 use Rattle.cal_base.specs.ContentLines.{pieces, onto_first}
 use Rattle.cal_moment.specs.BadPlace.{IsIn, BeginsOne, IsBadAt}
 use Rattle.cal_model.specs.RuleTexts.{rule_in_grammar}
-use Rattle.cal_model.specs.BadValues.{Reads, can_go_on, rests}
+use Rattle.cal_model.specs.BadValues.{Reads}
+use Rattle.cal_model.specs.RuleTrial.{can_go_on, rests}
 use Rattle.cal_model.proofs.CutLemmas.{Lacks}
 
 -- Fronts

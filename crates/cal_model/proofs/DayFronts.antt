@@ -8,7 +8,7 @@ use Rattle.std.proofs.lemmas.Option.{none-some, same_Some}
 use Rattle.cal_base.specs.Text.{raised, raised_all}
 use Rattle.cal_model.specs.declared.rule.DayPart.{DayPart}
 use Rattle.cal_model.specs.RuleTexts.{word_of, weekdays, weekday_named, if_place, place_number, ordinal_of, day_part, day_of, is_ordinal}
-use Rattle.cal_model.specs.BadValues.{value_ends}
+use Rattle.cal_model.specs.RuleTrial.{value_ends}
 use Rattle.cal_model.specs.ValueTexts.{integer_of}
 use Rattle.cal_model.proofs.CutLemmas.{and_then_some, if_some, is_same_text}
 use Rattle.cal_model.proofs.LengthLaws.{some_octets}

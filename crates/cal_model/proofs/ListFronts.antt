@@ -7,7 +7,7 @@ use Rattle.cal_base.specs.ContentLines.{every}
 use Rattle.cal_moment.specs.Texts.{signed}
 use Rattle.cal_model.specs.ValueTexts.{integer_of}
 use Rattle.cal_model.specs.RuleTexts.{if_between, number_of, if_place, place_number, second_number, list_of}
-use Rattle.cal_model.specs.BadValues.{value_ends}
+use Rattle.cal_model.specs.RuleTrial.{value_ends}
 use Rattle.cal_model.proofs.BadValueLaws.{joined, first_piece, pieces-append, pieces-lacks}
 use Rattle.cal_model.proofs.CutLemmas.{option_map_some, and_then_some, if_some, Lacks}
 use Rattle.cal_model.proofs.NumberFronts.{IsDigitEnd, Nearer, integer_front, abs-signed}

@@ -11,7 +11,7 @@ use Rattle.cal_base.specs.Text.{raised, raised_all}
 use Rattle.cal_model.specs.declared.rule.Rule.{Rule}
 use Rattle.cal_model.specs.ValueTexts.{cut}
 use Rattle.cal_model.specs.RuleTexts.{Part, if_named, part_of, has_name, freq_of, meanings, with_part}
-use Rattle.cal_model.specs.BadValues.{value_ends}
+use Rattle.cal_model.specs.RuleTrial.{value_ends}
 use Rattle.cal_model.proofs.CutLemmas.{cases_Option, option_map_some, and_then_some, if_some, is_same_text, Lacks, lacks-append, cut-append, cut-some}
 use Rattle.cal_model.proofs.ListFronts.{IsAmong, HoldsOfAll, among, no_semicolons}
 use Rattle.cal_model.proofs.RuleRows.{Lesser, lesser_same, Row, whole_parts, RowFront}

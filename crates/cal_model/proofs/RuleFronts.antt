@@ -12,7 +12,8 @@ use Rattle.cal_model.specs.declared.rule.Freq.TheVariants.{Secondly, Minutely, H
 use Rattle.cal_model.specs.declared.rule.Rule.{Rule}
 use Rattle.cal_model.specs.RuleTexts.{Part, if_named, part_of, without_last_empty, has_name, is_each_once, freq_of, freq_in, meanings, with_part, with_parts, every_time, is_ordinal, is_allowed, if_allowed, rule_of_freq, rule_of_parts, rule_in_grammar}
 use Rattle.cal_model.specs.ValueTexts.{cut}
-use Rattle.cal_model.specs.BadValues.{Reads, last_part, part_ends, endings, rests, can_go_on, FrontsOfRulesAreTried}
+use Rattle.cal_model.specs.BadValues.{Reads}
+use Rattle.cal_model.specs.RuleTrial.{last_part, part_ends, endings, rests, can_go_on, FrontsOfRulesAreTried}
 use Rattle.cal_model.proofs.BadValueLaws.{joined, firsts, final, first_piece, pieces-append, pieces-lacks, can_go_on-BeginsOne}
 use Rattle.cal_model.proofs.CutLemmas.{cases_Option, and_then_some, if_some, is_same_text, same_text, no_octets, Lacks, cut-some}
 use Rattle.cal_model.proofs.LengthLaws.{some_octets}

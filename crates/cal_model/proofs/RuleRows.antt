@@ -10,7 +10,7 @@ use Rattle.cal_model.specs.declared.rule.Freq.{Freq}
 use Rattle.cal_model.specs.declared.rule.Freq.TheVariants.{Secondly, Minutely, Hourly, Daily, Weekly, Monthly, Yearly}
 use Rattle.cal_model.specs.declared.rule.Rule.{Rule}
 use Rattle.cal_model.specs.RuleTexts.{freq_of, list_of, is_ordinal, has_some, refuses, has_ordinals, is_allowed}
-use Rattle.cal_model.specs.BadValues.{value_ends, frequency_parts, other_parts}
+use Rattle.cal_model.specs.RuleTrial.{value_ends, frequency_parts, other_parts}
 use Rattle.cal_model.proofs.BadValueLaws.{first_piece}
 use Rattle.cal_model.proofs.CutLemmas.{option_map_some}
 use Rattle.cal_model.proofs.DayFronts.{DayBelow}

@@ -14,7 +14,8 @@ use Rattle.cal_model.specs.declared.rule.Rule.{Rule}
 use Rattle.cal_model.specs.ValueTexts.{date_of, date_time_of, length_of, offset_of}
 use Rattle.cal_model.specs.StampTexts.{param_is, zone_of, stamp_of_time, time_stamp, date_or_time}
 use Rattle.cal_model.specs.RuleTexts.{rule_in_grammar, is_within_bound, list_of}
-use Rattle.cal_model.specs.BadValues.{Reads, IsBadRuleAt, can_go_on}
+use Rattle.cal_model.specs.BadValues.{Reads, IsBadRuleAt}
+use Rattle.cal_model.specs.RuleTrial.{can_go_on}
 use Rattle.cal_model.proofs.BadValueLaws.{joined, firsts, final, first_piece, pieces-append, pieces-lacks, bad_by_same, bad_by_next}
 use Rattle.cal_model.proofs.CutLemmas.{option_map_some, Lacks}
 use Rattle.cal_model.proofs.LengthLaws.{length_of-SpellsLength, SpellsLength-length_of}

@@ -6,6 +6,7 @@ pub mod ValueTexts
 pub mod StampTexts
 pub mod RuleTexts
 pub mod BadValues
+pub mod RuleTrial
 pub mod ServerState
 pub mod EventTimes
 pub mod Queries
