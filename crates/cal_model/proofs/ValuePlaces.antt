@@ -1,6 +1,6 @@
 -- Places of faults: those of a computed value are those of the texts that spell it, a date or a time is bad where a time is, a list is bad
 -- where its first bad item is, and a rule is bad where its longest front ends that passes the trial.
-use Rattle.std.proofs.Common.{◌≡◌, ℕ, ◌+◌, ◌<◌, ◌≤◌, Bool, true, false, ◌||◌, ◌==◌, if◌then◌else◌, List, [], ◌∷◌, ◌++◌, length, map, take, codes, Option, Some, None, option_map, refl, sym, ap, ap₂, subst, ◌∙◌, arith, inl, inr, append_assoc}
+use Rattle.std.proofs.Common.{◌≡◌, ℕ, ◌+◌, ◌<◌, ◌≤◌, Bool, true, false, ◌||◌, ◌==◌, if◌then◌else◌, List, [], ◌∷◌, ◌++◌, length, map, take, codes, Option, Some, None, option_map, refl, sym, ap, ap₂, subst, ◌∙◌, arith, inl, inr, append_assoc, ◌%◌, ◌^◌, zero, suc, ℤ}
 use Rattle.std.proofs.lemmas.Bool.{cases_Bool, false≢true, ne_eqb}
 use Rattle.std.proofs.lemmas.List.{length-append}
 use Rattle.std.proofs.lemmas.Option.{none-some}
@@ -8,16 +8,20 @@ use Rattle.cal_base.specs.ContentLines.{pieces, every}
 use Rattle.cal_base.specs.declared.line.Line.{Line}
 use Rattle.cal_moment.specs.BadPlace.{IsIn, BeginsOne, IsBadAt}
 use Rattle.cal_moment.specs.LengthTexts.{SpellsLength}
-use Rattle.cal_moment.specs.Texts.{utc_text, SpellsDate, SpellsDateTime, SpellsOffset}
-use Rattle.cal_moment.specs.declared.stamp.Stamp.TheVariants.{Date}
+use Rattle.cal_moment.specs.Texts.{utc_text, SpellsDate, SpellsDateTime, SpellsOffset, digits}
+use Rattle.cal_moment.specs.declared.stamp.Local.{Local}
+use Rattle.cal_moment.specs.declared.stamp.Stamp.TheVariants.{Date, Utc as AtUtc}
 use Rattle.cal_model.specs.declared.rule.Rule.{Rule}
-use Rattle.cal_model.specs.ValueTexts.{date_of, date_time_of, length_of, offset_of}
-use Rattle.cal_model.specs.StampTexts.{param_is, zone_of, stamp_of_time, time_stamp, date_or_time}
+use Rattle.cal_model.specs.ValueTexts.{date_of, date_time_of, length_of, offset_of, moment_of, moment_of_local}
+use Rattle.cal_model.specs.StampTexts.{param_is, zone_of, stamp_of_time, time_stamp, date_or_time, utc_stamp, is_named, utc_names, is_date_text, stamp_of}
 use Rattle.cal_model.specs.RuleTexts.{rule_in_grammar, is_within_bound, list_of}
 use Rattle.cal_model.specs.BadValues.{Reads, IsBadRuleAt}
 use Rattle.cal_model.specs.RuleTrial.{can_go_on}
+use Rattle.cal_moment.specs.declared.stamp.Utc.{Utc}
+use Rattle.cal_model.specs.UtcTexts.{utc_of}
+use Rattle.cal_model.proofs.UtcLemmas.{SpellsDateTime-utc_of}
 use Rattle.cal_model.proofs.BadValueLaws.{joined, firsts, final, first_piece, pieces-append, pieces-lacks, bad_by_same, bad_by_next}
-use Rattle.cal_model.proofs.CutLemmas.{option_map_some, Lacks}
+use Rattle.cal_model.proofs.CutLemmas.{option_map_some, Lacks, lacks-append}
 use Rattle.cal_model.proofs.LengthLaws.{length_of-SpellsLength, SpellsLength-length_of}
 use Rattle.cal_model.proofs.ListFronts.{every-cons}
 use Rattle.cal_model.proofs.RuleFronts.{trial_is_exact}
@@ -166,3 +170,55 @@ bad_rule text place none within passes next =
     (λ is. none-some is.0 (sym none ∙ is.1)) within ((trial_is_exact (take place text)).0 passes)
     (λ more begins. false≢true (sym (next more) ∙ (trial_is_exact (take (place + 1) text)).1 begins)) in
     subst (place_by text place) (sym none) bad
+
+-- Items of lists
+
+-- digits have no octet below theirs
+lacks_low : (octet count n : ℕ) → octet < 48 → Lacks octet (digits count n)
+lacks_low octet zero n below = tt
+lacks_low octet (suc count) n below = (λ e. omega (arith, e, below), lacks_low octet count (n % 10 ^ count) below)
+
+date_lacks_comma : (text : List ℕ) → IsIn SpellsDate text → Lacks 44 text
+date_lacks_comma text is =
+    let s = is.1 in
+    rw s.spelled (lacks-append 44 (digits 4 s.year) (digits 2 s.month ++ digits 2 s.day) (lacks_low 44 4 s.year (omega arith))
+    (lacks-append 44 (digits 2 s.month) (digits 2 s.day) (lacks_low 44 2 s.month (omega arith)) (lacks_low 44 2 s.day (omega arith))))
+
+utc_lacks_comma : (utc : Bool) → Lacks 44 (utc_text utc)
+utc_lacks_comma true = (λ e. omega (arith, e), tt)
+utc_lacks_comma false = tt
+
+time_lacks_comma : (text : List ℕ) → IsIn SpellsDateTime text → Lacks 44 text
+time_lacks_comma text is =
+    let s = is.1 in
+    let t = s.spells_time in
+    let time : Lacks 44 s.time = rw t.spelled (lacks-append 44 (digits 2 t.hour) (digits 2 t.minute ++ digits 2 t.second) (lacks_low 44 2 t.hour (omega arith))
+    (lacks-append 44 (digits 2 t.minute) (digits 2 t.second) (lacks_low 44 2 t.minute (omega arith)) (lacks_low 44 2 t.second (omega arith)))) in
+    rw s.spelled (lacks-append 44 s.date (codes "T" ++ (s.time ++ utc_text is.0.1)) (date_lacks_comma s.date (record { 0 = is.0.0.day }, s.spells_date))
+    ((λ e. omega (arith, e)), lacks-append 44 s.time (utc_text is.0.1) time (utc_lacks_comma is.0.1)))
+
+-- No stamp has a comma, so a list of stamps goes on where its last item does.
+pub stamp_lacks_comma : (zones : List (List ℕ)) (line : Line) (text : List ℕ) → IsIn (Reads (stamp_of zones line)) text → Lacks 44 text
+stamp_lacks_comma zones line text is =
+    elim (cases_Bool (is_named utc_names line)) [
+      | inl utc ↦ (let moment = option_map_some AtUtc (moment_of text) is.0 (sym (ap (λ b. if b then utc_stamp text else date_or_time zones line text) utc) ∙ is.1) in
+          let time = option_map_some (λ (time : Local × Bool). moment_of_local time.0) (date_time_of text) moment.0 moment.1 in
+          time_lacks_comma text (time.0, SpellsDateTime-date_time_of text time.0 time.1))
+      | inr other ↦ (let stamp = sym (ap (λ b. if b then utc_stamp text else date_or_time zones line text) other) ∙ is.1 in
+          elim (cases_Bool (is_date_text line text)) [
+            | inl date ↦ (let day = option_map_some Date (date_of text) is.0 (sym (ap (λ b. if b then option_map Date (date_of text) else time_stamp (zone_of zones line) text) date) ∙ stamp) in
+                date_lacks_comma text (day.0, SpellsDate-date_of text day.0 day.1))
+            | inr not ↦ (let time = option_map_some (stamp_of_time (zone_of zones line)) (date_time_of text) is.0 (sym (ap (λ b. if b then option_map Date (date_of text) else time_stamp (zone_of zones line) text) not) ∙ stamp) in
+                time_lacks_comma text (time.0, SpellsDateTime-date_time_of text time.0 time.1))
+          ])
+    ]
+
+-- The moment of a text with its Z is the one that is read with or without it.
+pub moment_of-utc_of : (text : List ℕ) (at : ℤ) → utc_of text ≡ Some at → moment_of text ≡ Some (record { 0 = at })
+moment_of-utc_of text at e =
+    let local = SpellsDateTime-utc_of text at e in
+    ap (option_map (λ (time : Local × Bool). moment_of_local time.0)) (date_time_of-SpellsDateTime text (local.0, true) local.1)
+    ∙ ap (λ n. Some (as_moment n)) (sym local.2)
+  where
+    as_moment : ℤ → Utc
+    as_moment n = record { 0 = n }
