@@ -1,10 +1,21 @@
+pub mod BadValueLaws
+pub mod CutLemmas
 mod Dates
+pub mod DayFronts
 pub mod EndLemmas
 pub mod EventLemmas
 pub mod FrameLemmas
+pub mod LengthLaws
+pub mod NumberFronts
 pub mod LineLemmas
+pub mod ListFronts
+pub mod PartFronts
 pub mod QueryLemmas
 pub mod RequestLemmas
+pub mod RuleFronts
+pub mod RuleRows
+pub mod RuleTable
+pub mod UntilFronts
 pub mod UtcLemmas
 pub mod NearTimes
 pub mod RisingLists
@@ -24,6 +35,8 @@ pub mod PassingMoments
 pub mod RecurrenceSetLemmas
 pub mod Rising
 pub mod ZoneTableLaws
+pub mod ValueLaws
+pub mod ValuePlaces
 mod Samples
 mod TextExamples
 mod ReplyExamples
@@ -42,3 +55,6 @@ mod LaterRowExamples
 mod OverlapExamples
 mod BusyTimeExamples
 mod CostExamples
+mod RuleTextExamples
+mod RulePlaceExamples
+mod ValueExamples

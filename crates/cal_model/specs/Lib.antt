@@ -2,6 +2,11 @@ pub mod Limits
 pub mod Namespaces
 pub mod TextLines
 pub mod UtcTexts
+pub mod ValueTexts
+pub mod StampTexts
+pub mod RuleTexts
+pub mod BadValues
+pub mod RuleTrial
 pub mod ServerState
 pub mod EventTimes
 pub mod Queries
