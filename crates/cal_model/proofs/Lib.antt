@@ -21,3 +21,4 @@ mod RowExamples
 mod MovedRowExamples
 mod OverlapExamples
 mod CostExamples
+mod ObjectExamples

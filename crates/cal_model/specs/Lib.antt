@@ -33,3 +33,11 @@ pub mod MovedRows
 pub mod Overlap
 pub mod Cost
 pub mod ComponentLines
+pub mod ValueTexts
+pub mod StampTexts
+pub mod RuleTexts
+pub mod LineValues
+pub mod ZoneReading
+pub mod ComponentReading
+pub mod ObjectFaults
+pub mod ObjectReading
