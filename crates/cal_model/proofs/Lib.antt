@@ -22,3 +22,4 @@ mod MovedRowExamples
 mod OverlapExamples
 mod CostExamples
 mod ObjectExamples
+mod ObjectFaultExamples
