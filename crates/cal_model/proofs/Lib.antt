@@ -23,3 +23,5 @@ mod OverlapExamples
 mod CostExamples
 mod ObjectExamples
 mod ObjectFaultExamples
+mod PrivilegeExamples
+mod PrivilegeLaws

@@ -41,3 +41,4 @@ pub mod ZoneReading
 pub mod ComponentReading
 pub mod ObjectFaults
 pub mod ObjectReading
+pub mod Privileges
