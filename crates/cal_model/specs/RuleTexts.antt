@@ -113,10 +113,11 @@ abbrev pub is_each_once : List Part → Bool
 is_each_once [] = true
 is_each_once (part ∷ parts) = not (list_any (has_name part.0) parts) && is_each_once parts
 
--- the parts that have a meaning, and how the value of each goes into a rule; one outside its grammar or its bounds does not
+-- The parts that have a meaning, and how the value of each goes into a rule; one outside its grammar or its bounds does not. FREQ
+-- stands in the rule before the others.
 abbrev pub meanings : List (List ℕ × (List ℕ → Rule → Option Rule))
 meanings =
-    (codes "FREQ", λ text rule. option_map (λ freq. record rule { freq = freq }) (freq_of text))
+    (codes "FREQ", λ text rule. option_map (λ freq. rule) (freq_of text))
     ∷ (codes "INTERVAL", λ text rule. option_map (λ n. record rule { interval = n }) (number_of 1 999999999 text))
     ∷ (codes "COUNT", λ text rule. option_map (λ n. record rule { count = Some n }) (number_of 1 999999999 text))
     ∷ (codes "UNTIL", λ text rule. option_map (λ until. record rule { until = Some until }) (until_of text))

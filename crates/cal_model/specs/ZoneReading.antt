@@ -1,19 +1,18 @@
 -- The zones of a calendar object: what a VTIMEZONE says, and which one cannot stand (RFC 5545, 3.6.5).
-use Rattle.std.specs.Prelude.{ℕ, Bool, true, false, not, ◌||◌, nat_lt, if◌then◌else◌, List, [], ◌++◌, map, length, filter, filter_map, flat_map, sum, Option, Some, None, unwrap_or, codes, ℤ}
+use Rattle.std.specs.Prelude.{ℕ, Bool, not, ◌||◌, nat_lt, if◌then◌else◌, List, [], ◌++◌, map, length, filter, filter_map, flat_map, sum, Option, Some, None, unwrap_or, codes, ℤ}
 use Rattle.std.specs.List.{list_any}
 use Rattle.cal_base.specs.declared.line.Line.{Line}
 use Rattle.cal_base.specs.declared.line.Node.{Node}
 use Rattle.cal_moment.specs.declared.stamp.Local.{Local}
 use Rattle.cal_moment.specs.declared.stamp.Period.{Period}
 use Rattle.cal_moment.specs.declared.stamp.Stamp.{Stamp}
-use Rattle.cal_model.specs.declared.rule.Freq.{Freq}
-use Rattle.cal_model.specs.declared.rule.Freq.TheVariants.{Secondly, Minutely}
 use Rattle.cal_model.specs.declared.rule.Rule.{Rule}
 use Rattle.cal_model.specs.declared.zone.ZonePart.{ZonePart}
 use Rattle.cal_model.specs.declared.zone.ZoneTable.{ZoneTable}
 use Rattle.cal_model.specs.Numbers.{is_empty}
 use Rattle.cal_model.specs.ValueTexts.{offset_of}
 use Rattle.cal_model.specs.StampTexts.{local_digits}
+use Rattle.cal_model.specs.NextPassing.{is_fine}
 use Rattle.cal_model.specs.ZoneOnsets.{table_over, table_count_over}
 use Rattle.cal_model.specs.ComponentLines.{all_of, one_of, has, lines_of, children_of, is_named}
 use Rattle.cal_model.specs.LineValues.{stamps_in, periods_in, stamp_at, value_at, rules_of}
@@ -65,11 +64,6 @@ zone_names zones = map (λ (zone : ZoneTable). zone.name) zones
 -- Zones that cannot stand
 
 -- a rule that repeats within the hour
-abbrev pub is_fine : Freq → Bool
-is_fine Secondly = true
-is_fine Minutely = true
-is_fine other = false
-
 abbrev pub has_fine_rule : ZonePart → Bool
 has_fine_rule part = list_any (λ (rule : Rule). is_fine rule.freq) part.rules
 
