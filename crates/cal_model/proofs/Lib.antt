@@ -25,3 +25,5 @@ mod ObjectExamples
 mod ObjectFaultExamples
 mod PrivilegeExamples
 mod PrivilegeLaws
+pub mod ReadObjectLaws
+pub mod EachLemmas

@@ -42,3 +42,4 @@ pub mod ComponentReading
 pub mod ObjectFaults
 pub mod ObjectReading
 pub mod Privileges
+pub mod ReadObjects
