@@ -2,20 +2,39 @@
 use Rattle.std.proofs.Common.{◌≡◌, ℕ, zero, suc, ◌+◌, ◌<◌, ◌≤◌, List, [], ◌∷◌, ◌++◌, map, length, arith, refl, ap, sym, ◌∙◌, Bool, true, false, inl, inr, subst, append_assoc, length-append}
 use Rattle.std.proofs.Math.Seq.{get_or-append_seam}
 use Rattle.std.proofs.lemmas.Option.{slice_get-get_or}
-use Rattle.std.specs.Prelude.{Option, Some, None, Result, Ok, Err, is_ok, find, filter, filter_map, option_map, slice_get, codes, if◌then◌else◌}
+use Rattle.std.specs.Prelude.{nat_lt, ◌||◌, not, bytes_eq, flat_map, option_to_list, unwrap_or, All, Option, Some, None, Result, Ok, Err, is_ok, find, filter, filter_map, option_map, slice_get, codes, if◌then◌else◌}
 use Rattle.std.specs.List.{AllByRecursion as Each, enumerate_from, zip, list_any}
-use Rattle.std.proofs.lemmas.Bool.{false≢true}
+use Rattle.std.proofs.lemmas.Bool.{false≢true, ltb-false}
+use Rattle.std.proofs.lemmas.Slice.Eq.{bytes_eq-Decides}
 use Rattle.std.proofs.lemmas.Option.{none-some}
 use Rattle.std.specs.Result.{result_unwrap_or}
 use Rattle.cal_base.specs.declared.line.Node.{Node}
 use Rattle.cal_base.specs.ContentLines.{Placed, placed_lines, line_fault}
-use Rattle.cal_base.specs.ComponentTrees.{NestingFault, nesting_fault, tree_of}
+use Rattle.cal_base.specs.ComponentTrees.{NestingFault, nesting_fault, tree_of, first}
+use Rattle.cal_base.specs.declared.line.Line.{Line}
+use Rattle.cal_moment.specs.declared.stamp.Length.{Length}
+use Rattle.cal_moment.specs.declared.stamp.Stamp.{Stamp}
+use Rattle.cal_moment.specs.declared.stamp.Stamp.TheVariants.{Date, Floating, Zoned, Utc}
+use Rattle.cal_model.specs.declared.object.Component.{Component}
+use Rattle.cal_model.specs.declared.object.Extent.{Extent}
+use Rattle.cal_model.specs.declared.object.Extent.TheVariants as extent
+use Rattle.cal_model.specs.declared.object.Kind.{Kind}
+use Rattle.cal_model.specs.declared.object.Kind.TheVariants.{Event, Todo, Journal, FreeBusy}
+use Rattle.cal_model.specs.StampTexts.{is_known, is_named as is_one_of}
+use Rattle.cal_model.specs.declared.object.NotResource.{NotResource}
 use Rattle.cal_model.specs.declared.object.Object.{Object}
-use Rattle.cal_model.specs.LineValues.{lines_in, own_fault}
-use Rattle.cal_model.specs.ZoneReading.{zones_of, zone_names}
-use Rattle.cal_model.specs.ComponentLines.{is_named, children_of, kind_of, lines_of}
+use Rattle.cal_model.specs.declared.rule.Rule.{Rule}
+use Rattle.cal_model.specs.declared.zone.ZoneTable.{ZoneTable}
+use Rattle.cal_model.specs.LineValues.{stamps_in, periods_in, stamps_at, periods_at, stamp_at, value_at, rules_of, lines_in, own_fault}
+use Rattle.cal_model.specs.ZoneReading.{zones_of, zone_names, are_many, zone_table, is_zone, parts_of}
+use Rattle.cal_model.specs.ValueTexts.{length_of}
+use Rattle.cal_model.specs.Numbers.{is_empty}
+use Rattle.cal_model.specs.Rows.{masters}
+use Rattle.cal_model.specs.ComponentLines.{has_name, all_of, is_named, name_of, children_of, kind_named, kind_of, lines_of}
+use Rattle.cal_model.specs.ComponentReading.{end_of_start, extent_without_end, end_stamp, extent_of, component_of}
+use Rattle.cal_model.specs.ReadObjects.{IsChild, stamps_of_extent, stamps_of, IsKnown, IsReadComponent, IsZone, IsReadObject, IsRead}
 use Rattle.cal_model.proofs.EachLemmas.{neither, none_of_map, each_of_find, each_of_any, each-weaker, each-both, each-filter, each_passes, each-map, each_of_map, each-filter_map, each-append, each_of_append, each-flat_map, each_of_flat_map}
-use Rattle.cal_model.specs.ObjectFaults.{Child, child_of, child_places, children_in, zones_among, kinds_among, zone_fault, component_fault, resource_fault, stamp_outside}
+use Rattle.cal_model.specs.ObjectFaults.{Child, child_of, child_places, children_in, zones_among, kinds_among, zone_fault, component_fault, resource_fault, stamp_outside, component_of_child, dated_names, dated_stamps, stamps_of_period, lacks_zone, object_of, has_component_fault, is_bad_end, is_bad_period, is_bad_length, has_two_ends, are_different, resource_faults, some_has}
 use Rattle.cal_model.specs.ObjectReading.{Unread, not_calendar, not_resource, date_outside, place_at, line_of_fault, first_there, calendar_faults, object_in, object_faults, read_tree, read_lines_by, read_by, read_object_over}
 
 -- Where a reading is Ok, no fault was there
@@ -138,3 +157,203 @@ children_from all before (node ∷ nodes) number (place ∷ places) whole count 
 
 children_are : (placed : List Placed) (tree : Node) → Each (IsChildOf (children_of tree)) (children_in placed tree)
 children_are placed tree = children_from (children_of tree) [] (children_of tree) 0 (child_places placed) refl refl
+
+-- Components
+
+-- a component is made of a child of its kind
+record IsMade (zones : List (List ℕ)) (child : Child) (component : Component) : Type 0 where
+  kind : Kind
+  of_kind : kind_of child.tree ≡ Some kind
+  is : component ≡ component_of zones child.number kind child.tree
+
+made_step : (zones : List (List ℕ)) (child : Child) (component : Component) (kind : Option Kind) → kind_of child.tree ≡ kind →
+    option_map (λ k. component_of zones child.number k child.tree) kind ≡ Some component → IsMade zones child component
+made_step zones child component None of_kind made = absurd (none-some component made)
+made_step zones child component (Some kind) of_kind made =
+    record { kind = kind; of_kind = of_kind; is = sym (ap (λ o. unwrap_or o (component_of zones child.number kind child.tree)) made) }
+
+is_made : (zones : List (List ℕ)) (child : Child) (component : Component) → component_of_child zones child ≡ Some component → IsMade zones child component
+is_made zones child component made = made_step zones child component (kind_of child.tree) refl made
+
+-- Stamps with zones that are there
+
+-- all dates of some lines are in zones that are there
+abbrev IsNamed : List (List ℕ) → Stamp → Type 0
+IsNamed zones stamp = is_known zones stamp ≡ true
+
+known_by_test : (b : Bool) → not b ≡ false → b ≡ true
+known_by_test true known = refl
+known_by_test false known = absurd (false≢true (sym known))
+
+lines_known : (zones : List (List ℕ)) (lines : List Line) → lacks_zone zones lines ≡ false → Each (λ line. Each (IsNamed zones) (dated_stamps zones line)) lines
+lines_known zones lines known =
+    each_of_flat_map (IsNamed zones) (dated_stamps zones) lines
+    (each-weaker (λ stamp is. known_by_test (is_known zones stamp) is) (flat_map (dated_stamps zones) lines)
+    (each_of_any (λ stamp. not (is_known zones stamp)) (flat_map (dated_stamps zones) lines) known))
+
+-- the dates of a line are its stamps and those of its periods
+dated_step : (zones : List (List ℕ)) (stamps more : List Stamp) (b : Bool) → b ≡ true → Each (IsNamed zones) (if b then stamps ++ more else []) → Each (IsNamed zones) stamps × Each (IsNamed zones) more
+dated_step zones stamps more true is known = each_of_append (IsNamed zones) stamps more known
+dated_step zones stamps more false is known = absurd (false≢true is)
+
+is_dated : (name : List ℕ) (line : Line) → list_any (bytes_eq name) dated_names ≡ true → has_name name line ≡ true → is_one_of dated_names line ≡ true
+is_dated name line dated named = rw ((bytes_eq-Decides line.name name).0 named) dated
+
+of_dated_line : (zones : List (List ℕ)) (name : List ℕ) (line : Line) → list_any (bytes_eq name) dated_names ≡ true → has_name name line ≡ true →
+    Each (IsNamed zones) (dated_stamps zones line) → Each (IsNamed zones) (stamps_in zones line) × Each (IsNamed zones) (flat_map stamps_of_period (periods_in zones line))
+of_dated_line zones name line dated named known =
+    dated_step zones (stamps_in zones line) (flat_map stamps_of_period (periods_in zones line)) (is_one_of dated_names line) (is_dated name line dated named) known
+
+named_lines : (zones : List (List ℕ)) (name : List ℕ) (lines : List Line) → Each (λ line. Each (IsNamed zones) (dated_stamps zones line)) lines →
+    Each (λ (line : Line). Each (IsNamed zones) (dated_stamps zones line) × (has_name name line ≡ true)) (all_of name lines)
+named_lines zones name lines known =
+    each-both (λ line. Each (IsNamed zones) (dated_stamps zones line)) (λ line. has_name name line ≡ true) (all_of name lines)
+    (each-filter (λ line. Each (IsNamed zones) (dated_stamps zones line)) (has_name name) lines known)
+    (each_passes (has_name name) lines)
+
+stamps_known : (zones : List (List ℕ)) (name : List ℕ) (lines : List Line) → list_any (bytes_eq name) dated_names ≡ true →
+    Each (λ line. Each (IsNamed zones) (dated_stamps zones line)) lines → Each (IsNamed zones) (stamps_at zones name lines)
+stamps_known zones name lines dated known =
+    each-flat_map (IsNamed zones) (stamps_in zones) (all_of name lines)
+    (each-weaker (λ line facts. (of_dated_line zones name line dated facts.1 facts.0).0) (all_of name lines) (named_lines zones name lines known))
+
+periods_known : (zones : List (List ℕ)) (name : List ℕ) (lines : List Line) → list_any (bytes_eq name) dated_names ≡ true →
+    Each (λ line. Each (IsNamed zones) (dated_stamps zones line)) lines → Each (IsNamed zones) (flat_map stamps_of_period (periods_at zones name lines))
+periods_known zones name lines dated known =
+    each-flat_map (IsNamed zones) stamps_of_period (periods_at zones name lines)
+    (each-flat_map (λ period. Each (IsNamed zones) (stamps_of_period period)) (periods_in zones) (all_of name lines)
+    (each-weaker (λ line facts. each_of_flat_map (IsNamed zones) stamps_of_period (periods_in zones line) (of_dated_line zones name line dated facts.1 facts.0).1) (all_of name lines) (named_lines zones name lines known)))
+
+first_known : (zones : List (List ℕ)) (stamps : List Stamp) → Each (IsNamed zones) stamps → Each (IsNamed zones) (option_to_list (first stamps))
+first_known zones [] known = tt
+first_known zones (stamp ∷ stamps) known = (known.0, tt)
+
+stamp_known : (zones : List (List ℕ)) (name : List ℕ) (lines : List Line) → list_any (bytes_eq name) dated_names ≡ true →
+    Each (λ line. Each (IsNamed zones) (dated_stamps zones line)) lines → Each (IsNamed zones) (option_to_list (stamp_at zones name lines))
+stamp_known zones name lines dated known = first_known zones (stamps_at zones name lines) (stamps_known zones name lines dated known)
+
+-- an extent that no end gives has no stamp
+end_of_start-stamps : (kind : Kind) (start : Stamp) → stamps_of_extent (end_of_start kind start) ≡ []
+end_of_start-stamps Event (Date day) = refl
+end_of_start-stamps Event (Floating local) = refl
+end_of_start-stamps Event (Zoned local number) = refl
+end_of_start-stamps Event (Utc moment) = refl
+end_of_start-stamps Journal (Date day) = refl
+end_of_start-stamps Journal (Floating local) = refl
+end_of_start-stamps Journal (Zoned local number) = refl
+end_of_start-stamps Journal (Utc moment) = refl
+end_of_start-stamps Todo start = refl
+end_of_start-stamps FreeBusy start = refl
+
+extent_without_end-stamps : (kind : Kind) (start : Option Stamp) (length : Option Length) → stamps_of_extent (extent_without_end kind start length) ≡ []
+extent_without_end-stamps kind None length = refl
+extent_without_end-stamps kind (Some start) (Some length) = refl
+extent_without_end-stamps kind (Some start) None = end_of_start-stamps kind start
+
+due_known : (zones : List (List ℕ)) (end : Option Stamp) (other : Extent) → stamps_of_extent other ≡ [] → Each (IsNamed zones) (option_to_list end) →
+    Each (IsNamed zones) (stamps_of_extent (unwrap_or (option_map extent.Due end) other))
+due_known zones None other none known = rw none tt
+due_known zones (Some end) other none known = known
+
+end_known : (zones : List (List ℕ)) (end : Option Stamp) (other : Extent) → stamps_of_extent other ≡ [] → Each (IsNamed zones) (option_to_list end) →
+    Each (IsNamed zones) (stamps_of_extent (unwrap_or (option_map extent.End end) other))
+end_known zones None other none known = rw none tt
+end_known zones (Some end) other none known = known
+
+extent_known : (zones : List (List ℕ)) (kind : Kind) (lines : List Line) → Each (λ line. Each (IsNamed zones) (dated_stamps zones line)) lines →
+    Each (IsNamed zones) (stamps_of_extent (extent_of zones kind lines))
+extent_known zones Todo lines known =
+    let start = stamp_at zones (codes "DTSTART") lines in
+    let length = value_at length_of (codes "DURATION") lines in
+    due_known zones (stamp_at zones (codes "DUE") lines) (extent_without_end Todo start length) (extent_without_end-stamps Todo start length) (stamp_known zones (codes "DUE") lines refl known)
+extent_known zones Event lines known =
+    let start = stamp_at zones (codes "DTSTART") lines in
+    let length = value_at length_of (codes "DURATION") lines in
+    end_known zones (stamp_at zones (codes "DTEND") lines) (extent_without_end Event start length) (extent_without_end-stamps Event start length) (stamp_known zones (codes "DTEND") lines refl known)
+extent_known zones Journal lines known =
+    let start = stamp_at zones (codes "DTSTART") lines in
+    let length = value_at length_of (codes "DURATION") lines in
+    end_known zones (stamp_at zones (codes "DTEND") lines) (extent_without_end Journal start length) (extent_without_end-stamps Journal start length) (stamp_known zones (codes "DTEND") lines refl known)
+extent_known zones FreeBusy lines known =
+    let start = stamp_at zones (codes "DTSTART") lines in
+    let length = value_at length_of (codes "DURATION") lines in
+    end_known zones (stamp_at zones (codes "DTEND") lines) (extent_without_end FreeBusy start length) (extent_without_end-stamps FreeBusy start length) (stamp_known zones (codes "DTEND") lines refl known)
+
+-- all stamps of a component are in zones that are there
+component_known : (zones : List (List ℕ)) (number : ℕ) (kind : Kind) (node : Node) → lacks_zone zones (lines_of node) ≡ false →
+    Each (IsNamed zones) (stamps_of (component_of zones number kind node))
+component_known zones number kind node there =
+    let lines = lines_of node in
+    let known = lines_known zones lines there in
+    let made = component_of zones number kind node in
+    let start = option_to_list made.start in
+    let end = stamps_of_extent made.extent in
+    let id = option_to_list made.recurrence_id in
+    let periods = flat_map stamps_of_period made.periods in
+    each-append (IsNamed zones) (start ++ end ++ id ++ made.dates ++ periods) made.except
+    (each-append (IsNamed zones) (start ++ end ++ id ++ made.dates) periods
+    (each-append (IsNamed zones) (start ++ end ++ id) made.dates
+    (each-append (IsNamed zones) (start ++ end) id
+    (each-append (IsNamed zones) start end
+    (stamp_known zones (codes "DTSTART") lines refl known)
+    (extent_known zones kind lines known))
+    (stamp_known zones (codes "RECURRENCE-ID") lines refl known))
+    (stamps_known zones (codes "RDATE") lines refl known))
+    (periods_known zones (codes "RDATE") lines refl known))
+    (stamps_known zones (codes "EXDATE") lines refl known)
+
+-- Rows of the table that do not hold
+
+each_row : (rows : List (Bool × NotResource)) → option_map (λ (row : Bool × NotResource). row.1) (find (λ (row : Bool × NotResource). row.0) rows) ≡ None →
+    Each (λ (row : Bool × NotResource). row.0 ≡ false) rows
+each_row rows none =
+    each_of_find (λ (row : Bool × NotResource). row.0) rows
+    (none_of_map (λ (row : Bool × NotResource). row.1) (find (λ (row : Bool × NotResource). row.0) rows) none)
+
+-- what the table says of the children of the four kinds
+record IsStorable (object : Object) (children : List Child) : Type 0 where
+  some : is_empty children ≡ false
+  one_kind : are_different (map (λ (child : Child). name_of child.tree) children) ≡ false
+  one_master : nat_lt 1 (length (masters object)) ≡ false
+  zones : Each (λ (child : Child). lacks_zone (zone_names object.zones) (lines_of child.tree) ≡ false) children
+
+is_storable : (object : Object) (children : List Child) → resource_fault object children ≡ None → IsStorable object children
+is_storable object children none =
+    let rows = each_row (resource_faults object children) none in
+    record {
+      some = rows.1.0;
+      one_kind = rows.1.1.0;
+      one_master = rows.1.1.1.1.1.0;
+      zones = each_of_any (λ (child : Child). lacks_zone (zone_names object.zones) (lines_of child.tree)) children rows.1.1.1.1.1.1.1.0;
+    }
+
+-- One kind
+
+same_names : (name : List ℕ) (names : List (List ℕ)) → list_any (λ other. not (bytes_eq name other)) names ≡ false → Each (λ other. name ≡ other) names
+same_names name names none =
+    each-weaker (λ other is. (bytes_eq-Decides name other).0 (known_by_test (bytes_eq name other) is)) names
+    (each_of_any (λ other. not (bytes_eq name other)) names none)
+
+-- each name is the first one, if it is not different
+each_first : (name : List ℕ) (names : List (List ℕ)) → are_different (name ∷ names) ≡ false → Each (λ other. name ≡ other) (name ∷ names)
+each_first name names none = (refl, same_names name names none)
+
+-- Components that can stand
+
+few_of_test : (rules : List Rule) → are_many rules ≡ false → length rules ≤ 8
+few_of_test rules few = ltb-false 8 (length rules) few
+
+few_rules : (zones : List ZoneTable) (lines : List Line) → has_component_fault zones lines ≡ false → length (rules_of lines) ≤ 8
+few_rules zones lines sound =
+    let names = zone_names zones in
+    let start = stamp_at names (codes "DTSTART") lines in
+    let due = is_bad_end zones start (stamp_at names (codes "DUE") lines) in
+    let end = is_bad_end zones start (stamp_at names (codes "DTEND") lines) in
+    let periods = list_any (is_bad_period zones) (periods_at names (codes "RDATE") lines ++ periods_at names (codes "FREEBUSY") lines) in
+    let many = are_many (rules_of lines) in
+    let twice = has_two_ends lines in
+    let a = (neither (many || twice || end || due || periods) (is_bad_length start (value_at length_of (codes "DURATION") lines)) sound).0 in
+    let b = (neither (many || twice || end || due) periods a).0 in
+    let c = (neither (many || twice || end) due b).0 in
+    let d = (neither (many || twice) end c).0 in
+    few_of_test (rules_of lines) (neither many twice d).0
