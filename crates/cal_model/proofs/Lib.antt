@@ -27,3 +27,4 @@ mod PrivilegeExamples
 mod PrivilegeLaws
 pub mod ReadObjectLaws
 pub mod EachLemmas
+pub mod RuleBounds

@@ -2,9 +2,10 @@
 use Rattle.std.proofs.Common.{◌≡◌, ℕ, zero, suc, ◌+◌, ◌<◌, ◌≤◌, List, [], ◌∷◌, ◌++◌, map, length, arith, refl, ap, sym, ◌∙◌, Bool, true, false, inl, inr, subst, append_assoc, length-append}
 use Rattle.std.proofs.Math.Seq.{get_or-append_seam}
 use Rattle.std.proofs.lemmas.Option.{slice_get-get_or}
-use Rattle.std.specs.Prelude.{nat_lt, ◌||◌, not, bytes_eq, flat_map, option_to_list, unwrap_or, All, Option, Some, None, Result, Ok, Err, is_ok, find, filter, filter_map, option_map, slice_get, codes, if◌then◌else◌}
-use Rattle.std.specs.List.{AllByRecursion as Each, enumerate_from, zip, list_any}
+use Rattle.std.specs.Prelude.{nat_lt, ◌||◌, not, bytes_eq, flat_map, option_to_list, unwrap_or, All, Option, Some, None, is_some, Result, Ok, Err, is_ok, find, filter, filter_map, option_map, slice_get, codes, if◌then◌else◌}
+use Rattle.std.specs.List.{AllByRecursion as Each, cons_option, enumerate_from, zip, list_any}
 use Rattle.std.proofs.lemmas.Bool.{false≢true, ltb-false}
+use Rattle.std.proofs.lemmas.List.Elements.{All-from_recursion}
 use Rattle.std.proofs.lemmas.Slice.Eq.{bytes_eq-Decides}
 use Rattle.std.proofs.lemmas.Option.{none-some}
 use Rattle.std.specs.Result.{result_unwrap_or}
@@ -30,6 +31,10 @@ use Rattle.cal_model.specs.ZoneReading.{zones_of, zone_names, are_many, zone_tab
 use Rattle.cal_model.specs.ValueTexts.{length_of}
 use Rattle.cal_model.specs.Numbers.{is_empty}
 use Rattle.cal_model.specs.Rows.{masters}
+use Rattle.cal_model.specs.RecurrenceSet.{every_moment}
+use Rattle.cal_model.specs.NextPassing.{IsUsable}
+use Rattle.cal_model.specs.RuleTexts.{rule_of}
+use Rattle.cal_model.proofs.RuleBounds.{IsUsable-rule_of}
 use Rattle.cal_model.specs.ComponentLines.{has_name, all_of, is_named, name_of, children_of, kind_named, kind_of, lines_of}
 use Rattle.cal_model.specs.ComponentReading.{end_of_start, extent_without_end, end_stamp, extent_of, component_of}
 use Rattle.cal_model.specs.ReadObjects.{IsChild, stamps_of_extent, stamps_of, IsKnown, IsReadComponent, IsZone, IsReadObject, IsRead}
@@ -340,6 +345,10 @@ each_first name names none = (refl, same_names name names none)
 
 -- Components that can stand
 
+each_any : {X : Type 0} (xs : List X) → Each (λ x. Unit {0}) xs
+each_any [] = tt
+each_any (x ∷ xs) = (tt, each_any xs)
+
 few_of_test : (rules : List Rule) → are_many rules ≡ false → length rules ≤ 8
 few_of_test rules few = ltb-false 8 (length rules) few
 
@@ -357,3 +366,104 @@ few_rules zones lines sound =
     let c = (neither (many || twice || end) due b).0 in
     let d = (neither (many || twice) end c).0 in
     few_of_test (rules_of lines) (neither many twice d).0
+
+usable_rules : (lines : List Line) → All IsUsable (rules_of lines)
+usable_rules lines =
+    All-from_recursion IsUsable (rules_of lines)
+    (each-filter_map (λ line. Unit {0}) IsUsable (λ line. rule_of line.value) (λ line rule fact is. IsUsable-rule_of line.value rule is) (all_of (codes "RRULE") lines) (each_any (all_of (codes "RRULE") lines)))
+
+-- The whole object
+
+some_value : {X : Type 0} (o : Option X) → is_some o ≡ true → (x : X) × (o ≡ Some x)
+some_value None some = absurd (false≢true some)
+some_value (Some x) some = (x, refl)
+
+-- the first component gives the object its kind, and there is one
+first_kind : (o : Option Component) (made : List Component) (component : Component) → o ≡ Some component →
+    unwrap_or (option_map (λ (c : Component). c.kind) (first (cons_option o made))) Event ≡ component.kind
+first_kind o made component is = rw is refl
+
+some_made : (o : Option Component) (made : List Component) (component : Component) → o ≡ Some component → 0 < length (cons_option o made)
+some_made o made component is = rw is (omega arith)
+
+-- what is known of each child of the four kinds, beside the name of the first
+record IsSoundChild (tree : Node) (zones : List ZoneTable) (name : List ℕ) (child : Child) : Type 0 where
+  child_of_tree : IsChildOf (children_of tree) child
+  sound : has_component_fault zones (lines_of child.tree) ≡ false
+  known : lacks_zone (zone_names zones) (lines_of child.tree) ≡ false
+  named : name ≡ name_of child.tree
+
+component_facts : (tree : Node) (zones : List ZoneTable) (name : List ℕ) (kind : Kind) (object : Object) → object.kind ≡ kind → object.tree ≡ tree → object.zones ≡ zones → kind_named name ≡ Some kind →
+    (child : Child) (component : Component) → IsSoundChild tree zones name child → component_of_child (zone_names zones) child ≡ Some component → IsReadComponent object component
+component_facts tree zones name kind object object_kind object_tree object_zones name_kind child component facts made =
+    let source = is_made (zone_names zones) child component made in
+    let kinds : source.kind ≡ kind = ap (λ o. unwrap_or o kind) (sym source.of_kind ∙ sym (ap kind_named facts.named) ∙ name_kind) in
+    let its_kind : component.kind ≡ source.kind = ap (λ (c : Component). c.kind) source.is in
+    record {
+      one_kind = its_kind ∙ kinds ∙ sym object_kind;
+      child = record {
+        node = child.tree;
+        found = rw (object_tree, source.is) facts.child_of_tree;
+        of_kind = source.of_kind ∙ ap Some (sym its_kind);
+      };
+      few_rules = rw source.is (few_rules zones (lines_of child.tree) facts.sound);
+      usable_rules = rw source.is (usable_rules (lines_of child.tree));
+      known_zones = rw (object_zones, source.is) (All-from_recursion (IsKnown zones) (stamps_of (component_of (zone_names zones) child.number source.kind child.tree)) (component_known (zone_names zones) child.number source.kind child.tree facts.known));
+    }
+
+-- the facts of all children together
+sound_children : (tree : Node) (zones : List ZoneTable) (name : List ℕ) (children : List Child) → Each (IsChildOf (children_of tree)) children →
+    Each (λ (child : Child). has_component_fault zones (lines_of child.tree) ≡ false) children →
+    Each (λ (child : Child). lacks_zone (zone_names zones) (lines_of child.tree) ≡ false) children →
+    Each (λ (child : Child). name ≡ name_of child.tree) children → Each (IsSoundChild tree zones name) children
+sound_children tree zones name [] numbers sound known named = tt
+sound_children tree zones name (child ∷ children) numbers sound known named = (
+  record { child_of_tree = numbers.0; sound = sound.0; known = known.0; named = named.0 },
+  sound_children tree zones name children numbers.1 sound.1 known.1 named.1,
+)
+
+-- each table is that of the parts of its VTIMEZONE
+zones_are : (nodes : List Node) → Each IsZone (map (zone_table every_moment) nodes)
+zones_are [] = tt
+zones_are (node ∷ nodes) = (record { parts = parts_of node; table = refl }, zones_are nodes)
+
+-- an object of children that are sound
+whole_object : (tree : Node) (zones : List ZoneTable) (children : List Child) → All IsZone zones → Each (IsChildOf (children_of tree)) children →
+    Each (λ (child : Child). is_some (kind_of child.tree) ≡ true) children →
+    component_fault zones children ≡ None → resource_fault (object_of zones tree children) children ≡ None → IsReadObject (object_of zones tree children)
+whole_object tree zones [] tables numbers kinds sound stored = absurd (false≢true (sym (is_storable (object_of zones tree []) [] stored).some))
+whole_object tree zones (child ∷ children) tables numbers kinds sound stored =
+    let names = zone_names zones in
+    let object = object_of zones tree (child ∷ children) in
+    let rows = is_storable object (child ∷ children) stored in
+    let its_kind = some_value (kind_of child.tree) kinds.0 in
+    let made : component_of_child names child ≡ Some (component_of names child.number its_kind.0 child.tree) =
+        ap (λ (k : Option Kind). option_map (λ kind. component_of names child.number kind child.tree) k) its_kind.1 in
+    let name = name_of child.tree in
+    let named = each_of_map (λ other. name ≡ other) (λ (c : Child). name_of c.tree) (child ∷ children) (each_first name (map (λ (c : Child). name_of c.tree) children) rows.one_kind) in
+    let standing = each_of_find (λ (c : Child). has_component_fault zones (lines_of c.tree)) (child ∷ children)
+        (none_of_map (λ (c : Child). c.place) (find (λ (c : Child). has_component_fault zones (lines_of c.tree)) (child ∷ children)) sound) in
+    let facts = sound_children tree zones name (child ∷ children) numbers standing rows.zones named in
+    let kind = first_kind (component_of_child names child) (filter_map (component_of_child names) children) (component_of names child.number its_kind.0 child.tree) made in
+    record {
+      some = some_made (component_of_child names child) (filter_map (component_of_child names) children) (component_of names child.number its_kind.0 child.tree) made;
+      components = All-from_recursion (IsReadComponent object) object.components
+          (each-filter_map (IsSoundChild tree zones name) (IsReadComponent object) (component_of_child names)
+          (component_facts tree zones name its_kind.0 object kind refl refl its_kind.1) (child ∷ children) facts);
+      zones = tables;
+      one_master = ltb-false 1 (length (masters object)) rows.one_master;
+    }
+
+-- each object that was read has what is promised of it
+pub IsReadObject-read : (object : Object) → IsRead object → IsReadObject object
+IsReadObject-read object read =
+    let found = read_from every_moment read.octets object read.reading in
+    let placed = placed_lines read.octets in
+    let tree = found.0 in
+    let sound = is_sound every_moment placed tree object found.1 in
+    subst IsReadObject (sym found.1.is)
+    (whole_object tree (zones_of every_moment tree) (kinds_among (children_in placed tree))
+    (All-from_recursion IsZone (zones_of every_moment tree) (zones_are (filter is_zone (children_of tree))))
+    (each-filter (IsChildOf (children_of tree)) (λ (child : Child). is_some (kind_of child.tree)) (children_in placed tree) (children_are placed tree))
+    (each_passes (λ (child : Child). is_some (kind_of child.tree)) (children_in placed tree))
+    sound.component sound.resource)
