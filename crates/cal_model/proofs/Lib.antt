@@ -28,3 +28,5 @@ mod PrivilegeLaws
 pub mod ReadObjectLaws
 pub mod EachLemmas
 pub mod RuleBounds
+pub mod OpenComponents
+pub mod PlacedComponents
