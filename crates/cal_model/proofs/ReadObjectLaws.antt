@@ -1,8 +1,9 @@
 -- What holds of each calendar object that was read.
-use Rattle.std.proofs.Common.{◌≡◌, ℕ, zero, suc, ◌+◌, ◌<◌, ◌≤◌, List, [], ◌∷◌, ◌++◌, map, length, arith, refl, ap, sym, ◌∙◌, Bool, true, false, inl, inr, subst, append_assoc, length-append}
+use Rattle.std.proofs.Common.{◌≡◌, ℕ, zero, suc, ◌+◌, ◌<◌, ◌≤◌, List, [], ◌∷◌, ◌++◌, map, length, arith, refl, ap, ap₂, sym, ◌∙◌, Bool, true, false, inl, inr, subst, append_assoc, length-append}
 use Rattle.std.proofs.Math.Seq.{get_or-append_seam}
-use Rattle.std.proofs.lemmas.Option.{slice_get-get_or}
-use Rattle.std.specs.Prelude.{nat_lt, ◌||◌, not, bytes_eq, flat_map, option_to_list, unwrap_or, All, Option, Some, None, is_some, Result, Ok, Err, is_ok, find, filter, filter_map, option_map, slice_get, codes, if◌then◌else◌}
+use Rattle.std.proofs.lemmas.Option.{slice_get-get_or, slice_get_past}
+use Rattle.std.proofs.lemmas.Int.{ints}
+use Rattle.std.specs.Prelude.{ℤ, int_lt, ◌≤ℤ◌, ◌==◌, ◌&&◌, nat_lt, ◌||◌, not, bytes_eq, flat_map, option_to_list, unwrap_or, All, Option, Some, None, is_some, Result, Ok, Err, is_ok, find, filter, filter_map, option_map, slice_get, codes, if◌then◌else◌}
 use Rattle.std.specs.List.{AllByRecursion as Each, cons_option, enumerate_from, zip, list_any}
 use Rattle.std.proofs.lemmas.Bool.{false≢true, ltb-false}
 use Rattle.std.proofs.lemmas.List.Elements.{All-from_recursion}
@@ -11,10 +12,12 @@ use Rattle.std.proofs.lemmas.Option.{none-some}
 use Rattle.std.specs.Result.{result_unwrap_or}
 use Rattle.cal_base.specs.declared.line.Node.{Node}
 use Rattle.cal_base.specs.ContentLines.{Placed, placed_lines, line_fault}
-use Rattle.cal_base.specs.ComponentTrees.{NestingFault, nesting_fault, tree_of, first}
+use Rattle.cal_base.specs.ComponentTrees.{NestingFault, nesting_fault, tree_of, first, or_else, innermost, depth, name_at}
 use Rattle.cal_base.specs.declared.line.Line.{Line}
 use Rattle.cal_moment.specs.declared.stamp.Length.{Length}
+use Rattle.cal_moment.specs.declared.stamp.Period.{Period}
 use Rattle.cal_moment.specs.declared.stamp.Stamp.{Stamp}
+use Rattle.cal_model.specs.declared.object.Class.{Class}
 use Rattle.cal_moment.specs.declared.stamp.Stamp.TheVariants.{Date, Floating, Zoned, Utc}
 use Rattle.cal_model.specs.declared.object.Component.{Component}
 use Rattle.cal_model.specs.declared.object.Extent.{Extent}
@@ -36,10 +39,13 @@ use Rattle.cal_model.specs.NextPassing.{IsUsable}
 use Rattle.cal_model.specs.RuleTexts.{rule_of}
 use Rattle.cal_model.proofs.RuleBounds.{IsUsable-rule_of}
 use Rattle.cal_model.specs.ComponentLines.{has_name, all_of, is_named, name_of, children_of, kind_named, kind_of, lines_of}
-use Rattle.cal_model.specs.ComponentReading.{end_of_start, extent_without_end, end_stamp, extent_of, component_of}
-use Rattle.cal_model.specs.ReadObjects.{IsChild, stamps_of_extent, stamps_of, IsKnown, IsReadComponent, IsZone, IsReadObject, IsRead}
+use Rattle.cal_model.specs.ComponentReading.{class_of, stored_busy_of, end_of_start, extent_without_end, end_stamp, extent_of, component_of}
+use Rattle.cal_model.specs.ReadObjects.{IsChild, stamps_of_extent, stamps_of, IsKnown, IsReadComponent, IsZone, IsReadObject, IsRead, IsServed}
+use Rattle.cal_model.specs.Alignment.{written_value}
+use Rattle.cal_model.specs.Limits.{first_date, last_date}
+use Rattle.cal_model.proofs.PlacedComponents.{LineIn, NodeAt, OuterAt, tree_at}
 use Rattle.cal_model.proofs.EachLemmas.{neither, none_of_map, each_of_find, each_of_any, each-weaker, each-both, each-filter, each_passes, each-map, each_of_map, each-filter_map, each-append, each_of_append, each-flat_map, each_of_flat_map}
-use Rattle.cal_model.specs.ObjectFaults.{Child, child_of, child_places, children_in, zones_among, kinds_among, zone_fault, component_fault, resource_fault, stamp_outside, component_of_child, dated_names, dated_stamps, stamps_of_period, lacks_zone, object_of, has_component_fault, is_bad_end, is_bad_period, is_bad_length, has_two_ends, are_different, resource_faults, some_has}
+use Rattle.cal_model.specs.ObjectFaults.{Child, child_of, child_places, children_in, zones_among, kinds_among, zone_fault, component_fault, resource_fault, component_of_child, dated_names, dated_stamps, stamps_of_period, lacks_zone, stamp_outside, all_stamps, stamps_of_line, is_early, is_late, is_in_kind, is_in_alarm, trigger_stamps, object_of, has_component_fault, is_bad_end, is_bad_period, is_bad_length, has_two_ends, are_different, resource_faults, some_has}
 use Rattle.cal_model.specs.ObjectReading.{Unread, not_calendar, not_resource, date_outside, place_at, line_of_fault, first_there, calendar_faults, object_in, object_faults, read_tree, read_lines_by, read_by, read_object_over}
 
 -- Where a reading is Ok, no fault was there
@@ -59,12 +65,17 @@ after_nesting : {X : Type 0} (placed : List Placed) (fault : Option NestingFault
 after_nesting placed (Some fault) read x good = absurd (false≢true (ap is_ok good))
 after_nesting placed None read x good = good
 
+nesting_none : {X : Type 0} (placed : List Placed) (fault : Option NestingFault) (read : Result X Unread) (x : X) →
+    unless_nested placed fault read ≡ Ok x → fault ≡ None
+nesting_none placed (Some fault) read x good = absurd (false≢true (ap is_ok good))
+nesting_none placed None read x good = refl
+
 abbrev of_tree : {X : Type 0} → (Node → Result X Unread) → Option Node → Result X Unread
 of_tree read tree = elim tree [ None ↦ Err (not_calendar 0) | Some t ↦ read t ]
 
-after_tree : {X : Type 0} (read : Node → Result X Unread) (tree : Option Node) (x : X) → of_tree read tree ≡ Ok x → (t : Node) × (read t ≡ Ok x)
+after_tree : {X : Type 0} (read : Node → Result X Unread) (tree : Option Node) (x : X) → of_tree read tree ≡ Ok x → (t : Node) × (tree ≡ Some t) × (read t ≡ Ok x)
 after_tree read None x good = absurd (false≢true (ap is_ok good))
-after_tree read (Some tree) x good = (tree, good)
+after_tree read (Some tree) x good = (tree, refl, good)
 
 abbrev unless_fault : {X : Type 0} → Option Unread → X → Result X Unread
 unless_fault fault found = elim fault [ Some f ↦ Err f | None ↦ Ok found ]
@@ -75,6 +86,8 @@ after_faults None found x good = (refl, sym (ap (λ r. result_unwrap_or r found)
 
 -- the lines and the tree that an object was read from
 record IsReadFrom (moments : List ℕ) (placed : List Placed) (tree : Node) (object : Object) : Type 0 where
+  nested : nesting_fault (lines_in placed) ≡ None
+  built : tree_of (lines_in placed) ≡ Some tree
   is : object ≡ object_in moments placed tree
   sound : first_there (calendar_faults moments placed tree ++ object_faults placed tree (object_in moments placed tree)) ≡ None
 
@@ -86,8 +99,13 @@ read_from moments octets object good =
     let nested = after_nesting placed (nesting_fault (lines_in placed)) (of_tree (read_tree moments placed) (tree_of (lines_in placed))) object lines in
     let found = after_tree (read_tree moments placed) (tree_of (lines_in placed)) object nested in
     let tree = found.0 in
-    let whole = after_faults (first_there (calendar_faults moments placed tree ++ object_faults placed tree (object_in moments placed tree))) (object_in moments placed tree) object found.1 in
-    (tree, record { is = whole.1; sound = whole.0 })
+    let whole = after_faults (first_there (calendar_faults moments placed tree ++ object_faults placed tree (object_in moments placed tree))) (object_in moments placed tree) object found.2 in
+    (tree, record {
+      nested = nesting_none placed (nesting_fault (lines_in placed)) (of_tree (read_tree moments placed) (tree_of (lines_in placed))) object lines;
+      built = found.1;
+      is = whole.1;
+      sound = whole.0;
+    })
 
 -- Each fault by itself
 
@@ -197,45 +215,54 @@ lines_known zones lines known =
     (each_of_any (λ stamp. not (is_known zones stamp)) (flat_map (dated_stamps zones) lines) known))
 
 -- the dates of a line are its stamps and those of its periods
-dated_step : (zones : List (List ℕ)) (stamps more : List Stamp) (b : Bool) → b ≡ true → Each (IsNamed zones) (if b then stamps ++ more else []) → Each (IsNamed zones) stamps × Each (IsNamed zones) more
-dated_step zones stamps more true is known = each_of_append (IsNamed zones) stamps more known
-dated_step zones stamps more false is known = absurd (false≢true is)
+dated_step : (P : Stamp → Type 0) (zones : List (List ℕ)) (stamps more : List Stamp) (b : Bool) → b ≡ true → Each P (if b then stamps ++ more else []) → Each P stamps × Each P more
+dated_step P zones stamps more true is known = each_of_append P stamps more known
+dated_step P zones stamps more false is known = absurd (false≢true is)
 
 is_dated : (name : List ℕ) (line : Line) → list_any (bytes_eq name) dated_names ≡ true → has_name name line ≡ true → is_one_of dated_names line ≡ true
 is_dated name line dated named = rw ((bytes_eq-Decides line.name name).0 named) dated
 
-of_dated_line : (zones : List (List ℕ)) (name : List ℕ) (line : Line) → list_any (bytes_eq name) dated_names ≡ true → has_name name line ≡ true →
-    Each (IsNamed zones) (dated_stamps zones line) → Each (IsNamed zones) (stamps_in zones line) × Each (IsNamed zones) (flat_map stamps_of_period (periods_in zones line))
-of_dated_line zones name line dated named known =
-    dated_step zones (stamps_in zones line) (flat_map stamps_of_period (periods_in zones line)) (is_one_of dated_names line) (is_dated name line dated named) known
+of_dated_line : (P : Stamp → Type 0) (zones : List (List ℕ)) (name : List ℕ) (line : Line) → list_any (bytes_eq name) dated_names ≡ true → has_name name line ≡ true →
+    Each P (dated_stamps zones line) → Each P (stamps_in zones line) × Each P (flat_map stamps_of_period (periods_in zones line))
+of_dated_line P zones name line dated named known =
+    dated_step P zones (stamps_in zones line) (flat_map stamps_of_period (periods_in zones line)) (is_one_of dated_names line) (is_dated name line dated named) known
 
-named_lines : (zones : List (List ℕ)) (name : List ℕ) (lines : List Line) → Each (λ line. Each (IsNamed zones) (dated_stamps zones line)) lines →
-    Each (λ (line : Line). Each (IsNamed zones) (dated_stamps zones line) × (has_name name line ≡ true)) (all_of name lines)
-named_lines zones name lines known =
-    each-both (λ line. Each (IsNamed zones) (dated_stamps zones line)) (λ line. has_name name line ≡ true) (all_of name lines)
-    (each-filter (λ line. Each (IsNamed zones) (dated_stamps zones line)) (has_name name) lines known)
+named_lines : (P : Stamp → Type 0) (zones : List (List ℕ)) (name : List ℕ) (lines : List Line) → Each (λ line. Each P (dated_stamps zones line)) lines →
+    Each (λ (line : Line). Each P (dated_stamps zones line) × (has_name name line ≡ true)) (all_of name lines)
+named_lines P zones name lines known =
+    each-both (λ line. Each P (dated_stamps zones line)) (λ line. has_name name line ≡ true) (all_of name lines)
+    (each-filter (λ line. Each P (dated_stamps zones line)) (has_name name) lines known)
     (each_passes (has_name name) lines)
 
-stamps_known : (zones : List (List ℕ)) (name : List ℕ) (lines : List Line) → list_any (bytes_eq name) dated_names ≡ true →
-    Each (λ line. Each (IsNamed zones) (dated_stamps zones line)) lines → Each (IsNamed zones) (stamps_at zones name lines)
-stamps_known zones name lines dated known =
-    each-flat_map (IsNamed zones) (stamps_in zones) (all_of name lines)
-    (each-weaker (λ line facts. (of_dated_line zones name line dated facts.1 facts.0).0) (all_of name lines) (named_lines zones name lines known))
+each_stamp_at : (P : Stamp → Type 0) (zones : List (List ℕ)) (name : List ℕ) (lines : List Line) → list_any (bytes_eq name) dated_names ≡ true →
+    Each (λ line. Each P (dated_stamps zones line)) lines → Each P (stamps_at zones name lines)
+each_stamp_at P zones name lines dated known =
+    each-flat_map P (stamps_in zones) (all_of name lines)
+    (each-weaker (λ line facts. (of_dated_line P zones name line dated facts.1 facts.0).0) (all_of name lines) (named_lines P zones name lines known))
 
-periods_known : (zones : List (List ℕ)) (name : List ℕ) (lines : List Line) → list_any (bytes_eq name) dated_names ≡ true →
-    Each (λ line. Each (IsNamed zones) (dated_stamps zones line)) lines → Each (IsNamed zones) (flat_map stamps_of_period (periods_at zones name lines))
-periods_known zones name lines dated known =
-    each-flat_map (IsNamed zones) stamps_of_period (periods_at zones name lines)
-    (each-flat_map (λ period. Each (IsNamed zones) (stamps_of_period period)) (periods_in zones) (all_of name lines)
-    (each-weaker (λ line facts. each_of_flat_map (IsNamed zones) stamps_of_period (periods_in zones line) (of_dated_line zones name line dated facts.1 facts.0).1) (all_of name lines) (named_lines zones name lines known)))
+each_period_at : (P : Stamp → Type 0) (zones : List (List ℕ)) (name : List ℕ) (lines : List Line) → list_any (bytes_eq name) dated_names ≡ true →
+    Each (λ line. Each P (dated_stamps zones line)) lines → Each P (flat_map stamps_of_period (periods_at zones name lines))
+each_period_at P zones name lines dated known =
+    each-flat_map P stamps_of_period (periods_at zones name lines)
+    (each-flat_map (λ period. Each P (stamps_of_period period)) (periods_in zones) (all_of name lines)
+    (each-weaker (λ line facts. each_of_flat_map P stamps_of_period (periods_in zones line) (of_dated_line P zones name line dated facts.1 facts.0).1) (all_of name lines) (named_lines P zones name lines known)))
 
-first_known : (zones : List (List ℕ)) (stamps : List Stamp) → Each (IsNamed zones) stamps → Each (IsNamed zones) (option_to_list (first stamps))
-first_known zones [] known = tt
-first_known zones (stamp ∷ stamps) known = (known.0, tt)
+each_stored : (P : Stamp → Type 0) (zones : List (List ℕ)) (lines : List Line) → Each (λ line. Each P (dated_stamps zones line)) lines →
+    Each P (flat_map (λ (entry : Option Class × Period). stamps_of_period entry.1) (stored_busy_of zones lines))
+each_stored P zones lines known =
+    let all = all_of (codes "FREEBUSY") lines in
+    each-flat_map P (λ (entry : Option Class × Period). stamps_of_period entry.1) (stored_busy_of zones lines)
+    (each-flat_map (λ (entry : Option Class × Period). Each P (stamps_of_period entry.1)) (λ (line : Line). map (λ period. (class_of line, period)) (periods_in zones line)) all
+    (each-weaker (λ line facts. each-map (λ (entry : Option Class × Period). Each P (stamps_of_period entry.1)) (λ period. (class_of line, period)) (periods_in zones line)
+    (each_of_flat_map P stamps_of_period (periods_in zones line) (of_dated_line P zones (codes "FREEBUSY") line refl facts.1 facts.0).1)) all (named_lines P zones (codes "FREEBUSY") lines known)))
 
-stamp_known : (zones : List (List ℕ)) (name : List ℕ) (lines : List Line) → list_any (bytes_eq name) dated_names ≡ true →
-    Each (λ line. Each (IsNamed zones) (dated_stamps zones line)) lines → Each (IsNamed zones) (option_to_list (stamp_at zones name lines))
-stamp_known zones name lines dated known = first_known zones (stamps_at zones name lines) (stamps_known zones name lines dated known)
+each_first_one : (P : Stamp → Type 0) (zones : List (List ℕ)) (stamps : List Stamp) → Each P stamps → Each P (option_to_list (first stamps))
+each_first_one P zones [] known = tt
+each_first_one P zones (stamp ∷ stamps) known = (known.0, tt)
+
+each_one_at : (P : Stamp → Type 0) (zones : List (List ℕ)) (name : List ℕ) (lines : List Line) → list_any (bytes_eq name) dated_names ≡ true →
+    Each (λ line. Each P (dated_stamps zones line)) lines → Each P (option_to_list (stamp_at zones name lines))
+each_one_at P zones name lines dated known = each_first_one P zones (stamps_at zones name lines) (each_stamp_at P zones name lines dated known)
 
 -- an extent that no end gives has no stamp
 end_of_start-stamps : (kind : Kind) (start : Stamp) → stamps_of_extent (end_of_start kind start) ≡ []
@@ -255,57 +282,116 @@ extent_without_end-stamps kind None length = refl
 extent_without_end-stamps kind (Some start) (Some length) = refl
 extent_without_end-stamps kind (Some start) None = end_of_start-stamps kind start
 
-due_known : (zones : List (List ℕ)) (end : Option Stamp) (other : Extent) → stamps_of_extent other ≡ [] → Each (IsNamed zones) (option_to_list end) →
-    Each (IsNamed zones) (stamps_of_extent (unwrap_or (option_map extent.Due end) other))
-due_known zones None other none known = rw none tt
-due_known zones (Some end) other none known = known
+each_due : (P : Stamp → Type 0) (zones : List (List ℕ)) (end : Option Stamp) (other : Extent) → stamps_of_extent other ≡ [] → Each P (option_to_list end) →
+    Each P (stamps_of_extent (unwrap_or (option_map extent.Due end) other))
+each_due P zones None other none known = rw none tt
+each_due P zones (Some end) other none known = known
 
-end_known : (zones : List (List ℕ)) (end : Option Stamp) (other : Extent) → stamps_of_extent other ≡ [] → Each (IsNamed zones) (option_to_list end) →
-    Each (IsNamed zones) (stamps_of_extent (unwrap_or (option_map extent.End end) other))
-end_known zones None other none known = rw none tt
-end_known zones (Some end) other none known = known
+each_end : (P : Stamp → Type 0) (zones : List (List ℕ)) (end : Option Stamp) (other : Extent) → stamps_of_extent other ≡ [] → Each P (option_to_list end) →
+    Each P (stamps_of_extent (unwrap_or (option_map extent.End end) other))
+each_end P zones None other none known = rw none tt
+each_end P zones (Some end) other none known = known
 
-extent_known : (zones : List (List ℕ)) (kind : Kind) (lines : List Line) → Each (λ line. Each (IsNamed zones) (dated_stamps zones line)) lines →
-    Each (IsNamed zones) (stamps_of_extent (extent_of zones kind lines))
-extent_known zones Todo lines known =
+each_extent : (P : Stamp → Type 0) (zones : List (List ℕ)) (kind : Kind) (lines : List Line) → Each (λ line. Each P (dated_stamps zones line)) lines →
+    Each P (stamps_of_extent (extent_of zones kind lines))
+each_extent P zones Todo lines known =
     let start = stamp_at zones (codes "DTSTART") lines in
     let length = value_at length_of (codes "DURATION") lines in
-    due_known zones (stamp_at zones (codes "DUE") lines) (extent_without_end Todo start length) (extent_without_end-stamps Todo start length) (stamp_known zones (codes "DUE") lines refl known)
-extent_known zones Event lines known =
+    each_due P zones (stamp_at zones (codes "DUE") lines) (extent_without_end Todo start length) (extent_without_end-stamps Todo start length) (each_one_at P zones (codes "DUE") lines refl known)
+each_extent P zones Event lines known =
     let start = stamp_at zones (codes "DTSTART") lines in
     let length = value_at length_of (codes "DURATION") lines in
-    end_known zones (stamp_at zones (codes "DTEND") lines) (extent_without_end Event start length) (extent_without_end-stamps Event start length) (stamp_known zones (codes "DTEND") lines refl known)
-extent_known zones Journal lines known =
+    each_end P zones (stamp_at zones (codes "DTEND") lines) (extent_without_end Event start length) (extent_without_end-stamps Event start length) (each_one_at P zones (codes "DTEND") lines refl known)
+each_extent P zones Journal lines known =
     let start = stamp_at zones (codes "DTSTART") lines in
     let length = value_at length_of (codes "DURATION") lines in
-    end_known zones (stamp_at zones (codes "DTEND") lines) (extent_without_end Journal start length) (extent_without_end-stamps Journal start length) (stamp_known zones (codes "DTEND") lines refl known)
-extent_known zones FreeBusy lines known =
+    each_end P zones (stamp_at zones (codes "DTEND") lines) (extent_without_end Journal start length) (extent_without_end-stamps Journal start length) (each_one_at P zones (codes "DTEND") lines refl known)
+each_extent P zones FreeBusy lines known =
     let start = stamp_at zones (codes "DTSTART") lines in
     let length = value_at length_of (codes "DURATION") lines in
-    end_known zones (stamp_at zones (codes "DTEND") lines) (extent_without_end FreeBusy start length) (extent_without_end-stamps FreeBusy start length) (stamp_known zones (codes "DTEND") lines refl known)
+    each_end P zones (stamp_at zones (codes "DTEND") lines) (extent_without_end FreeBusy start length) (extent_without_end-stamps FreeBusy start length) (each_one_at P zones (codes "DTEND") lines refl known)
 
--- all stamps of a component are in zones that are there
-component_known : (zones : List (List ℕ)) (number : ℕ) (kind : Kind) (node : Node) → lacks_zone zones (lines_of node) ≡ false →
-    Each (IsNamed zones) (stamps_of (component_of zones number kind node))
-component_known zones number kind node there =
+-- what holds of the dates of its lines holds of all stamps of a component
+each_stamp : (P : Stamp → Type 0) (zones : List (List ℕ)) (number : ℕ) (kind : Kind) (node : Node) → Each (λ line. Each P (dated_stamps zones line)) (lines_of node) →
+    Each P (stamps_of (component_of zones number kind node))
+each_stamp P zones number kind node known =
     let lines = lines_of node in
-    let known = lines_known zones lines there in
     let made = component_of zones number kind node in
     let start = option_to_list made.start in
     let end = stamps_of_extent made.extent in
     let id = option_to_list made.recurrence_id in
     let periods = flat_map stamps_of_period made.periods in
-    each-append (IsNamed zones) (start ++ end ++ id ++ made.dates ++ periods) made.except
-    (each-append (IsNamed zones) (start ++ end ++ id ++ made.dates) periods
-    (each-append (IsNamed zones) (start ++ end ++ id) made.dates
-    (each-append (IsNamed zones) (start ++ end) id
-    (each-append (IsNamed zones) start end
-    (stamp_known zones (codes "DTSTART") lines refl known)
-    (extent_known zones kind lines known))
-    (stamp_known zones (codes "RECURRENCE-ID") lines refl known))
-    (stamps_known zones (codes "RDATE") lines refl known))
-    (periods_known zones (codes "RDATE") lines refl known))
-    (stamps_known zones (codes "EXDATE") lines refl known)
+    each-append P (start ++ end ++ id ++ made.dates ++ periods ++ made.except) (flat_map (λ (entry : Option Class × Period). stamps_of_period entry.1) made.stored_busy)
+    (each-append P (start ++ end ++ id ++ made.dates ++ periods) made.except
+    (each-append P (start ++ end ++ id ++ made.dates) periods
+    (each-append P (start ++ end ++ id) made.dates
+    (each-append P (start ++ end) id
+    (each-append P start end
+    (each_one_at P zones (codes "DTSTART") lines refl known)
+    (each_extent P zones kind lines known))
+    (each_one_at P zones (codes "RECURRENCE-ID") lines refl known))
+    (each_stamp_at P zones (codes "RDATE") lines refl known))
+    (each_period_at P zones (codes "RDATE") lines refl known))
+    (each_stamp_at P zones (codes "EXDATE") lines refl known))
+    (each_stored P zones lines known)
+
+-- Dates that are served
+
+not_before : (a b : ℤ) → int_lt a b ≡ false → b ≤ℤ a
+not_before a b not_so = grind (arith, ints)
+
+served_by_tests : (stamp : Stamp) → is_early stamp ≡ false → is_late stamp ≡ false → IsServed stamp
+served_by_tests stamp early late = record { from_first = not_before (written_value stamp) first_date early; to_last = not_before last_date (written_value stamp) late }
+
+neither_found : {X : Type 0} (first second : Option X) → or_else first second ≡ None → (first ≡ None) × (second ≡ None)
+neither_found None second none = (refl, none)
+neither_found (Some x) second none = absurd (none-some x (sym none))
+
+all_served : (zones : List (List ℕ)) (lines : List Line) → stamp_outside zones lines ≡ None → Each IsServed (all_stamps zones lines)
+all_served zones lines none =
+    let both = neither_found (find is_early (all_stamps zones lines)) (find is_late (all_stamps zones lines)) none in
+    each-weaker (λ stamp facts. served_by_tests stamp facts.0 facts.1) (all_stamps zones lines)
+    (each-both (λ stamp. is_early stamp ≡ false) (λ stamp. is_late stamp ≡ false) (all_stamps zones lines)
+    (each_of_find is_early (all_stamps zones lines) both.0) (each_of_find is_late (all_stamps zones lines) both.1))
+
+-- what holds of each element with its number
+each_numbered : {X : Type 0} (P : ℕ × X → Type 0) (from : ℕ) (xs : List X) (k : ℕ) (x : X) (number : ℕ) → number ≡ from + k →
+    Each P (enumerate_from from xs) → slice_get xs k ≡ Some x → P (number, x)
+each_numbered P from [] k x number count facts is = absurd (none-some x (sym (slice_get_past [] k (omega arith)) ∙ is))
+each_numbered P from (y ∷ xs) zero x number count facts is =
+    subst P (ap₂ (λ n z. (n, z)) {x = from} {y = number} {u = y} {v = x} (omega arith) (ap (λ found. unwrap_or found x) is)) facts.0
+each_numbered P from (y ∷ xs) (suc k) x number count facts is = each_numbered P (from + 1) xs k x number (omega arith) facts.1 is
+
+each_at : {X : Type 0} (P : X → Type 0) (xs : List X) (k : ℕ) (x : X) → Each P xs → slice_get xs k ≡ Some x → P x
+each_at P [] k x facts is = absurd (none-some x (sym (slice_get_past [] k (omega arith)) ∙ is))
+each_at P (y ∷ xs) zero x facts is = subst P (ap (λ found. unwrap_or found x) is) facts.0
+each_at P (y ∷ xs) (suc k) x facts is = each_at P xs k x facts.1 is
+
+then_part : (P : Stamp → Type 0) (xs ys : List Stamp) (b : Bool) → b ≡ true → Each P (if b then xs else ys) → Each P xs
+then_part P xs ys true is facts = facts
+then_part P xs ys false is facts = absurd (false≢true is)
+
+-- a line in a component of the four kinds that stands in the outermost one
+in_kind : (lines : List Line) (begin number : ℕ) (name : List ℕ) (kind : Kind) → innermost lines number ≡ Some begin → depth lines begin ≡ 1 →
+    name_at lines (Some begin) ≡ name → kind_named name ≡ Some kind → is_in_kind lines number ≡ true
+in_kind lines begin number name kind inside deep named of_kind =
+    ap (λ found. elim found [ None ↦ false | Some b ↦ (depth lines b == 1) && is_some (kind_named (name_at lines (Some b))) ]) inside
+    ∙ (ap (λ n. (n == 1) && is_some (kind_named (name_at lines (Some begin)))) deep
+    ∙ (ap (λ n. is_some (kind_named n)) named ∙ ap is_some of_kind))
+
+line_served : (zones : List (List ℕ)) (lines : List Line) (begin : ℕ) (name : List ℕ) (kind : Kind) (line : Line) → stamp_outside zones lines ≡ None → depth lines begin ≡ 1 →
+    name_at lines (Some begin) ≡ name → kind_named name ≡ Some kind → LineIn lines begin line → Each IsServed (dated_stamps zones line)
+line_served zones lines begin name kind line none deep named of_kind at =
+    then_part IsServed (dated_stamps zones line) (if is_in_alarm lines at.0 then trigger_stamps line else []) (is_in_kind lines at.0) (in_kind lines begin at.0 name kind at.2 deep named of_kind)
+    (each_numbered (λ found. Each IsServed (stamps_of_line zones lines found)) 0 lines at.0 line at.0 (omega arith)
+    (each_of_flat_map IsServed (stamps_of_line zones lines) (enumerate_from 0 lines) (all_served zones lines none)) at.1)
+
+-- all dates of a child of the four kinds
+child_served : (zones : List (List ℕ)) (lines : List Line) (tree : Node) (child : Child) (kind : Kind) → stamp_outside zones lines ≡ None → OuterAt lines tree →
+    IsChildOf (children_of tree) child → kind_of child.tree ≡ Some kind → Each (λ line. Each IsServed (dated_stamps zones line)) (lines_of child.tree)
+child_served zones lines tree child kind none outer is_child of_kind =
+    let at = each_at (λ node. (b : ℕ) × (depth lines b ≡ suc (depth lines outer.0)) × (innermost lines b ≡ Some outer.0) × NodeAt 1 lines b node) (children_of tree) child.number child.tree (outer.2 2).2 is_child in
+    each-weaker (λ line place. line_served zones lines at.0 (name_of child.tree) kind line none (at.1 ∙ ap suc outer.1) at.3.0 of_kind place) (lines_of child.tree) at.3.1
 
 -- Rows of the table that do not hold
 
@@ -392,6 +478,7 @@ record IsSoundChild (tree : Node) (zones : List ZoneTable) (name : List ℕ) (ch
   sound : has_component_fault zones (lines_of child.tree) ≡ false
   known : lacks_zone (zone_names zones) (lines_of child.tree) ≡ false
   named : name ≡ name_of child.tree
+  served : (kind : Kind) → kind_of child.tree ≡ Some kind → Each (λ line. Each IsServed (dated_stamps (zone_names zones) line)) (lines_of child.tree)
 
 component_facts : (tree : Node) (zones : List ZoneTable) (name : List ℕ) (kind : Kind) (object : Object) → object.kind ≡ kind → object.tree ≡ tree → object.zones ≡ zones → kind_named name ≡ Some kind →
     (child : Child) (component : Component) → IsSoundChild tree zones name child → component_of_child (zone_names zones) child ≡ Some component → IsReadComponent object component
@@ -408,18 +495,21 @@ component_facts tree zones name kind object object_kind object_tree object_zones
       };
       few_rules = rw source.is (few_rules zones (lines_of child.tree) facts.sound);
       usable_rules = rw source.is (usable_rules (lines_of child.tree));
-      known_zones = rw (object_zones, source.is) (All-from_recursion (IsKnown zones) (stamps_of (component_of (zone_names zones) child.number source.kind child.tree)) (component_known (zone_names zones) child.number source.kind child.tree facts.known));
+      known_zones = rw (object_zones, source.is) (All-from_recursion (IsKnown zones) (stamps_of (component_of (zone_names zones) child.number source.kind child.tree)) (each_stamp (IsNamed (zone_names zones)) (zone_names zones) child.number source.kind child.tree (lines_known (zone_names zones) (lines_of child.tree) facts.known)));
+      served = rw source.is (All-from_recursion IsServed (stamps_of (component_of (zone_names zones) child.number source.kind child.tree)) (each_stamp IsServed (zone_names zones) child.number source.kind child.tree (facts.served source.kind source.of_kind)));
     }
 
 -- the facts of all children together
 sound_children : (tree : Node) (zones : List ZoneTable) (name : List ℕ) (children : List Child) → Each (IsChildOf (children_of tree)) children →
     Each (λ (child : Child). has_component_fault zones (lines_of child.tree) ≡ false) children →
     Each (λ (child : Child). lacks_zone (zone_names zones) (lines_of child.tree) ≡ false) children →
-    Each (λ (child : Child). name ≡ name_of child.tree) children → Each (IsSoundChild tree zones name) children
-sound_children tree zones name [] numbers sound known named = tt
-sound_children tree zones name (child ∷ children) numbers sound known named = (
-  record { child_of_tree = numbers.0; sound = sound.0; known = known.0; named = named.0 },
-  sound_children tree zones name children numbers.1 sound.1 known.1 named.1,
+    Each (λ (child : Child). name ≡ name_of child.tree) children →
+    ((child : Child) (kind : Kind) → IsChildOf (children_of tree) child → kind_of child.tree ≡ Some kind → Each (λ line. Each IsServed (dated_stamps (zone_names zones) line)) (lines_of child.tree)) →
+    Each (IsSoundChild tree zones name) children
+sound_children tree zones name [] numbers sound known named served = tt
+sound_children tree zones name (child ∷ children) numbers sound known named served = (
+  record { child_of_tree = numbers.0; sound = sound.0; known = known.0; named = named.0; served = λ kind of_kind. served child kind numbers.0 of_kind },
+  sound_children tree zones name children numbers.1 sound.1 known.1 named.1 served,
 )
 
 -- each table is that of the parts of its VTIMEZONE
@@ -430,9 +520,11 @@ zones_are (node ∷ nodes) = (record { parts = parts_of node; table = refl }, zo
 -- an object of children that are sound
 whole_object : (tree : Node) (zones : List ZoneTable) (children : List Child) → All IsZone zones → Each (IsChildOf (children_of tree)) children →
     Each (λ (child : Child). is_some (kind_of child.tree) ≡ true) children →
-    component_fault zones children ≡ None → resource_fault (object_of zones tree children) children ≡ None → IsReadObject (object_of zones tree children)
-whole_object tree zones [] tables numbers kinds sound stored = absurd (false≢true (sym (is_storable (object_of zones tree []) [] stored).some))
-whole_object tree zones (child ∷ children) tables numbers kinds sound stored =
+    component_fault zones children ≡ None → resource_fault (object_of zones tree children) children ≡ None →
+    ((child : Child) (kind : Kind) → IsChildOf (children_of tree) child → kind_of child.tree ≡ Some kind → Each (λ line. Each IsServed (dated_stamps (zone_names zones) line)) (lines_of child.tree)) →
+    IsReadObject (object_of zones tree children)
+whole_object tree zones [] tables numbers kinds sound stored served = absurd (false≢true (sym (is_storable (object_of zones tree []) [] stored).some))
+whole_object tree zones (child ∷ children) tables numbers kinds sound stored served =
     let names = zone_names zones in
     let object = object_of zones tree (child ∷ children) in
     let rows = is_storable object (child ∷ children) stored in
@@ -443,7 +535,7 @@ whole_object tree zones (child ∷ children) tables numbers kinds sound stored =
     let named = each_of_map (λ other. name ≡ other) (λ (c : Child). name_of c.tree) (child ∷ children) (each_first name (map (λ (c : Child). name_of c.tree) children) rows.one_kind) in
     let standing = each_of_find (λ (c : Child). has_component_fault zones (lines_of c.tree)) (child ∷ children)
         (none_of_map (λ (c : Child). c.place) (find (λ (c : Child). has_component_fault zones (lines_of c.tree)) (child ∷ children)) sound) in
-    let facts = sound_children tree zones name (child ∷ children) numbers standing rows.zones named in
+    let facts = sound_children tree zones name (child ∷ children) numbers standing rows.zones named served in
     let kind = first_kind (component_of_child names child) (filter_map (component_of_child names) children) (component_of names child.number its_kind.0 child.tree) made in
     record {
       some = some_made (component_of_child names child) (filter_map (component_of_child names) children) (component_of names child.number its_kind.0 child.tree) made;
@@ -466,4 +558,5 @@ IsReadObject-read object read =
     (All-from_recursion IsZone (zones_of every_moment tree) (zones_are (filter is_zone (children_of tree))))
     (each-filter (IsChildOf (children_of tree)) (λ (child : Child). is_some (kind_of child.tree)) (children_in placed tree) (children_are placed tree))
     (each_passes (λ (child : Child). is_some (kind_of child.tree)) (children_in placed tree))
-    sound.component sound.resource)
+    sound.component sound.resource
+    (λ child kind is_child of_kind. child_served (zone_names (zones_of every_moment tree)) (lines_in placed) tree child kind sound.outside (tree_at (lines_in placed) tree found.1.nested found.1.built) is_child of_kind))

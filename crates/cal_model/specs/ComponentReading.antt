@@ -73,8 +73,9 @@ abbrev pub class_of : Line → Option Class
 class_of line = unwrap_or (option_and_then (word_of busy_words) (param_value (codes "FBTYPE") line)) (Some Busy)
 
 -- the periods of FREEBUSY, which are in UTC, each with its class
-abbrev pub stored_busy_of : List Line → List (Option Class × Period)
-stored_busy_of lines = flat_map (λ (line : Line). map (λ period. (class_of line, period)) (periods_in [] line)) (all_of (codes "FREEBUSY") lines)
+abbrev pub stored_busy_of : List (List ℕ) → List Line → List (Option Class × Period)
+stored_busy_of zones lines =
+    flat_map (λ (line : Line). map (λ period. (class_of line, period)) (periods_in zones line)) (all_of (codes "FREEBUSY") lines)
 
 -- Alarms
 
@@ -114,6 +115,6 @@ component_of zones number kind node =
       completed = value_at moment_of (codes "COMPLETED") lines;
       created = value_at moment_of (codes "CREATED") lines;
       busy = busy_of kind lines;
-      stored_busy = stored_busy_of lines;
+      stored_busy = stored_busy_of zones lines;
       alarms = filter_map alarm_of (filter is_alarm (children_of node));
     }

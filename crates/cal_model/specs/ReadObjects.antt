@@ -1,7 +1,9 @@
 -- What holds of each calendar object that was read, and what the crates above rest on. How an object is read stands in `ObjectReading`.
-use Rattle.std.specs.Prelude.{◌≡◌, ℕ, ◌<◌, ◌≤◌, Bool, true, List, [], ◌∷◌, ◌++◌, flat_map, length, option_to_list, slice_get, Option, Some, Ok, All}
+use Rattle.std.specs.Prelude.{◌≡◌, ℕ, ◌<◌, ◌≤◌, Bool, true, List, [], ◌∷◌, ◌++◌, flat_map, length, option_to_list, slice_get, Option, Some, Ok, All, ◌≤ℤ◌}
 use Rattle.cal_base.specs.declared.line.Node.{Node}
 use Rattle.cal_moment.specs.declared.stamp.Stamp.{Stamp}
+use Rattle.cal_moment.specs.declared.stamp.Period.{Period}
+use Rattle.cal_model.specs.declared.object.Class.{Class}
 use Rattle.cal_model.specs.declared.object.Component.{Component}
 use Rattle.cal_model.specs.declared.object.Extent.{Extent}
 use Rattle.cal_model.specs.declared.object.Extent.TheVariants as extent
@@ -9,6 +11,8 @@ use Rattle.cal_model.specs.declared.object.Object.{Object}
 use Rattle.cal_model.specs.declared.rule.Rule.{Rule}
 use Rattle.cal_model.specs.declared.zone.ZonePart.{ZonePart}
 use Rattle.cal_model.specs.declared.zone.ZoneTable.{ZoneTable}
+use Rattle.cal_model.specs.Limits.{first_date, last_date}
+use Rattle.cal_model.specs.Alignment.{written_value}
 use Rattle.cal_model.specs.NextPassing.{IsUsable}
 use Rattle.cal_model.specs.StampTexts.{is_known}
 use Rattle.cal_model.specs.ZoneOnsets.{table_of}
@@ -29,7 +33,7 @@ pub record IsChild (tree : Node) (component : Component) : Type 0 where
   pub found : slice_get (children_of tree) component.child ≡ Some node
   pub of_kind : kind_of node ≡ Some component.kind
 
--- the stamps of a component, those of FREEBUSY aside, which are all in UTC
+-- the stamps of a component: those of its dates, of its end and of its periods
 abbrev pub stamps_of_extent : Extent → List Stamp
 stamps_of_extent (extent.End end) = end ∷ []
 stamps_of_extent (extent.Due end) = end ∷ []
@@ -39,10 +43,16 @@ abbrev pub stamps_of : Component → List Stamp
 stamps_of component =
     option_to_list component.start ++ stamps_of_extent component.extent ++ option_to_list component.recurrence_id
     ++ component.dates ++ flat_map stamps_of_period component.periods ++ component.except
+    ++ flat_map (λ (entry : Option Class × Period). stamps_of_period entry.1) component.stored_busy
 
 -- a stamp in a zone names one of these
 abbrev pub IsKnown : List ZoneTable → Stamp → Type 0
 IsKnown zones stamp = is_known (zone_names zones) stamp ≡ true
+
+-- a stamp, as it is written, is a date that is served
+pub record IsServed (stamp : Stamp) : Type 0 where
+  pub from_first : first_date ≤ℤ written_value stamp
+  pub to_last : written_value stamp ≤ℤ last_date
 
 -- what holds of each component of an object
 pub record IsReadComponent (object : Object) (component : Component) : Type 0 where
@@ -51,6 +61,7 @@ pub record IsReadComponent (object : Object) (component : Component) : Type 0 wh
   pub few_rules : length component.rules ≤ 8
   pub usable_rules : All IsUsable component.rules
   pub known_zones : All (IsKnown object.zones) (stamps_of component)
+  pub served : All IsServed (stamps_of component)
 
 -- a table is that of some parts, and so has all that such tables have
 pub record IsZone (zone : ZoneTable) : Type 0 where
