@@ -1,7 +1,7 @@
 -- What holds of each element of a list, through finds, filters and maps.
-use Rattle.std.proofs.Common.{◌≡◌, List, [], ◌∷◌, ◌++◌, map, refl, sym, Bool, true, false, ap}
+use Rattle.std.proofs.Common.{◌≡◌, List, [], ◌∷◌, ◌++◌, map, refl, sym, Bool, true, false}
 use Rattle.std.specs.Prelude.{Option, Some, None, find, filter, filter_map, flat_map, ◌||◌, ◌&&◌, option_map, if◌then◌else◌}
-use Rattle.std.specs.List.{list_any, list_all, AllByRecursion as Each, cons_option, position_or_len}
+use Rattle.std.specs.List.{list_any, AllByRecursion as Each, cons_option}
 use Rattle.std.proofs.lemmas.Bool.{false≢true}
 use Rattle.std.proofs.lemmas.Option.{none-some}
 

@@ -28,7 +28,7 @@ use Rattle.cal_model.specs.Zones.{offset_at, exists_in, instant_of}
 use Rattle.cal_model.specs.ValueTexts.{date_of, time_of, date_time_of, count_of, integer_of, length_of, offset_of}
 use Rattle.cal_model.specs.StampTexts.{stamps_in_grammar, periods_in_grammar, trigger_of}
 use Rattle.cal_model.specs.RuleTexts.{rule_in_grammar, every_time}
-use Rattle.cal_model.specs.ObjectReading.{Unread, not_calendar, not_resource, date_outside, read_object, read_object_over, read_zone, read_zone_over}
+use Rattle.cal_model.specs.ObjectReading.{Unread, not_calendar, not_resource, read_object, read_object_over, read_zone, read_zone_over}
 use Rattle.cal_model.proofs.ZoneExamples.{onset}
 use Rattle.cal_model.proofs.Samples.{stand_up_octets, nine, ten}
 
@@ -146,20 +146,20 @@ free_busy = refl
 
 -- what makes a VEVENT free or tentative; of several lines the first counts
 busy_words : option_map (map (λ (c : Component). c.busy)) (components_in (
-  codes "BEGIN:VEVENT\nUID:one\nSTATUS:tentative\nSTATUS:CANCELLED\nEND:VEVENT\nBEGIN:VEVENT\nUID:one\nRECURRENCE-ID:20250310T090000Z\nSTATUS:CANCELLED\nEND:VEVENT\n"
-  ++ codes "BEGIN:VEVENT\nUID:one\nRECURRENCE-ID:20250311T090000Z\nSTATUS:TENTATIVE\nTRANSP:transparent\nEND:VEVENT\nBEGIN:VEVENT\nUID:one\nRECURRENCE-ID:20250312T090000Z\nSTATUS:CONFIRMED\nTRANSP:OPAQUE\nEND:VEVENT\n"
-)) ≡ Some (Some Tentative ∷ None ∷ None ∷ Some Busy ∷ [])
+    codes "BEGIN:VEVENT\nUID:one\nSTATUS:tentative\nSTATUS:CANCELLED\nEND:VEVENT\nBEGIN:VEVENT\nUID:one\nRECURRENCE-ID:20250310T090000Z\nSTATUS:CANCELLED\nEND:VEVENT\n"
+    ++ codes "BEGIN:VEVENT\nUID:one\nRECURRENCE-ID:20250311T090000Z\nSTATUS:TENTATIVE\nTRANSP:transparent\nEND:VEVENT\nBEGIN:VEVENT\nUID:one\nRECURRENCE-ID:20250312T090000Z\nSTATUS:CONFIRMED\nTRANSP:OPAQUE\nEND:VEVENT\n"
+    )) ≡ Some (Some Tentative ∷ None ∷ None ∷ Some Busy ∷ [])
 unfolding is_utf8 chars encode date_of time_of date_time_of count_of integer_of length_of offset_of stamps_in_grammar periods_in_grammar trigger_of rule_in_grammar N.out-Node N.roll-Node B.shown-the_row-Node-0 B.hidden-the_row-Node-0 B.shape-the_row-Node-0 H.out H.roll H.shown H.hidden
 busy_words = refl
 
 -- alarms: one by a length from the end with two repeats, one by a moment, and one without TRIGGER, which is left out
 alarms : option_map (map (λ (c : Component). c.alarms)) (components_in (
-  codes "BEGIN:VEVENT\nUID:one\nBEGIN:VALARM\nTRIGGER;RELATED=END:-PT15M\nREPEAT:2\nDURATION:PT5M\nEND:VALARM\nBEGIN:VALARM\nACTION:AUDIO\nREPEAT:1\nEND:VALARM\nBEGIN:VALARM\nTRIGGER;VALUE=DATE-TIME:20250310T090000\nEND:VALARM\nEND:VEVENT\n"
-)) ≡ Some ((
+    codes "BEGIN:VEVENT\nUID:one\nBEGIN:VALARM\nTRIGGER;RELATED=END:-PT15M\nREPEAT:2\nDURATION:PT5M\nEND:VALARM\nBEGIN:VALARM\nACTION:AUDIO\nREPEAT:1\nEND:VALARM\nBEGIN:VALARM\nTRIGGER;VALUE=DATE-TIME:20250310T090000\nEND:VALARM\nEND:VEVENT\n"
+    )) ≡ Some ((
     record { trigger = From End (record { days = pos 0; seconds = neg_ℤ (pos 900) }); repeat = 2; gap = record { days = pos 0; seconds = pos 300 } }
     ∷ record { trigger = AtMoment (record { 0 = pos nine }); repeat = 0; gap = record { days = pos 0; seconds = pos 0 } }
     ∷ []
-) ∷ [])
+    ) ∷ [])
 unfolding is_utf8 chars encode date_of time_of date_time_of count_of integer_of length_of offset_of stamps_in_grammar periods_in_grammar trigger_of rule_in_grammar N.out-Node N.roll-Node B.shown-the_row-Node-0 B.hidden-the_row-Node-0 B.shape-the_row-Node-0 H.out H.roll H.shown H.hidden
 alarms = refl
 
@@ -224,8 +224,8 @@ abbrev changes : List ℕ
 changes = moment_of_date 2024 3 10 2 0 0 ∷ moment_of_date 2024 11 3 2 0 0 ∷ moment_of_date 2025 3 9 2 0 0 ∷ moment_of_date 2025 11 2 2 0 0 ∷ []
 
 new_york : option_map (λ (z : ZoneTable). z.onsets) (elim (read_zone_over changes (calendar new_york_text)) [ Ok zone ↦ Some zone | Err fault ↦ None ]) ≡ Some (
-  onset (neg_ℤ (pos 11644452000)) (neg_ℤ (pos 18000)) ∷ onset (neg_ℤ (pos 11644448400)) (neg_ℤ (pos 14400))
-  ∷ onset (pos 1710054000) (neg_ℤ (pos 14400)) ∷ onset (pos 1730613600) (neg_ℤ (pos 18000)) ∷ onset (pos 1741503600) (neg_ℤ (pos 14400)) ∷ onset (pos 1762063200) (neg_ℤ (pos 18000)) ∷ []
-)
+    onset (neg_ℤ (pos 11644452000)) (neg_ℤ (pos 18000)) ∷ onset (neg_ℤ (pos 11644448400)) (neg_ℤ (pos 14400))
+    ∷ onset (pos 1710054000) (neg_ℤ (pos 14400)) ∷ onset (pos 1730613600) (neg_ℤ (pos 18000)) ∷ onset (pos 1741503600) (neg_ℤ (pos 14400)) ∷ onset (pos 1762063200) (neg_ℤ (pos 18000)) ∷ []
+    )
 unfolding is_utf8 chars encode date_of time_of date_time_of count_of integer_of length_of offset_of stamps_in_grammar periods_in_grammar trigger_of rule_in_grammar year_of month_of day_of_month day_passes time_passes counted_from offset_at exists_in instant_of N.out-Node N.roll-Node B.shown-the_row-Node-0 B.hidden-the_row-Node-0 B.shape-the_row-Node-0 H.out H.roll H.shown H.hidden
 new_york = refl

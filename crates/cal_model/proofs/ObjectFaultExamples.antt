@@ -1,5 +1,5 @@
 -- Examples of texts that are no calendar object, each with its first fault. A place is the offset of a line, or of the BEGIN of a component.
-use Rattle.std.specs.Prelude.{◌≡◌, refl, ℕ, List, [], ◌∷◌, ◌++◌, map, Option, Some, None, Result, Ok, Err, codes, pos, neg_ℤ}
+use Rattle.std.specs.Prelude.{◌≡◌, refl, ℕ, List, [], ◌∷◌, ◌++◌, map, Option, Some, None, Ok, Err, codes, pos, neg_ℤ}
 use Rattle.std.specs.Str.{is_utf8, chars}
 use lib.Utf8.{encode}
 use Rattle.cal_base.specs.declared.line.Node as N
@@ -36,7 +36,7 @@ lines_and_nesting : map fault_of (
     ∷ codes "BEGIN:VCARD\nDTSTART:x\nEND:VCARD\n"
     ∷ codes "BEGIN:VCARD\nEND:VCARD\nEND:VCARD\n"
     ∷ []
-) ≡ Some (not_calendar 0)
+    ) ≡ Some (not_calendar 0)
     ∷ Some (not_calendar 16)
     ∷ Some (not_calendar 27)
     ∷ Some (not_calendar 29)
@@ -78,7 +78,7 @@ bad_values : map fault_of_event (
     ∷ codes "UID:1\nTZOFFSETFROM:0500\n"
     ∷ codes "UID:1\nTZOFFSETTO:+2400\n"
     ∷ []
-) ≡ Some (not_calendar 35)
+    ) ≡ Some (not_calendar 35)
     ∷ Some (not_calendar 35)
     ∷ Some (not_calendar 35)
     ∷ Some (not_calendar 35)
@@ -118,7 +118,7 @@ other_values : map fault_of_event (
     ∷ codes "UID:1\nDTSTART:20250310T090000\nDURATION:P200000D\n"
     ∷ codes "UID:1\nDTSTART;VALUE=TEXT:20250310\nBEGIN:VALARM\nTRIGGER:-P200000D\nEND:VALARM\n"
     ∷ []
-) ≡ Some (not_resource ZoneMissing)
+    ) ≡ Some (not_resource ZoneMissing)
     ∷ None
     ∷ None
     ∷ None
@@ -133,7 +133,7 @@ any_component : map fault_in (
     ∷ codes "BEGIN:X-A\nBEGIN:X-B\nDUE:x\nEND:X-B\nEND:X-A\n"
     ∷ codes "BEGIN:VTIMEZONE\nDTEND:x\nEND:VTIMEZONE\nREPEAT:x\n"
     ∷ []
-) ≡ Some (not_calendar 16)
+    ) ≡ Some (not_calendar 16)
     ∷ Some (not_calendar 36)
     ∷ Some (not_calendar 32)
     ∷ []
@@ -147,7 +147,7 @@ second_lines : map fault_of_event (
     ∷ codes "DTSTART:20250310T090000\nDTSTART:x\n"
     ∷ codes "UID:1\nDURATION:PT1H\nBEGIN:VALARM\nTRIGGER:PT0S\nDURATION:PT5M\nREPEAT:2\nEND:VALARM\nBEGIN:VALARM\nTRIGGER:PT1S\nEND:VALARM\n"
     ∷ []
-) ≡ Some (not_calendar 59)
+    ) ≡ Some (not_calendar 59)
     ∷ Some (not_calendar 101)
     ∷ Some (not_calendar 53)
     ∷ None
@@ -165,7 +165,7 @@ bad_zones : map fault_in (
     ∷ codes "BEGIN:VEVENT\nUID:1\nEND:VEVENT\nBEGIN:VTIMEZONE\nTZID:X\nBEGIN:DAYLIGHT\nDTSTART:19700101T000000\nTZOFFSETFROM:+0100\nTZOFFSETTO:+0200\nRRULE:FREQ=SECONDLY\nEND:DAYLIGHT\nEND:VTIMEZONE\n"
     ∷ codes "BEGIN:VEVENT\nUID:1\nEND:VEVENT\nBEGIN:VTIMEZONE\nTZID:X\nBEGIN:DAYLIGHT\nDTSTART:19700101T000000\nTZOFFSETFROM:+0100\nTZOFFSETTO:+0200\nRRULE:FREQ=DAILY\nRRULE:FREQ=DAILY\nRRULE:FREQ=DAILY\nRRULE:FREQ=DAILY\nRRULE:FREQ=DAILY\nRRULE:FREQ=DAILY\nRRULE:FREQ=DAILY\nRRULE:FREQ=DAILY\nRRULE:FREQ=DAILY\nEND:DAYLIGHT\nEND:VTIMEZONE\n"
     ∷ []
-) ≡ Some (not_calendar 46)
+    ) ≡ Some (not_calendar 46)
     ∷ Some (not_calendar 46)
     ∷ Some (not_calendar 141)
     ∷ Some (not_calendar 16)
@@ -182,7 +182,7 @@ other_zones : map fault_in (
     ∷ codes "BEGIN:VEVENT\nUID:1\nEND:VEVENT\nBEGIN:VTIMEZONE\nTZID:X\nBEGIN:DAYLIGHT\nDTSTART:19700101T000000\nTZOFFSETFROM:+0100\nTZOFFSETTO:+0200\nRRULE:FREQ=DAILY\nRRULE:FREQ=DAILY\nRRULE:FREQ=DAILY\nRRULE:FREQ=DAILY\nRRULE:FREQ=DAILY\nRRULE:FREQ=DAILY\nRRULE:FREQ=DAILY\nRRULE:FREQ=DAILY\nEND:DAYLIGHT\nEND:VTIMEZONE\n"
     ∷ codes "BEGIN:VEVENT\nUID:1\nEND:VEVENT\nBEGIN:X-A\nBEGIN:VTIMEZONE\nEND:VTIMEZONE\nEND:X-A\n"
     ∷ []
-) ≡ None
+    ) ≡ None
     ∷ None
     ∷ None
     ∷ []
@@ -206,7 +206,7 @@ bad_components : map fault_of_event (
     ∷ codes "DURATION:-P1D\n"
     ∷ codes "DTSTART;VALUE=DATE:20250310\nDURATION:PT25H\n"
     ∷ []
-) ≡ Some (not_calendar 16)
+    ) ≡ Some (not_calendar 16)
     ∷ Some (not_calendar 16)
     ∷ Some (not_calendar 16)
     ∷ Some (not_calendar 16)
@@ -233,7 +233,7 @@ other_components : map fault_of_event (
     ∷ codes "UID:1\nDTEND;VALUE=DATE:20250310\n"
     ∷ codes "UID:1\nDTSTART:20250310T090000Z\nDTEND;TZID=X:20250309T000000\n"
     ∷ []
-) ≡ None
+    ) ≡ None
     ∷ None
     ∷ None
     ∷ None
@@ -257,7 +257,7 @@ not_stored : map fault_in (
     ∷ codes "BEGIN:VEVENT\nUID:1\nRECURRENCE-ID;RANGE=thisandfuture:20250310T090000Z\nEND:VEVENT\n"
     ∷ codes "BEGIN:VEVENT\nUID:1\nRECURRENCE-ID;RANGE=THISANDPRIOR:20250310T090000Z\nEND:VEVENT\n"
     ∷ []
-) ≡ Some (not_resource Method)
+    ) ≡ Some (not_resource Method)
     ∷ Some (not_resource NoComponent)
     ∷ Some (not_resource MixedKinds)
     ∷ Some (not_resource NoUid)
@@ -281,7 +281,7 @@ same_instance : map fault_in (
     ∷ codes "BEGIN:VEVENT\nUID:1\nDTSTART:20250310T090000Z\nEND:VEVENT\nBEGIN:VEVENT\nUID:1\nRECURRENCE-ID;VALUE=DATE:20250311\nEND:VEVENT\nBEGIN:VEVENT\nUID:1\nRECURRENCE-ID:20250311T090000Z\nEND:VEVENT\n"
     ∷ codes "BEGIN:VEVENT\nUID:1\nDTSTART:20250310T090000Z\nEND:VEVENT\nBEGIN:VEVENT\nUID:1\nRECURRENCE-ID;TZID=X:20250311T090000\nEND:VEVENT\nBEGIN:VEVENT\nUID:1\nRECURRENCE-ID;TZID=X:20250311T090000\nEND:VEVENT\n"
     ∷ []
-) ≡ Some (not_resource SameRecurrenceId)
+    ) ≡ Some (not_resource SameRecurrenceId)
     ∷ Some (not_resource SameRecurrenceId)
     ∷ Some (not_resource SameRecurrenceId)
     ∷ Some (not_resource SameRecurrenceId)
@@ -300,7 +300,7 @@ order : map fault_in (
     ∷ codes "BEGIN:VEVENT\nUID:1\nEXRULE:x\nEND:VEVENT\nBEGIN:VEVENT\nUID:1\nDTSTART;TZID=X:15991231T235959\nEND:VEVENT\n"
     ∷ codes "BEGIN:VEVENT\nUID:1\nDTSTART:15991231T235959\nEXRULE:x\nEND:VEVENT\n"
     ∷ []
-) ≡ Some (not_calendar 66)
+    ) ≡ Some (not_calendar 66)
     ∷ Some (not_calendar 80)
     ∷ Some (not_calendar 31)
     ∷ Some (not_resource MixedKinds)
@@ -323,7 +323,7 @@ dates_outside : map fault_in (
     ∷ codes "BEGIN:VEVENT\nUID:1\nDTSTART:20250310T090000\nRRULE:FREQ=DAILY;UNTIL=21500101\nDTSTAMP:15000101T000000Z\nEND:VEVENT\n"
     ∷ codes "BEGIN:VTIMEZONE\nTZID:X\nBEGIN:STANDARD\nDTSTART:15000101T000000\nTZOFFSETFROM:+0100\nTZOFFSETTO:+0100\nEND:STANDARD\nEND:VTIMEZONE\nBEGIN:VEVENT\nUID:1\nBEGIN:X-A\nDTSTART:15000101T000000\nEND:X-A\nEND:VEVENT\n"
     ∷ []
-) ≡ Some (date_outside Event (Utc (record { 0 = (neg_ℤ (pos 11676096001)) })))
+    ) ≡ Some (date_outside Event (Utc (record { 0 = (neg_ℤ (pos 11676096001)) })))
     ∷ None
     ∷ Some (date_outside Event (Utc (record { 0 = (pos 4133980800) })))
     ∷ Some (date_outside Todo (Date (record { 0 = (neg_ℤ (pos 135141)) })))

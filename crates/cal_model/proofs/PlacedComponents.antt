@@ -1,14 +1,14 @@
 -- Where the lines of a tree's components stand among all lines.
-use Rattle.std.proofs.Common.{◌≡◌, ℕ, zero, suc, ◌<◌, ◌≤◌, Bool, true, false, List, [], ◌∷◌, ◌++◌, length, refl, sym, ap, ◌∙◌, subst, arith, append_assoc, append-nil}
-use Rattle.std.specs.Prelude.{Option, Some, None, slice_get, unwrap_or, if◌then◌else◌}
+use Rattle.std.proofs.Common.{◌≡◌, ℕ, zero, suc, List, [], ◌∷◌, ◌++◌, length, refl, sym, ap, ◌∙◌, subst, append_assoc}
+use Rattle.std.specs.Prelude.{Option, Some, None, slice_get, unwrap_or}
 use Rattle.std.specs.List.{AllByRecursion as Each}
 use Rattle.cal_model.proofs.EachLemmas.{each-weaker}
 use Rattle.std.proofs.lemmas.Option.{none-some}
 use Rattle.cal_base.specs.declared.line.Line.{Line}
 use Rattle.cal_base.specs.declared.line.Node.{Node}
 use Rattle.cal_base.specs.declared.line.Node.TheOpen.{Node-F}
-use Rattle.cal_base.specs.declared.line.Node.TheViews.{out-Node, roll-Node, out-roll-Node}
-use Rattle.cal_base.specs.ComponentTrees.{is_begin, is_end, component_name, depth, innermost, name_at, NestingFault, unclosed, nesting_fault, Level, nothing_more, component, with_line, with_begin, with_before, levels_before, outermost, tree_of, first, or_else}
+use Rattle.cal_base.specs.declared.line.Node.TheViews.{out-roll-Node}
+use Rattle.cal_base.specs.ComponentTrees.{component_name, depth, innermost, name_at, NestingFault, nesting_fault, Level, nothing_more, component, with_line, with_begin, with_before, levels_before, outermost, tree_of, first, or_else}
 use Rattle.cal_model.specs.ComponentLines.{lines_of, name_of, children_of}
 use Rattle.cal_model.proofs.OpenComponents.{Opening, Kind, begins, ends, neither, kind_of, fault_of_next, open_behind, fault_from, fault_of_last, open_behind_begin, open_behind_end, open_behind_own, fault_of_stray, before_begin, before_end, before_own, AreOpen, depth_is, innermost_line_is, open_on, slice_get_seam, so_many_on, nesting_fault-from_front}
 

@@ -1,5 +1,5 @@
 -- What a grant does to the privileges that are held.
-use Rattle.std.proofs.Common.{◌≡◌, ◌≢◌, refl, ℕ, ◌≤◌, ◌<◌, ◌^◌, List, [], ◌∷◌, ◌++◌, map, fold, max, arith, inl, inr, ap, sym, Bool, true, false}
+use Rattle.std.proofs.Common.{◌≡◌, ◌≢◌, refl, ℕ, List, [], ◌∷◌, ◌++◌, map, fold, max, arith, inl, inr}
 use Rattle.std.specs.Prelude.{filter, bit_or, ◌==◌}
 use Rattle.std.specs.Int.{bit_at}
 use Rattle.std.proofs.lemmas.Bool.{cases_Bool}

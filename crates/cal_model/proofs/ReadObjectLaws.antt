@@ -1,5 +1,5 @@
 -- What holds of each calendar object that was read.
-use Rattle.std.proofs.Common.{◌≡◌, ℕ, zero, suc, ◌+◌, ◌<◌, ◌≤◌, List, [], ◌∷◌, ◌++◌, map, length, arith, refl, ap, ap₂, sym, ◌∙◌, Bool, true, false, inl, inr, subst, append_assoc, length-append}
+use Rattle.std.proofs.Common.{◌≡◌, ℕ, zero, suc, ◌+◌, ◌<◌, ◌≤◌, List, [], ◌∷◌, ◌++◌, map, length, arith, refl, ap, ap₂, sym, ◌∙◌, Bool, true, false, subst, append_assoc, length-append}
 use Rattle.std.proofs.Math.Seq.{get_or-append_seam}
 use Rattle.std.proofs.lemmas.Option.{slice_get-get_or, slice_get_past}
 use Rattle.std.proofs.lemmas.Int.{ints}
@@ -39,14 +39,14 @@ use Rattle.cal_model.specs.NextPassing.{IsUsable}
 use Rattle.cal_model.specs.RuleTexts.{rule_of}
 use Rattle.cal_model.proofs.RuleBounds.{IsUsable-rule_of}
 use Rattle.cal_model.specs.ComponentLines.{has_name, all_of, is_named, name_of, children_of, kind_named, kind_of, lines_of}
-use Rattle.cal_model.specs.ComponentReading.{class_of, stored_busy_of, end_of_start, extent_without_end, end_stamp, extent_of, component_of}
-use Rattle.cal_model.specs.ReadObjects.{IsChild, stamps_of_extent, stamps_of, IsKnown, IsReadComponent, IsZone, IsReadObject, IsRead, IsServed}
+use Rattle.cal_model.specs.ComponentReading.{class_of, stored_busy_of, end_of_start, extent_without_end, extent_of, component_of}
+use Rattle.cal_model.specs.ReadObjects.{stamps_of_extent, stamps_of, IsKnown, IsReadComponent, IsZone, IsReadObject, IsRead, IsServed}
 use Rattle.cal_model.specs.Alignment.{written_value}
 use Rattle.cal_model.specs.Limits.{first_date, last_date}
 use Rattle.cal_model.proofs.PlacedComponents.{LineIn, NodeAt, OuterAt, tree_at}
 use Rattle.cal_model.proofs.EachLemmas.{neither, none_of_map, each_of_find, each_of_any, each-weaker, each-both, each-filter, each_passes, each-map, each_of_map, each-filter_map, each-append, each_of_append, each-flat_map, each_of_flat_map}
-use Rattle.cal_model.specs.ObjectFaults.{Child, child_of, child_places, children_in, zones_among, kinds_among, zone_fault, component_fault, resource_fault, component_of_child, dated_names, dated_stamps, stamps_of_period, lacks_zone, stamp_outside, all_stamps, stamps_of_line, is_early, is_late, is_in_kind, is_in_alarm, trigger_stamps, object_of, has_component_fault, is_bad_end, is_bad_period, is_bad_length, has_two_ends, are_different, resource_faults, some_has}
-use Rattle.cal_model.specs.ObjectReading.{Unread, not_calendar, not_resource, date_outside, place_at, line_of_fault, first_there, calendar_faults, object_in, object_faults, read_tree, read_lines_by, read_by, read_object_over}
+use Rattle.cal_model.specs.ObjectFaults.{Child, child_of, child_places, children_in, zones_among, kinds_among, zone_fault, component_fault, resource_fault, component_of_child, dated_names, dated_stamps, stamps_of_period, lacks_zone, stamp_outside, all_stamps, stamps_of_line, is_early, is_late, is_in_kind, is_in_alarm, trigger_stamps, object_of, has_component_fault, is_bad_end, is_bad_period, is_bad_length, has_two_ends, are_different, resource_faults}
+use Rattle.cal_model.specs.ObjectReading.{Unread, not_calendar, not_resource, date_outside, place_at, line_of_fault, first_there, calendar_faults, object_in, object_faults, read_tree, read_lines_by, read_object_over}
 
 -- Where a reading is Ok, no fault was there
 
@@ -99,13 +99,15 @@ read_from moments octets object good =
     let nested = after_nesting placed (nesting_fault (lines_in placed)) (of_tree (read_tree moments placed) (tree_of (lines_in placed))) object lines in
     let found = after_tree (read_tree moments placed) (tree_of (lines_in placed)) object nested in
     let tree = found.0 in
-    let whole = after_faults (first_there (calendar_faults moments placed tree ++ object_faults placed tree (object_in moments placed tree))) (object_in moments placed tree) object found.2 in
-    (tree, record {
-      nested = nesting_none placed (nesting_fault (lines_in placed)) (of_tree (read_tree moments placed) (tree_of (lines_in placed))) object lines;
-      built = found.1;
-      is = whole.1;
-      sound = whole.0;
-    })
+    let whole = after_faults (first_there (calendar_faults moments placed tree ++ object_faults placed tree (object_in moments placed tree))) (object_in moments placed tree) object found.2 in (
+      tree,
+      record {
+        nested = nesting_none placed (nesting_fault (lines_in placed)) (of_tree (read_tree moments placed) (tree_of (lines_in placed))) object lines;
+        built = found.1;
+        is = whole.1;
+        sound = whole.0;
+      },
+    )
 
 -- Each fault by itself
 
@@ -140,13 +142,13 @@ is_sound moments placed tree object read =
     let children = kinds_among (children_in placed tree) in
     let whole = object_in moments placed tree in
     let none = sound_from
-        (if is_named (codes "VCALENDAR") tree then None else Some (not_calendar (place_at placed 0)))
-        (option_map not_calendar (own_fault placed))
-        (option_map not_calendar (zone_fault moments (zones_among (children_in placed tree))))
-        (option_map not_calendar (component_fault whole.zones children))
-        (option_map not_resource (resource_fault whole children))
-        (option_map (date_outside whole.kind) (stamp_outside (zone_names whole.zones) (lines_in placed)))
-        read.sound in
+    (if is_named (codes "VCALENDAR") tree then None else Some (not_calendar (place_at placed 0)))
+    (option_map not_calendar (own_fault placed))
+    (option_map not_calendar (zone_fault moments (zones_among (children_in placed tree))))
+    (option_map not_calendar (component_fault whole.zones children))
+    (option_map not_resource (resource_fault whole children))
+    (option_map (date_outside whole.kind) (stamp_outside (zone_names whole.zones) (lines_in placed)))
+    read.sound in
     record {
       own = none_of_map not_calendar (own_fault placed) none.0;
       zone = none_of_map not_calendar (zone_fault moments (zones_among (children_in placed tree))) none.1;
@@ -530,11 +532,11 @@ whole_object tree zones (child ∷ children) tables numbers kinds sound stored s
     let rows = is_storable object (child ∷ children) stored in
     let its_kind = some_value (kind_of child.tree) kinds.0 in
     let made : component_of_child names child ≡ Some (component_of names child.number its_kind.0 child.tree) =
-        ap (λ (k : Option Kind). option_map (λ kind. component_of names child.number kind child.tree) k) its_kind.1 in
+    ap (λ (k : Option Kind). option_map (λ kind. component_of names child.number kind child.tree) k) its_kind.1 in
     let name = name_of child.tree in
     let named = each_of_map (λ other. name ≡ other) (λ (c : Child). name_of c.tree) (child ∷ children) (each_first name (map (λ (c : Child). name_of c.tree) children) rows.one_kind) in
     let standing = each_of_find (λ (c : Child). has_component_fault zones (lines_of c.tree)) (child ∷ children)
-        (none_of_map (λ (c : Child). c.place) (find (λ (c : Child). has_component_fault zones (lines_of c.tree)) (child ∷ children)) sound) in
+    (none_of_map (λ (c : Child). c.place) (find (λ (c : Child). has_component_fault zones (lines_of c.tree)) (child ∷ children)) sound) in
     let facts = sound_children tree zones name (child ∷ children) numbers standing rows.zones named served in
     let kind = first_kind (component_of_child names child) (filter_map (component_of_child names) children) (component_of names child.number its_kind.0 child.tree) made in
     record {

@@ -1,9 +1,9 @@
 -- The values of a rule that was read lie in their bounds.
-use Rattle.std.proofs.Common.{◌≡◌, ℕ, zero, suc, ◌<◌, ◌≤◌, ◌⊎◌, List, [], ◌∷◌, map, length, refl, ap, sym, ◌∙◌, arith, Bool, true, false, inl, inr, ℤ, pos, negsuc, subst, min}
-use Rattle.std.specs.Prelude.{Option, Some, None, All, IfSome, option_map, option_and_then, unwrap_or, find, if◌then◌else◌, ◌&&◌, ◌==◌, int_le, nat_abs, nat_le, nat_eq, codes, bytes_eq, take, drop, ◌-◌}
+use Rattle.std.proofs.Common.{◌≡◌, ℕ, suc, ◌<◌, ◌⊎◌, List, [], ◌∷◌, map, length, refl, ap, sym, arith, Bool, true, false, inl, inr, ℤ, pos, negsuc, subst, min}
+use Rattle.std.specs.Prelude.{Option, Some, None, All, IfSome, option_map, option_and_then, unwrap_or, find, if◌then◌else◌, ◌&&◌, ◌==◌, nat_le, nat_eq, codes, bytes_eq, take, drop, ◌-◌}
 use Rattle.std.specs.Int.{IsInRange}
 use Rattle.std.specs.List.{AllByRecursion as Each, starts_with}
-use Rattle.std.proofs.lemmas.Bool.{false≢true, leb-true}
+use Rattle.std.proofs.lemmas.Bool.{leb-true}
 use Rattle.std.proofs.lemmas.List.Elements.{All-from_recursion}
 use Rattle.std.proofs.lemmas.Option.{none-some, cond_some}
 use Rattle.cal_base.specs.ContentLines.{every, pieces}
@@ -15,7 +15,7 @@ use Rattle.cal_model.specs.declared.rule.Rule.{Rule}
 use Rattle.cal_model.specs.declared.rule.Until.{Until}
 use Rattle.cal_model.specs.NextPassing.{IsPlace, IsDayPart, IsUsable}
 use Rattle.cal_model.specs.ValueTexts.{integer_of}
-use Rattle.cal_model.specs.RuleTexts.{Part, word_of, weekdays, weekday_named, if_between, number_of, if_place, place_number, second_number, ordinal_of, day_part, day_of, until_of, freq_of, list_of, has_name, meanings, with_part, with_parts, every_time, if_allowed, is_allowed, rule_of_freq, rule_of_parts, rule_parts, freq_in, is_each_once, rule_in_grammar, if_within_bound, is_within_bound, rule_of}
+use Rattle.cal_model.specs.RuleTexts.{Part, weekdays, weekday_named, if_between, number_of, if_place, place_number, second_number, ordinal_of, day_part, day_of, until_of, freq_of, list_of, has_name, meanings, with_part, with_parts, every_time, if_allowed, is_allowed, rule_of_freq, rule_of_parts, rule_parts, freq_in, is_each_once, rule_in_grammar, if_within_bound, is_within_bound, rule_of}
 use Rattle.cal_model.proofs.EachLemmas.{both_hold}
 
 -- Values that may be absent
@@ -162,22 +162,49 @@ keeps_all P read put reads keeps text rule new usable is =
     subst IsUsable (sym found.2) (keeps rule found.0 usable (reads text found.0 found.1))
 
 each_keeps : Each (λ (row : List ℕ × (List ℕ → Rule → Option Rule)). Keeps row.1) meanings
-each_keeps =
-    (keeps_all (λ freq. Unit {0}) freq_of (λ freq rule. rule) (λ text x is. tt) (λ rule x usable fact. usable),
-    (keeps_all (λ n. 0 < n) (number_of 1 999999999) (λ n rule. record rule { interval = n }) (λ text n is. (number_read 1 999999999 text n is).0) with_interval,
-    (keeps_all (λ n. 0 < n) (number_of 1 999999999) (λ n rule. record rule { count = Some n }) (λ text n is. (number_read 1 999999999 text n is).0) with_count,
-    (keeps_all (λ until. Unit {0}) until_of (λ until rule. record rule { until = Some until }) (λ text x is. tt) (λ rule x usable fact. with_until rule x usable),
-    (keeps_all (λ n. n < 7) weekday_named (λ n rule. record rule { week_start = n }) weekday_read with_week_start,
-    (keeps_all (All (IsInRange 1 12)) (list_of (number_of 1 12)) (λ ns rule. record rule { by_month = ns }) (list_read (IsInRange 1 12) (number_of 1 12) (number_read 1 12)) with_months,
-    (keeps_all (All (IsPlace 53)) (list_of (place_number 53)) (λ ns rule. record rule { by_week = ns }) (list_read (IsPlace 53) (place_number 53) (place_read 53)) with_weeks,
-    (keeps_all (All (IsPlace 366)) (list_of (place_number 366)) (λ ns rule. record rule { by_year_day = ns }) (list_read (IsPlace 366) (place_number 366) (place_read 366)) with_year_days,
-    (keeps_all (All (IsPlace 31)) (list_of (place_number 31)) (λ ns rule. record rule { by_month_day = ns }) (list_read (IsPlace 31) (place_number 31) (place_read 31)) with_month_days,
-    (keeps_all (All IsDayPart) (list_of day_of) (λ days rule. record rule { by_day = days }) (list_read IsDayPart day_of day_read) with_days,
-    (keeps_all (All (λ n. n < 24)) (list_of (number_of 0 23)) (λ ns rule. record rule { by_hour = ns }) (list_read (λ n. n < 24) (number_of 0 23) (below_read 23)) with_hours,
-    (keeps_all (All (λ n. n < 60)) (list_of (number_of 0 59)) (λ ns rule. record rule { by_minute = ns }) (list_read (λ n. n < 60) (number_of 0 59) (below_read 59)) with_minutes,
-    (keeps_all (All (λ n. n < 60)) (list_of second_number) (λ ns rule. record rule { by_second = ns }) (list_read (λ n. n < 60) second_number second_read) with_seconds,
-    (keeps_all (All (IsPlace 366)) (list_of (place_number 366)) (λ ns rule. record rule { by_set_pos = ns }) (list_read (IsPlace 366) (place_number 366) (place_read 366)) with_places,
-    tt))))))))))))))
+each_keeps = (
+  keeps_all (λ freq. Unit {0}) freq_of (λ freq rule. rule) (λ text x is. tt) (λ rule x usable fact. usable),
+  (
+    keeps_all (λ n. 0 < n) (number_of 1 999999999) (λ n rule. record rule { interval = n }) (λ text n is. (number_read 1 999999999 text n is).0) with_interval,
+    (
+      keeps_all (λ n. 0 < n) (number_of 1 999999999) (λ n rule. record rule { count = Some n }) (λ text n is. (number_read 1 999999999 text n is).0) with_count,
+      (
+        keeps_all (λ until. Unit {0}) until_of (λ until rule. record rule { until = Some until }) (λ text x is. tt) (λ rule x usable fact. with_until rule x usable),
+        (
+          keeps_all (λ n. n < 7) weekday_named (λ n rule. record rule { week_start = n }) weekday_read with_week_start,
+          (
+            keeps_all (All (IsInRange 1 12)) (list_of (number_of 1 12)) (λ ns rule. record rule { by_month = ns }) (list_read (IsInRange 1 12) (number_of 1 12) (number_read 1 12)) with_months,
+            (
+              keeps_all (All (IsPlace 53)) (list_of (place_number 53)) (λ ns rule. record rule { by_week = ns }) (list_read (IsPlace 53) (place_number 53) (place_read 53)) with_weeks,
+              (
+                keeps_all (All (IsPlace 366)) (list_of (place_number 366)) (λ ns rule. record rule { by_year_day = ns }) (list_read (IsPlace 366) (place_number 366) (place_read 366)) with_year_days,
+                (
+                  keeps_all (All (IsPlace 31)) (list_of (place_number 31)) (λ ns rule. record rule { by_month_day = ns }) (list_read (IsPlace 31) (place_number 31) (place_read 31)) with_month_days,
+                  (
+                    keeps_all (All IsDayPart) (list_of day_of) (λ days rule. record rule { by_day = days }) (list_read IsDayPart day_of day_read) with_days,
+                    (
+                      keeps_all (All (λ n. n < 24)) (list_of (number_of 0 23)) (λ ns rule. record rule { by_hour = ns }) (list_read (λ n. n < 24) (number_of 0 23) (below_read 23)) with_hours,
+                      (
+                        keeps_all (All (λ n. n < 60)) (list_of (number_of 0 59)) (λ ns rule. record rule { by_minute = ns }) (list_read (λ n. n < 60) (number_of 0 59) (below_read 59)) with_minutes,
+                        (
+                          keeps_all (All (λ n. n < 60)) (list_of second_number) (λ ns rule. record rule { by_second = ns }) (list_read (λ n. n < 60) second_number second_read) with_seconds,
+                          (
+                            keeps_all (All (IsPlace 366)) (list_of (place_number 366)) (λ ns rule. record rule { by_set_pos = ns }) (list_read (IsPlace 366) (place_number 366) (place_read 366)) with_places,
+                            tt,
+                          ),
+                        ),
+                      ),
+                    ),
+                  ),
+                ),
+              ),
+            ),
+          ),
+        ),
+      ),
+    ),
+  ),
+)
 
 -- Whole rules
 

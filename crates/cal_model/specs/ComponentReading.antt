@@ -1,6 +1,6 @@
 -- A component of the four kinds as its lines and alarms say it (RFC 5545, 3.6.1 to 3.6.4 and 3.6.6).
 -- One record, a table for its end and one for how busy it is.
-use Rattle.std.specs.Prelude.{ℕ, Bool, true, false, ◌||◌, if◌then◌else◌, List, [], ◌∷◌, map, filter, filter_map, flat_map, bytes_eq, Option, Some, None, option_map, option_and_then, unwrap_or, codes, pos}
+use Rattle.std.specs.Prelude.{ℕ, Bool, false, ◌||◌, if◌then◌else◌, List, [], ◌∷◌, map, filter, filter_map, flat_map, bytes_eq, Option, Some, None, option_map, option_and_then, unwrap_or, codes, pos}
 use Rattle.cal_base.specs.declared.line.Line.{Line}
 use Rattle.cal_base.specs.declared.line.Node.{Node}
 use Rattle.cal_base.specs.Text.{raised_all}
@@ -15,7 +15,7 @@ use Rattle.cal_model.specs.declared.object.Component.{Component}
 use Rattle.cal_model.specs.declared.object.Extent.{Extent}
 use Rattle.cal_model.specs.declared.object.Extent.TheVariants as extent
 use Rattle.cal_model.specs.declared.object.Kind.{Kind}
-use Rattle.cal_model.specs.declared.object.Kind.TheVariants.{Event, Todo, Journal, FreeBusy}
+use Rattle.cal_model.specs.declared.object.Kind.TheVariants.{Event, Todo, Journal}
 use Rattle.cal_model.specs.declared.object.Trigger.{Trigger}
 use Rattle.cal_model.specs.ValueTexts.{length_of, moment_of}
 use Rattle.cal_model.specs.StampTexts.{param_value, trigger_of, repeat_of}

@@ -20,7 +20,7 @@ use Rattle.cal_model.specs.declared.object.NotResource.{NotResource}
 use Rattle.cal_model.specs.declared.object.NotResource.TheVariants.{Method, NoComponent, MixedKinds, NoUid, MixedUids, TwoMasters, SameRecurrenceId, ZoneMissing, ExRule, ThisAndFuture}
 use Rattle.cal_model.specs.declared.object.Object.{Object}
 use Rattle.cal_model.specs.declared.object.Trigger.{Trigger}
-use Rattle.cal_model.specs.declared.object.Trigger.TheVariants.{At as AtMoment, From}
+use Rattle.cal_model.specs.declared.object.Trigger.TheVariants.{At as AtMoment}
 use Rattle.cal_model.specs.declared.row.RowKind.{RowKind}
 use Rattle.cal_model.specs.declared.row.RowKind.TheVariants as row
 use Rattle.cal_model.specs.declared.zone.ZoneTable.{ZoneTable}

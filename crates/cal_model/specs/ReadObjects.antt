@@ -1,5 +1,5 @@
 -- What holds of each calendar object that was read, and what the crates above rest on. How an object is read stands in `ObjectReading`.
-use Rattle.std.specs.Prelude.{◌≡◌, ℕ, ◌<◌, ◌≤◌, Bool, true, List, [], ◌∷◌, ◌++◌, flat_map, length, option_to_list, slice_get, Option, Some, Ok, All, ◌≤ℤ◌}
+use Rattle.std.specs.Prelude.{◌≡◌, ℕ, ◌<◌, ◌≤◌, true, List, [], ◌∷◌, ◌++◌, flat_map, length, option_to_list, slice_get, Option, Some, Ok, All, ◌≤ℤ◌}
 use Rattle.cal_base.specs.declared.line.Node.{Node}
 use Rattle.cal_moment.specs.declared.stamp.Stamp.{Stamp}
 use Rattle.cal_moment.specs.declared.stamp.Period.{Period}
@@ -8,7 +8,6 @@ use Rattle.cal_model.specs.declared.object.Component.{Component}
 use Rattle.cal_model.specs.declared.object.Extent.{Extent}
 use Rattle.cal_model.specs.declared.object.Extent.TheVariants as extent
 use Rattle.cal_model.specs.declared.object.Object.{Object}
-use Rattle.cal_model.specs.declared.rule.Rule.{Rule}
 use Rattle.cal_model.specs.declared.zone.ZonePart.{ZonePart}
 use Rattle.cal_model.specs.declared.zone.ZoneTable.{ZoneTable}
 use Rattle.cal_model.specs.Limits.{first_date, last_date}

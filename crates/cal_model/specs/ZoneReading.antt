@@ -1,5 +1,5 @@
 -- The zones of a calendar object: what a VTIMEZONE says, and which one cannot stand (RFC 5545, 3.6.5).
-use Rattle.std.specs.Prelude.{ℕ, Bool, not, ◌||◌, nat_lt, if◌then◌else◌, List, [], ◌++◌, map, length, filter, filter_map, flat_map, sum, Option, Some, None, unwrap_or, codes, ℤ}
+use Rattle.std.specs.Prelude.{ℕ, Bool, not, ◌||◌, nat_lt, List, [], ◌++◌, map, length, filter, filter_map, flat_map, sum, Option, Some, None, unwrap_or, codes, ℤ}
 use Rattle.std.specs.List.{list_any}
 use Rattle.cal_base.specs.declared.line.Line.{Line}
 use Rattle.cal_base.specs.declared.line.Node.{Node}
@@ -14,7 +14,7 @@ use Rattle.cal_model.specs.ValueTexts.{offset_of}
 use Rattle.cal_model.specs.StampTexts.{local_digits}
 use Rattle.cal_model.specs.NextPassing.{is_fine}
 use Rattle.cal_model.specs.ZoneOnsets.{table_over, table_count_over}
-use Rattle.cal_model.specs.ComponentLines.{all_of, one_of, has, lines_of, children_of, is_named}
+use Rattle.cal_model.specs.ComponentLines.{all_of, has, lines_of, children_of, is_named}
 use Rattle.cal_model.specs.LineValues.{stamps_in, periods_in, stamp_at, value_at, rules_of}
 
 -- Parts
