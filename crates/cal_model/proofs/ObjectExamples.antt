@@ -1,5 +1,5 @@
 -- Worked examples of calendar objects that are read, and of the faults of others.
-use Rattle.std.specs.Prelude.{◌≡◌, refl, ℕ, List, [], ◌∷◌, ◌++◌, map, Option, Some, None, option_map, Result, Ok, Err, codes, pos, neg_ℤ}
+use Rattle.std.specs.Prelude.{◌≡◌, refl, ℕ, ◌*◌, List, [], ◌∷◌, ◌++◌, map, Option, Some, None, option_map, Result, Ok, Err, codes, pos, neg_ℤ}
 use Rattle.std.specs.Str.{is_utf8, chars}
 use lib.Utf8.{encode}
 use Rattle.cal_base.specs.declared.line.Node as N
@@ -10,6 +10,7 @@ use Rattle.cal_base.specs.ComponentTrees.{component}
 use Rattle.cal_moment.specs.Calendar.{year_of, month_of, day_of_month, moment_of_date}
 use Rattle.cal_moment.specs.declared.stamp.Length.{Length}
 use Rattle.cal_moment.specs.declared.stamp.PeriodEnd.TheVariants.{At as AtEnd, After}
+use Rattle.cal_moment.specs.declared.stamp.Stamp.{Stamp}
 use Rattle.cal_moment.specs.declared.stamp.Stamp.TheVariants.{Date, Floating, Zoned, Utc}
 use Rattle.cal_model.specs.declared.object.Component.{Component}
 use Rattle.cal_model.specs.declared.object.Class.TheVariants.{Busy, Unavailable, Tentative}
@@ -20,7 +21,7 @@ use Rattle.cal_model.specs.declared.object.NotResource.TheVariants.{ZoneMissing}
 use Rattle.cal_model.specs.declared.object.Object.{Object}
 use Rattle.cal_model.specs.declared.object.Related.TheVariants.{End}
 use Rattle.cal_model.specs.declared.object.Trigger.TheVariants.{At as AtMoment, From}
-use Rattle.cal_model.specs.declared.rule.Freq.TheVariants.{Yearly}
+use Rattle.cal_model.specs.declared.rule.Freq.TheVariants.{Weekly, Yearly}
 use Rattle.cal_model.specs.declared.zone.ZoneTable.{ZoneTable}
 use Rattle.cal_model.specs.Numbers.{counted_from}
 use Rattle.cal_model.specs.Passing.{day_passes, time_passes}
@@ -229,3 +230,36 @@ new_york : option_map (λ (z : ZoneTable). z.onsets) (elim (read_zone_over chang
     )
 unfolding is_utf8 chars encode date_of time_of date_time_of count_of integer_of length_of offset_of stamps_in_grammar periods_in_grammar trigger_of rule_in_grammar year_of month_of day_of_month day_passes time_passes counted_from offset_at exists_in instant_of N.out-Node N.roll-Node B.shown-the_row-Node-0 B.hidden-the_row-Node-0 B.shape-the_row-Node-0 H.out H.roll H.shown H.hidden
 new_york = refl
+
+-- a meeting in New York with a date taken away and one moved
+abbrev meeting_text : List ℕ
+meeting_text =
+    codes "BEGIN:VEVENT\nUID:meet\nDTSTART;TZID=NY:20250304T100000\nDTEND;TZID=NY:20250304T110000\nRRULE:FREQ=WEEKLY;COUNT=5\nEXDATE;TZID=NY:20250318T100000\nSUMMARY:Plan\nEND:VEVENT\n"
+    ++ codes "BEGIN:VEVENT\nUID:meet\nRECURRENCE-ID;TZID=NY:20250325T100000\nDTSTART;TZID=NY:20250326T140000\nDTEND;TZID=NY:20250326T150000\nSUMMARY:Plan moved\nEND:VEVENT\n"
+
+abbrev in_new_york : ℕ → ℕ → Stamp
+in_new_york day hour = Zoned (record { day = pos day; second = 3600 * hour }) 0
+
+abbrev components_of : Result Object Unread → Option (List Component)
+components_of (Ok object) = Some object.components
+components_of (Err fault) = None
+
+meeting : components_of (read_object_over changes (calendar (new_york_text ++ meeting_text))) ≡ Some (
+    record (nothing_said Event) {
+      child = 1;
+      start = Some (in_new_york 20151 10);
+      extent = extent.End (in_new_york 20151 11);
+      rules = record (every_time Weekly) { count = Some 5 } ∷ [];
+      except = in_new_york 20165 10 ∷ [];
+      busy = Some Busy;
+    }
+    ∷ record (nothing_said Event) {
+      child = 2;
+      start = Some (in_new_york 20173 14);
+      extent = extent.End (in_new_york 20173 15);
+      recurrence_id = Some (in_new_york 20172 10);
+      busy = Some Busy;
+    } ∷ []
+    )
+unfolding is_utf8 chars encode date_of time_of date_time_of count_of integer_of length_of offset_of stamps_in_grammar periods_in_grammar trigger_of rule_in_grammar year_of month_of day_of_month day_passes time_passes counted_from offset_at exists_in instant_of N.out-Node N.roll-Node B.shown-the_row-Node-0 B.hidden-the_row-Node-0 B.shape-the_row-Node-0 H.out H.roll H.shown H.hidden
+meeting = refl

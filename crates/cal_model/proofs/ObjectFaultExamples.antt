@@ -336,3 +336,35 @@ dates_outside : map fault_in (
     ∷ []
 unfolding is_utf8 chars encode date_of time_of date_time_of count_of integer_of length_of offset_of stamps_in_grammar periods_in_grammar trigger_of rule_in_grammar offset_at exists_in instant_of N.out-Node N.roll-Node B.shown-the_row-Node-0 B.hidden-the_row-Node-0 B.shape-the_row-Node-0 H.out H.roll H.shown H.hidden
 dates_outside = refl
+
+-- four components may be open and not five; and one octet is no calendar
+depth : map fault_of (
+    codes "x"
+    ∷ codes "BEGIN:VCALENDAR\nBEGIN:VEVENT\nUID:1\nBEGIN:VALARM\nBEGIN:X-A\nEND:X-A\nEND:VALARM\nEND:VEVENT\nEND:VCALENDAR\n"
+    ∷ codes "BEGIN:VCALENDAR\nBEGIN:VEVENT\nUID:1\nBEGIN:VALARM\nBEGIN:X-A\nBEGIN:X-B\nEND:X-B\nEND:X-A\nEND:VALARM\nEND:VEVENT\nEND:VCALENDAR\n"
+    ∷ []
+    ) ≡ Some (not_calendar 0)
+    ∷ None
+    ∷ Some (not_calendar 58)
+    ∷ []
+unfolding is_utf8 chars encode date_of time_of date_time_of count_of integer_of length_of offset_of stamps_in_grammar periods_in_grammar trigger_of rule_in_grammar offset_at exists_in instant_of N.out-Node N.roll-Node B.shown-the_row-Node-0 B.hidden-the_row-Node-0 B.shape-the_row-Node-0 H.out H.roll H.shown H.hidden
+depth = refl
+
+-- what can just stand: far offsets in one zone, eight rules, an override alone, no start, and 24 times of day beside BYSETPOS, but not 48
+edges : map fault_in (
+    codes "BEGIN:VTIMEZONE\nTZID:X\nBEGIN:STANDARD\nDTSTART:19700101T000000\nTZOFFSETFROM:+235959\nTZOFFSETTO:-235959\nEND:STANDARD\nEND:VTIMEZONE\nBEGIN:VEVENT\nUID:1\nEND:VEVENT\n"
+    ∷ codes "BEGIN:VEVENT\nUID:1\nDTSTART:20250101T000000Z\nRRULE:FREQ=DAILY\nRRULE:FREQ=DAILY\nRRULE:FREQ=DAILY\nRRULE:FREQ=DAILY\nRRULE:FREQ=DAILY\nRRULE:FREQ=DAILY\nRRULE:FREQ=DAILY\nRRULE:FREQ=DAILY\nEND:VEVENT\n"
+    ∷ codes "BEGIN:VEVENT\nUID:1\nRECURRENCE-ID:20250310T090000Z\nDTSTART:20250311T090000Z\nEND:VEVENT\n"
+    ∷ codes "BEGIN:VEVENT\nUID:1\nEND:VEVENT\n"
+    ∷ codes "BEGIN:VEVENT\nUID:1\nDTSTART:20250101T000000Z\nRRULE:FREQ=DAILY;COUNT=2;BYSETPOS=1;BYMINUTE=0;BYHOUR=0,1,2,3,4,5,6,7,8,9,10,11,12,13,14,15,16,17,18,19,20,21,22,23\nEND:VEVENT\n"
+    ∷ codes "BEGIN:VEVENT\nUID:1\nDTSTART:20250101T000000Z\nRRULE:FREQ=DAILY;COUNT=2;BYSETPOS=1;BYMINUTE=0,30;BYHOUR=0,1,2,3,4,5,6,7,8,9,10,11,12,13,14,15,16,17,18,19,20,21,22,23\nEND:VEVENT\n"
+    ∷ []
+    ) ≡ None
+    ∷ None
+    ∷ None
+    ∷ None
+    ∷ None
+    ∷ Some (not_calendar 60)
+    ∷ []
+unfolding is_utf8 chars encode date_of time_of date_time_of count_of integer_of length_of offset_of stamps_in_grammar periods_in_grammar trigger_of rule_in_grammar offset_at exists_in instant_of N.out-Node N.roll-Node B.shown-the_row-Node-0 B.hidden-the_row-Node-0 B.shape-the_row-Node-0 H.out H.roll H.shown H.hidden
+edges = refl
