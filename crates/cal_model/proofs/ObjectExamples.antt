@@ -30,7 +30,10 @@ use Rattle.cal_model.specs.ValueTexts.{date_of, time_of, date_time_of, count_of,
 use Rattle.cal_model.specs.StampTexts.{stamps_in_grammar, periods_in_grammar, trigger_of}
 use Rattle.cal_model.specs.RuleTexts.{rule_in_grammar, every_time}
 use Rattle.cal_model.specs.ObjectReading.{Unread, not_calendar, not_resource, read_object, read_object_over, read_zone, read_zone_over}
-use Rattle.cal_model.proofs.ZoneExamples.{onset}
+use Rattle.cal_model.proofs.ZoneExamples.{onset, written}
+use Rattle.cal_model.proofs.RowExamples.{instant_row}
+use Rattle.cal_model.specs.declared.row.Row.{Row}
+use Rattle.cal_model.specs.Rows.{rows_over}
 use Rattle.cal_model.proofs.Samples.{stand_up_octets, nine, ten}
 
 -- a line without parameters
@@ -263,3 +266,22 @@ meeting : components_of (read_object_over changes (calendar (new_york_text ++ me
     )
 unfolding is_utf8 chars encode date_of time_of date_time_of count_of integer_of length_of offset_of stamps_in_grammar periods_in_grammar trigger_of rule_in_grammar year_of month_of day_of_month day_passes time_passes counted_from offset_at exists_in instant_of N.out-Node N.roll-Node B.shown-the_row-Node-0 B.hidden-the_row-Node-0 B.shape-the_row-Node-0 H.out H.roll H.shown H.hidden
 meeting = refl
+
+-- from octets to instances: the second is an hour earlier in UTC, the third is gone, and the fourth is where it was moved to
+abbrev clock : List ℕ
+clock =
+    moment_of_date 2024 3 10 2 0 0 ∷ moment_of_date 2024 11 3 2 0 0 ∷ moment_of_date 2025 3 4 10 0 0 ∷ moment_of_date 2025 3 9 2 0 0
+    ∷ moment_of_date 2025 3 11 10 0 0 ∷ moment_of_date 2025 3 18 10 0 0 ∷ moment_of_date 2025 3 25 10 0 0 ∷ moment_of_date 2025 4 1 10 0 0 ∷ []
+
+abbrev rows_of : Result Object Unread → List Row
+rows_of (Ok object) = rows_over clock object
+rows_of (Err fault) = []
+
+instances : rows_of (read_object_over clock (calendar (new_york_text ++ meeting_text)))
+    ≡ instant_row (written 2025 3 4 15 0 0) (written 2025 3 4 15 0 0) (written 2025 3 4 16 0 0) 0
+    ∷ instant_row (written 2025 3 11 14 0 0) (written 2025 3 11 14 0 0) (written 2025 3 11 15 0 0) 0
+    ∷ instant_row (written 2025 3 25 14 0 0) (written 2025 3 26 18 0 0) (written 2025 3 26 19 0 0) 1
+    ∷ instant_row (written 2025 4 1 14 0 0) (written 2025 4 1 14 0 0) (written 2025 4 1 15 0 0) 0
+    ∷ []
+unfolding is_utf8 chars encode date_of time_of date_time_of count_of integer_of length_of offset_of stamps_in_grammar periods_in_grammar trigger_of rule_in_grammar year_of month_of day_of_month day_passes time_passes counted_from offset_at exists_in instant_of N.out-Node N.roll-Node B.shown-the_row-Node-0 B.hidden-the_row-Node-0 B.shape-the_row-Node-0 H.out H.roll H.shown H.hidden
+instances = refl
