@@ -30,3 +30,4 @@ pub mod EachLemmas
 pub mod RuleBounds
 pub mod OpenComponents
 pub mod PlacedComponents
+pub mod LineTests

@@ -20,11 +20,11 @@ use Rattle.cal_model.proofs.EachLemmas.{both_hold}
 
 -- Values that may be absent
 
-and_then_value : {X Y : Type 0} (f : X → Option Y) (o : Option X) (y : Y) → option_and_then f o ≡ Some y → (x : X) × (o ≡ Some x) × (f x ≡ Some y)
+pub and_then_value : {X Y : Type 0} (f : X → Option Y) (o : Option X) (y : Y) → option_and_then f o ≡ Some y → (x : X) × (o ≡ Some x) × (f x ≡ Some y)
 and_then_value f None y is = absurd (none-some y is)
 and_then_value f (Some x) y is = (x, refl, is)
 
-map_value : {X Y : Type 0} (f : X → Y) (o : Option X) (y : Y) → option_map f o ≡ Some y → (x : X) × (o ≡ Some x) × (y ≡ f x)
+pub map_value : {X Y : Type 0} (f : X → Y) (o : Option X) (y : Y) → option_map f o ≡ Some y → (x : X) × (o ≡ Some x) × (y ≡ f x)
 map_value f None y is = absurd (none-some y is)
 map_value f (Some x) y is = (x, refl, sym (ap (λ found. unwrap_or found y) is))
 
@@ -33,7 +33,7 @@ find_value : {X : Type 0} (P : X → Type 0) (p : X → Bool) (x : X) (xs : List
 find_value P p x xs row true is fact later = subst P (ap (λ found. unwrap_or found row) is) fact
 find_value P p x xs row false is fact later = later row is
 
-each_found : {X : Type 0} (P : X → Type 0) (p : X → Bool) (xs : List X) → Each P xs → (row : X) → find p xs ≡ Some row → P row
+pub each_found : {X : Type 0} (P : X → Type 0) (p : X → Bool) (xs : List X) → Each P xs → (row : X) → find p xs ≡ Some row → P row
 each_found P p [] facts row is = absurd (none-some row is)
 each_found P p (x ∷ xs) facts row is = find_value P p x xs row (p x) is facts.0 (each_found P p xs facts.1)
 
