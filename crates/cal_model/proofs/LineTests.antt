@@ -17,6 +17,7 @@ use Rattle.cal_model.specs.StampTexts.{is_named as is_one_of, utc_names, utc_sta
 use Rattle.cal_moment.specs.declared.stamp.PeriodEnd.{PeriodEnd}
 use Rattle.cal_moment.specs.declared.stamp.Stamp.{Stamp}
 use Rattle.cal_model.specs.LineValues.{looked_at, cannot_stand, has_own_fault, own_fault, lines_in, repeatable, is_second, is_short, is_short_length, is_short_end, are_short_periods}
+use Rattle.cal_model.specs.ReadObjects.{HasShortEnd}
 use Rattle.cal_model.proofs.EachLemmas.{neither, both_hold, none_of_map, each_of_find}
 use Rattle.cal_model.proofs.RuleBounds.{map_value}
 
@@ -98,9 +99,6 @@ unfolding periods_in_grammar
 grammar_alike zones line = every_alike (period_of zones line) (period_of [] line) (λ text. period_alike zones line text (is_one_of utc_names line)) (items_of line)
 
 -- each end of a list of which all are short is short
-abbrev pub HasShortEnd : Period → Type 0
-HasShortEnd period = is_short_end period.end ≡ true
-
 each_of_all : (periods : List Period) → list_all (λ (p : Period). is_short_end p.end) periods ≡ true → Each HasShortEnd periods
 each_of_all [] all = tt
 each_of_all (p ∷ periods) all = let parts = both_hold (is_short_end p.end) (list_all (λ (p : Period). is_short_end p.end) periods) all in (parts.0, each_of_all periods parts.1)

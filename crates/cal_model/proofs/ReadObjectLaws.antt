@@ -1,7 +1,7 @@
 -- What holds of each calendar object that was read.
 use Rattle.std.proofs.Common.{◌≡◌, ℕ, zero, suc, ◌+◌, ◌<◌, ◌≤◌, List, [], ◌∷◌, ◌++◌, map, length, arith, refl, ap, ap₂, sym, ◌∙◌, Bool, true, false, subst, append_assoc, length-append}
 use Rattle.std.proofs.Math.Seq.{get_or-append_seam}
-use Rattle.std.proofs.lemmas.Option.{slice_get-get_or, slice_get_past}
+use Rattle.std.proofs.lemmas.Option.{slice_get-get_or, slice_get_past, slice_get-map}
 use Rattle.std.proofs.lemmas.Int.{ints}
 use Rattle.std.specs.Prelude.{ℤ, int_lt, ◌≤ℤ◌, ◌==◌, ◌&&◌, nat_lt, ◌||◌, not, bytes_eq, flat_map, option_to_list, unwrap_or, All, Option, Some, None, is_some, Result, Ok, Err, is_ok, find, filter, filter_map, option_map, slice_get, codes, if◌then◌else◌}
 use Rattle.std.specs.List.{AllByRecursion as Each, cons_option, enumerate_from, zip, list_any}
@@ -24,12 +24,12 @@ use Rattle.cal_model.specs.declared.object.Extent.{Extent}
 use Rattle.cal_model.specs.declared.object.Extent.TheVariants as extent
 use Rattle.cal_model.specs.declared.object.Kind.{Kind}
 use Rattle.cal_model.specs.declared.object.Kind.TheVariants.{Event, Todo, Journal, FreeBusy}
-use Rattle.cal_model.specs.StampTexts.{is_known, is_named as is_one_of}
+use Rattle.cal_model.specs.StampTexts.{periods_in_grammar, has_periods, is_known, is_named as is_one_of}
 use Rattle.cal_model.specs.declared.object.NotResource.{NotResource}
 use Rattle.cal_model.specs.declared.object.Object.{Object}
 use Rattle.cal_model.specs.declared.rule.Rule.{Rule}
 use Rattle.cal_model.specs.declared.zone.ZoneTable.{ZoneTable}
-use Rattle.cal_model.specs.LineValues.{stamps_in, periods_in, stamps_at, periods_at, stamp_at, value_at, rules_of, lines_in, own_fault}
+use Rattle.cal_model.specs.LineValues.{has_own_fault, is_short_length, is_of_short_periods, is_of_stamps, is_of_dates, is_of_periods, stamps_in, periods_in, stamps_at, periods_at, stamp_at, value_at, rules_of, lines_in, own_fault}
 use Rattle.cal_model.specs.ZoneReading.{zones_of, zone_names, are_many, zone_table, is_zone, parts_of}
 use Rattle.cal_model.specs.ValueTexts.{length_of}
 use Rattle.cal_model.specs.Numbers.{is_empty}
@@ -37,10 +37,11 @@ use Rattle.cal_model.specs.Rows.{masters}
 use Rattle.cal_model.specs.RecurrenceSet.{every_moment}
 use Rattle.cal_model.specs.NextPassing.{IsUsable}
 use Rattle.cal_model.specs.RuleTexts.{rule_of}
-use Rattle.cal_model.proofs.RuleBounds.{IsUsable-rule_of}
-use Rattle.cal_model.specs.ComponentLines.{has_name, all_of, is_named, name_of, children_of, kind_named, kind_of, lines_of}
+use Rattle.cal_model.proofs.RuleBounds.{IsUsable-rule_of, map_value, and_then_value, each_found}
+use Rattle.cal_model.specs.ComponentLines.{one_of, has_name, all_of, is_named, name_of, children_of, kind_named, kind_of, lines_of}
 use Rattle.cal_model.specs.ComponentReading.{class_of, stored_busy_of, end_of_start, extent_without_end, extent_of, component_of}
-use Rattle.cal_model.specs.ReadObjects.{stamps_of_extent, stamps_of, IsKnown, IsReadComponent, IsZone, IsReadObject, IsRead, IsServed}
+use Rattle.cal_model.specs.ReadObjects.{stamps_of_extent, stamps_of, IsKnown, IsReadComponent, IsZone, IsReadObject, IsRead, IsServed, IsShort, HasShortEnd, lengths_of_extent}
+use Rattle.cal_model.proofs.LineTests.{IsTested, test_holds, line_short}
 use Rattle.cal_model.specs.Alignment.{written_value}
 use Rattle.cal_model.specs.Limits.{first_date, last_date}
 use Rattle.cal_model.proofs.PlacedComponents.{LineIn, NodeAt, OuterAt, tree_at}
@@ -395,6 +396,119 @@ child_served zones lines tree child kind none outer is_child of_kind =
     let at = each_at (λ node. (b : ℕ) × (depth lines b ≡ suc (depth lines outer.0)) × (innermost lines b ≡ Some outer.0) × NodeAt 1 lines b node) (children_of tree) child.number child.tree (outer.2 2).2 is_child in
     each-weaker (λ line place. line_served zones lines at.0 (name_of child.tree) kind line none (at.1 ∙ ap suc outer.1) at.3.0 of_kind place) (lines_of child.tree) at.3.1
 
+-- Lengths that are short
+
+-- a line of the text has no fault of its own
+line_tested : (placed : List Placed) (k : ℕ) (line : Line) → own_fault placed ≡ None → slice_get (lines_in placed) k ≡ Some line → IsTested (lines_in placed) line
+line_tested placed k line none is =
+    let lines = lines_in placed in
+    let none_found = none_of_map (λ (found : ℕ × Placed). found.1.place) (find (λ (found : ℕ × Placed). has_own_fault lines found.0 found.1.line) (enumerate_from 0 placed)) none in
+    let found = map_value (λ (at : Placed). at.line) (slice_get placed k) line (sym (slice_get-map (λ (at : Placed). at.line) placed k) ∙ is) in
+    let sound = each_numbered (λ (found : ℕ × Placed). has_own_fault lines found.0 found.1.line ≡ false) 0 placed k found.0 k (omega arith)
+        (each_of_find (λ (found : ℕ × Placed). has_own_fault lines found.0 found.1.line) (enumerate_from 0 placed) none_found) found.1 in
+    (k, ap (λ l. has_own_fault lines k l) found.2 ∙ sound)
+
+-- the lines of a child
+child_tested : (placed : List Placed) (tree : Node) (child : Child) → own_fault placed ≡ None → OuterAt (lines_in placed) tree → IsChildOf (children_of tree) child →
+    Each (IsTested (lines_in placed)) (lines_of child.tree)
+child_tested placed tree child none outer is_child =
+    let lines = lines_in placed in
+    let at = each_at (λ node. (b : ℕ) × (depth lines b ≡ suc (depth lines outer.0)) × (innermost lines b ≡ Some outer.0) × NodeAt 1 lines b node) (children_of tree) child.number child.tree (outer.2 2).2 is_child in
+    each-weaker (λ line place. line_tested placed place.0 line none place.1) (lines_of child.tree) at.3.1
+
+passes_step : {X : Type 0} (p : X → Bool) (x y : X) (xs : List X) (b : Bool) → p y ≡ b → (if b then Some y else find p xs) ≡ Some x → (find p xs ≡ Some x → p x ≡ true) → p x ≡ true
+passes_step p x y xs true passes found later = ap p (sym (ap (λ o. unwrap_or o x) found)) ∙ passes
+passes_step p x y xs false passes found later = later found
+
+found_passes : {X : Type 0} (p : X → Bool) (x : X) → (xs : List X) → find p xs ≡ Some x → p x ≡ true
+found_passes p x [] is = absurd (none-some x is)
+found_passes p x (y ∷ xs) is = passes_step p x y xs (p y) refl is (found_passes p x xs)
+
+duration_short : (all lines : List Line) (length : Length) → Each (IsTested all) lines → value_at length_of (codes "DURATION") lines ≡ Some length → IsShort length
+duration_short all lines length tested is =
+    let found = and_then_value (λ (line : Line). length_of line.value) (one_of (codes "DURATION") lines) length is in
+    let test = test_holds all (codes "DURATION") (λ line. is_short_length (length_of line.value)) found.0 refl (found_passes (has_name (codes "DURATION")) found.0 lines found.1)
+        (each_found (IsTested all) (has_name (codes "DURATION")) lines tested found.0 found.1) in
+    sym (ap is_short_length found.2) ∙ test
+
+lasting_short : (kind : Kind) (start : Option Stamp) (length : Option Length) → ((l : Length) → length ≡ Some l → IsShort l) → Each IsShort (lengths_of_extent (extent_without_end kind start length))
+lasting_short kind None length short = tt
+lasting_short kind (Some start) (Some length) short = (short length refl, tt)
+lasting_short kind (Some start) None short = rw (no_lengths kind start) tt
+  where
+    no_lengths : (kind : Kind) (start : Stamp) → lengths_of_extent (end_of_start kind start) ≡ []
+    no_lengths Event (Date day) = refl
+    no_lengths Event (Floating local) = refl
+    no_lengths Event (Zoned local number) = refl
+    no_lengths Event (Utc moment) = refl
+    no_lengths Journal (Date day) = refl
+    no_lengths Journal (Floating local) = refl
+    no_lengths Journal (Zoned local number) = refl
+    no_lengths Journal (Utc moment) = refl
+    no_lengths Todo start = refl
+    no_lengths FreeBusy start = refl
+
+by_due : (due : Option Stamp) (other : Extent) → Each IsShort (lengths_of_extent other) → Each IsShort (lengths_of_extent (unwrap_or (option_map extent.Due due) other))
+by_due None other short = short
+by_due (Some due) other short = tt
+
+by_end : (end : Option Stamp) (other : Extent) → Each IsShort (lengths_of_extent other) → Each IsShort (lengths_of_extent (unwrap_or (option_map extent.End end) other))
+by_end None other short = short
+by_end (Some end) other short = tt
+
+without_end_short : (zones : List (List ℕ)) (all lines : List Line) (kind : Kind) → Each (IsTested all) lines →
+    Each IsShort (lengths_of_extent (extent_without_end kind (stamp_at zones (codes "DTSTART") lines) (value_at length_of (codes "DURATION") lines)))
+without_end_short zones all lines kind tested =
+    lasting_short kind (stamp_at zones (codes "DTSTART") lines) (value_at length_of (codes "DURATION") lines) (λ length is. duration_short all lines length tested is)
+
+abbrev end_beside : List (List ℕ) → Kind → List Line → Extent
+end_beside zones kind lines = extent_without_end kind (stamp_at zones (codes "DTSTART") lines) (value_at length_of (codes "DURATION") lines)
+
+extent_short : (zones : List (List ℕ)) (all lines : List Line) (kind : Kind) → Each (IsTested all) lines → Each IsShort (lengths_of_extent (extent_of zones kind lines))
+extent_short zones all lines Todo tested = by_due (stamp_at zones (codes "DUE") lines) (end_beside zones Todo lines) (without_end_short zones all lines Todo tested)
+extent_short zones all lines Event tested = by_end (stamp_at zones (codes "DTEND") lines) (end_beside zones Event lines) (without_end_short zones all lines Event tested)
+extent_short zones all lines Journal tested = by_end (stamp_at zones (codes "DTEND") lines) (end_beside zones Journal lines) (without_end_short zones all lines Journal tested)
+extent_short zones all lines FreeBusy tested = by_end (stamp_at zones (codes "DTEND") lines) (end_beside zones FreeBusy lines) (without_end_short zones all lines FreeBusy tested)
+
+-- periods
+
+if_true : (P : Period → Type 0) (xs : List Period) (b : Bool) → (b ≡ true → Each P xs) → Each P (if b then xs else [])
+if_true P xs true facts = facts refl
+if_true P xs false facts = tt
+
+-- the test of an RDATE, where it has periods
+test_of_dates : (line : Line) (b other : Bool) → b ≡ true → (if b then is_of_short_periods line else other) ≡ true → is_of_short_periods line ≡ true
+test_of_dates line true other is test = test
+test_of_dates line false other is test = absurd (false≢true is)
+
+or_false : (a b : Bool) → b ≡ false → (a || b) ≡ true → a ≡ true
+or_false true b none is = refl
+or_false false b none is = absurd (false≢true (sym none ∙ is))
+
+date_line_short : (zones : List (List ℕ)) (all : List Line) (line : Line) → has_name (codes "RDATE") line ≡ true → IsTested all line → Each HasShortEnd (periods_in zones line)
+date_line_short zones all line named tested =
+    let other : has_name (codes "FREEBUSY") line ≡ false = ap (λ n. bytes_eq n (codes "FREEBUSY")) ((bytes_eq-Decides line.name (codes "RDATE")).0 named) in
+    if_true HasShortEnd (unwrap_or (periods_in_grammar zones line) []) (is_of_periods line)
+    (λ is. line_short zones line (test_of_dates line (has_periods line) (is_of_stamps line) (or_false (has_periods line) (has_name (codes "FREEBUSY") line) other is) (test_holds all (codes "RDATE") is_of_dates line refl named tested)))
+
+busy_line_short : (zones : List (List ℕ)) (all : List Line) (line : Line) → has_name (codes "FREEBUSY") line ≡ true → IsTested all line → Each HasShortEnd (periods_in zones line)
+busy_line_short zones all line named tested =
+    if_true HasShortEnd (unwrap_or (periods_in_grammar zones line) []) (is_of_periods line) (λ is. line_short zones line (test_holds all (codes "FREEBUSY") is_of_short_periods line refl named tested))
+
+lines_tested : (all : List Line) (name : List ℕ) (lines : List Line) → Each (IsTested all) lines → Each (λ line. IsTested all line × (has_name name line ≡ true)) (all_of name lines)
+lines_tested all name lines tested =
+    each-both (IsTested all) (λ line. has_name name line ≡ true) (all_of name lines) (each-filter (IsTested all) (has_name name) lines tested) (each_passes (has_name name) lines)
+
+periods_short : (zones : List (List ℕ)) (all lines : List Line) → Each (IsTested all) lines → Each HasShortEnd (periods_at zones (codes "RDATE") lines)
+periods_short zones all lines tested =
+    each-flat_map HasShortEnd (periods_in zones) (all_of (codes "RDATE") lines)
+    (each-weaker (λ line facts. date_line_short zones all line facts.1 facts.0) (all_of (codes "RDATE") lines) (lines_tested all (codes "RDATE") lines tested))
+
+busy_short : (zones : List (List ℕ)) (all lines : List Line) → Each (IsTested all) lines → Each (λ (entry : Option Class × Period). HasShortEnd entry.1) (stored_busy_of zones lines)
+busy_short zones all lines tested =
+    each-flat_map (λ (entry : Option Class × Period). HasShortEnd entry.1) (λ (line : Line). map (λ period. (class_of line, period)) (periods_in zones line)) (all_of (codes "FREEBUSY") lines)
+    (each-weaker (λ line facts. each-map (λ (entry : Option Class × Period). HasShortEnd entry.1) (λ period. (class_of line, period)) (periods_in zones line) (busy_line_short zones all line facts.1 facts.0)) (all_of (codes "FREEBUSY") lines) (lines_tested all (codes "FREEBUSY") lines tested))
+
 -- Rows of the table that do not hold
 
 each_row : (rows : List (Bool × NotResource)) → option_map (λ (row : Bool × NotResource). row.1) (find (λ (row : Bool × NotResource). row.0) rows) ≡ None →
@@ -475,16 +589,17 @@ some_made : (o : Option Component) (made : List Component) (component : Componen
 some_made o made component is = rw is (omega arith)
 
 -- what is known of each child of the four kinds, beside the name of the first
-record IsSoundChild (tree : Node) (zones : List ZoneTable) (name : List ℕ) (child : Child) : Type 0 where
+record IsSoundChild (all : List Line) (tree : Node) (zones : List ZoneTable) (name : List ℕ) (child : Child) : Type 0 where
+  tested : Each (IsTested all) (lines_of child.tree)
   child_of_tree : IsChildOf (children_of tree) child
   sound : has_component_fault zones (lines_of child.tree) ≡ false
   known : lacks_zone (zone_names zones) (lines_of child.tree) ≡ false
   named : name ≡ name_of child.tree
   served : (kind : Kind) → kind_of child.tree ≡ Some kind → Each (λ line. Each IsServed (dated_stamps (zone_names zones) line)) (lines_of child.tree)
 
-component_facts : (tree : Node) (zones : List ZoneTable) (name : List ℕ) (kind : Kind) (object : Object) → object.kind ≡ kind → object.tree ≡ tree → object.zones ≡ zones → kind_named name ≡ Some kind →
-    (child : Child) (component : Component) → IsSoundChild tree zones name child → component_of_child (zone_names zones) child ≡ Some component → IsReadComponent object component
-component_facts tree zones name kind object object_kind object_tree object_zones name_kind child component facts made =
+component_facts : (all : List Line) (tree : Node) (zones : List ZoneTable) (name : List ℕ) (kind : Kind) (object : Object) → object.kind ≡ kind → object.tree ≡ tree → object.zones ≡ zones → kind_named name ≡ Some kind →
+    (child : Child) (component : Component) → IsSoundChild all tree zones name child → component_of_child (zone_names zones) child ≡ Some component → IsReadComponent object component
+component_facts all tree zones name kind object object_kind object_tree object_zones name_kind child component facts made =
     let source = is_made (zone_names zones) child component made in
     let kinds : source.kind ≡ kind = ap (λ o. unwrap_or o kind) (sym source.of_kind ∙ sym (ap kind_named facts.named) ∙ name_kind) in
     let its_kind : component.kind ≡ source.kind = ap (λ (c : Component). c.kind) source.is in
@@ -499,19 +614,23 @@ component_facts tree zones name kind object object_kind object_tree object_zones
       usable_rules = rw source.is (usable_rules (lines_of child.tree));
       known_zones = rw (object_zones, source.is) (All-from_recursion (IsKnown zones) (stamps_of (component_of (zone_names zones) child.number source.kind child.tree)) (each_stamp (IsNamed (zone_names zones)) (zone_names zones) child.number source.kind child.tree (lines_known (zone_names zones) (lines_of child.tree) facts.known)));
       served = rw source.is (All-from_recursion IsServed (stamps_of (component_of (zone_names zones) child.number source.kind child.tree)) (each_stamp IsServed (zone_names zones) child.number source.kind child.tree (facts.served source.kind source.of_kind)));
+      short_extent = rw source.is (All-from_recursion IsShort (lengths_of_extent (extent_of (zone_names zones) source.kind (lines_of child.tree))) (extent_short (zone_names zones) all (lines_of child.tree) source.kind facts.tested));
+      short_periods = rw source.is (All-from_recursion HasShortEnd (periods_at (zone_names zones) (codes "RDATE") (lines_of child.tree)) (periods_short (zone_names zones) all (lines_of child.tree) facts.tested));
+      short_busy = rw source.is (All-from_recursion (λ (entry : Option Class × Period). HasShortEnd entry.1) (stored_busy_of (zone_names zones) (lines_of child.tree)) (busy_short (zone_names zones) all (lines_of child.tree) facts.tested));
     }
 
 -- the facts of all children together
-sound_children : (tree : Node) (zones : List ZoneTable) (name : List ℕ) (children : List Child) → Each (IsChildOf (children_of tree)) children →
+sound_children : (all : List Line) (tree : Node) (zones : List ZoneTable) (name : List ℕ) (children : List Child) → Each (IsChildOf (children_of tree)) children →
     Each (λ (child : Child). has_component_fault zones (lines_of child.tree) ≡ false) children →
     Each (λ (child : Child). lacks_zone (zone_names zones) (lines_of child.tree) ≡ false) children →
     Each (λ (child : Child). name ≡ name_of child.tree) children →
     ((child : Child) (kind : Kind) → IsChildOf (children_of tree) child → kind_of child.tree ≡ Some kind → Each (λ line. Each IsServed (dated_stamps (zone_names zones) line)) (lines_of child.tree)) →
-    Each (IsSoundChild tree zones name) children
-sound_children tree zones name [] numbers sound known named served = tt
-sound_children tree zones name (child ∷ children) numbers sound known named served = (
-  record { child_of_tree = numbers.0; sound = sound.0; known = known.0; named = named.0; served = λ kind of_kind. served child kind numbers.0 of_kind },
-  sound_children tree zones name children numbers.1 sound.1 known.1 named.1 served,
+    ((child : Child) → IsChildOf (children_of tree) child → Each (IsTested all) (lines_of child.tree)) →
+    Each (IsSoundChild all tree zones name) children
+sound_children all tree zones name [] numbers sound known named served tested = tt
+sound_children all tree zones name (child ∷ children) numbers sound known named served tested = (
+  record { tested = tested child numbers.0; child_of_tree = numbers.0; sound = sound.0; known = known.0; named = named.0; served = λ kind of_kind. served child kind numbers.0 of_kind },
+  sound_children all tree zones name children numbers.1 sound.1 known.1 named.1 served tested,
 )
 
 -- each table is that of the parts of its VTIMEZONE
@@ -520,13 +639,14 @@ zones_are [] = tt
 zones_are (node ∷ nodes) = (record { parts = parts_of node; table = refl }, zones_are nodes)
 
 -- an object of children that are sound
-whole_object : (tree : Node) (zones : List ZoneTable) (children : List Child) → All IsZone zones → Each (IsChildOf (children_of tree)) children →
+whole_object : (all : List Line) (tree : Node) (zones : List ZoneTable) (children : List Child) → All IsZone zones → Each (IsChildOf (children_of tree)) children →
     Each (λ (child : Child). is_some (kind_of child.tree) ≡ true) children →
     component_fault zones children ≡ None → resource_fault (object_of zones tree children) children ≡ None →
     ((child : Child) (kind : Kind) → IsChildOf (children_of tree) child → kind_of child.tree ≡ Some kind → Each (λ line. Each IsServed (dated_stamps (zone_names zones) line)) (lines_of child.tree)) →
+    ((child : Child) → IsChildOf (children_of tree) child → Each (IsTested all) (lines_of child.tree)) →
     IsReadObject (object_of zones tree children)
-whole_object tree zones [] tables numbers kinds sound stored served = absurd (false≢true (sym (is_storable (object_of zones tree []) [] stored).some))
-whole_object tree zones (child ∷ children) tables numbers kinds sound stored served =
+whole_object all tree zones [] tables numbers kinds sound stored served tested = absurd (false≢true (sym (is_storable (object_of zones tree []) [] stored).some))
+whole_object all tree zones (child ∷ children) tables numbers kinds sound stored served tested =
     let names = zone_names zones in
     let object = object_of zones tree (child ∷ children) in
     let rows = is_storable object (child ∷ children) stored in
@@ -537,13 +657,13 @@ whole_object tree zones (child ∷ children) tables numbers kinds sound stored s
     let named = each_of_map (λ other. name ≡ other) (λ (c : Child). name_of c.tree) (child ∷ children) (each_first name (map (λ (c : Child). name_of c.tree) children) rows.one_kind) in
     let standing = each_of_find (λ (c : Child). has_component_fault zones (lines_of c.tree)) (child ∷ children)
     (none_of_map (λ (c : Child). c.place) (find (λ (c : Child). has_component_fault zones (lines_of c.tree)) (child ∷ children)) sound) in
-    let facts = sound_children tree zones name (child ∷ children) numbers standing rows.zones named served in
+    let facts = sound_children all tree zones name (child ∷ children) numbers standing rows.zones named served tested in
     let kind = first_kind (component_of_child names child) (filter_map (component_of_child names) children) (component_of names child.number its_kind.0 child.tree) made in
     record {
       some = some_made (component_of_child names child) (filter_map (component_of_child names) children) (component_of names child.number its_kind.0 child.tree) made;
       components = All-from_recursion (IsReadComponent object) object.components
-          (each-filter_map (IsSoundChild tree zones name) (IsReadComponent object) (component_of_child names)
-          (component_facts tree zones name its_kind.0 object kind refl refl its_kind.1) (child ∷ children) facts);
+          (each-filter_map (IsSoundChild all tree zones name) (IsReadComponent object) (component_of_child names)
+          (component_facts all tree zones name its_kind.0 object kind refl refl its_kind.1) (child ∷ children) facts);
       zones = tables;
       one_master = ltb-false 1 (length (masters object)) rows.one_master;
     }
@@ -556,9 +676,10 @@ IsReadObject-read object read =
     let tree = found.0 in
     let sound = is_sound every_moment placed tree object found.1 in
     subst IsReadObject (sym found.1.is)
-    (whole_object tree (zones_of every_moment tree) (kinds_among (children_in placed tree))
+    (whole_object (lines_in placed) tree (zones_of every_moment tree) (kinds_among (children_in placed tree))
     (All-from_recursion IsZone (zones_of every_moment tree) (zones_are (filter is_zone (children_of tree))))
     (each-filter (IsChildOf (children_of tree)) (λ (child : Child). is_some (kind_of child.tree)) (children_in placed tree) (children_are placed tree))
     (each_passes (λ (child : Child). is_some (kind_of child.tree)) (children_in placed tree))
     sound.component sound.resource
-    (λ child kind is_child of_kind. child_served (zone_names (zones_of every_moment tree)) (lines_in placed) tree child kind sound.outside (tree_at (lines_in placed) tree found.1.nested found.1.built) is_child of_kind))
+    (λ child kind is_child of_kind. child_served (zone_names (zones_of every_moment tree)) (lines_in placed) tree child kind sound.outside (tree_at (lines_in placed) tree found.1.nested found.1.built) is_child of_kind)
+    (λ child is_child. child_tested placed tree child sound.own (tree_at (lines_in placed) tree found.1.nested found.1.built) is_child))

@@ -2,6 +2,7 @@
 use Rattle.std.specs.Prelude.{◌≡◌, ℕ, ◌<◌, ◌≤◌, true, List, [], ◌∷◌, ◌++◌, flat_map, length, option_to_list, slice_get, Option, Some, Ok, All, ◌≤ℤ◌}
 use Rattle.cal_base.specs.declared.line.Node.{Node}
 use Rattle.cal_moment.specs.declared.stamp.Stamp.{Stamp}
+use Rattle.cal_moment.specs.declared.stamp.Length.{Length}
 use Rattle.cal_moment.specs.declared.stamp.Period.{Period}
 use Rattle.cal_model.specs.declared.object.Class.{Class}
 use Rattle.cal_model.specs.declared.object.Component.{Component}
@@ -17,6 +18,7 @@ use Rattle.cal_model.specs.StampTexts.{is_known}
 use Rattle.cal_model.specs.ZoneOnsets.{table_of}
 use Rattle.cal_model.specs.Rows.{masters}
 use Rattle.cal_model.specs.ComponentLines.{children_of, kind_of}
+use Rattle.cal_model.specs.LineValues.{is_short, is_short_end}
 use Rattle.cal_model.specs.ZoneReading.{zone_names}
 use Rattle.cal_model.specs.ObjectFaults.{stamps_of_period}
 use Rattle.cal_model.specs.ObjectReading.{read_object}
@@ -53,6 +55,17 @@ pub record IsServed (stamp : Stamp) : Type 0 where
   pub from_first : first_date ≤ℤ written_value stamp
   pub to_last : written_value stamp ≤ℤ last_date
 
+-- at most 200,000 days, forward or back
+abbrev pub IsShort : Length → Type 0
+IsShort length = is_short length ≡ true
+
+abbrev pub HasShortEnd : Period → Type 0
+HasShortEnd period = is_short_end period.end ≡ true
+
+abbrev pub lengths_of_extent : Extent → List Length
+lengths_of_extent (extent.Lasting length) = length ∷ []
+lengths_of_extent other = []
+
 -- what holds of each component of an object
 pub record IsReadComponent (object : Object) (component : Component) : Type 0 where
   pub one_kind : component.kind ≡ object.kind
@@ -61,6 +74,9 @@ pub record IsReadComponent (object : Object) (component : Component) : Type 0 wh
   pub usable_rules : All IsUsable component.rules
   pub known_zones : All (IsKnown object.zones) (stamps_of component)
   pub served : All IsServed (stamps_of component)
+  pub short_extent : All IsShort (lengths_of_extent component.extent)
+  pub short_periods : All HasShortEnd component.periods
+  pub short_busy : All (λ (entry : Option Class × Period). HasShortEnd entry.1) component.stored_busy
 
 -- a table is that of some parts, and so has all that such tables have
 pub record IsZone (zone : ZoneTable) : Type 0 where
