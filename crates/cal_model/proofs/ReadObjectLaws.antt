@@ -26,6 +26,7 @@ use Rattle.cal_model.specs.declared.object.Kind.{Kind}
 use Rattle.cal_model.specs.declared.object.Kind.TheVariants.{Event, Todo, Journal, FreeBusy}
 use Rattle.cal_model.specs.StampTexts.{periods_in_grammar, has_periods, is_known, is_named as is_one_of}
 use Rattle.cal_model.specs.declared.object.NotResource.{NotResource}
+use Rattle.cal_model.specs.declared.object.NotResource.TheVariants.{ZoneMissing}
 use Rattle.cal_model.specs.declared.object.Object.{Object}
 use Rattle.cal_model.specs.declared.rule.Rule.{Rule}
 use Rattle.cal_model.specs.declared.zone.ZoneTable.{ZoneTable}
@@ -47,7 +48,7 @@ use Rattle.cal_model.specs.Limits.{first_date, last_date}
 use Rattle.cal_model.proofs.PlacedComponents.{LineIn, NodeAt, OuterAt, tree_at}
 use Rattle.cal_model.proofs.EachLemmas.{neither, none_of_map, each_of_find, each_of_any, each-weaker, each-both, each-filter, each_passes, each-map, each_of_map, each-filter_map, each-append, each_of_append, each-flat_map, each_of_flat_map}
 use Rattle.cal_model.specs.ObjectFaults.{Child, child_of, child_places, children_in, zones_among, kinds_among, zone_fault, component_fault, resource_fault, component_of_child, dated_names, dated_stamps, stamps_of_period, lacks_zone, stamp_outside, all_stamps, stamps_of_line, is_early, is_late, is_in_kind, is_in_alarm, trigger_stamps, object_of, has_component_fault, is_bad_end, is_bad_period, is_bad_length, has_two_ends, are_different, resource_faults}
-use Rattle.cal_model.specs.ObjectReading.{Unread, not_calendar, not_resource, date_outside, place_at, line_of_fault, first_there, calendar_faults, object_in, object_faults, read_tree, read_lines_by, read_object_over}
+use Rattle.cal_model.specs.ObjectReading.{Unread, not_calendar, not_resource, date_outside, place_at, line_of_fault, first_there, calendar_faults, object_in, object_faults, read_tree, read_lines_by, read_object_over, read_zone_tree, read_zone}
 
 -- Where a reading is Ok, no fault was there
 
@@ -683,3 +684,30 @@ IsReadObject-read object read =
     sound.component sound.resource
     (λ child kind is_child of_kind. child_served (zone_names (zones_of every_moment tree)) (lines_in placed) tree child kind sound.outside (tree_at (lines_in placed) tree found.1.nested found.1.built) is_child of_kind)
     (λ child is_child. child_tested placed tree child sound.own (tree_at (lines_in placed) tree found.1.nested found.1.built) is_child))
+
+-- The zone of a text
+
+first_of_each : {X : Type 0} (P : X → Type 0) (xs : List X) (x : X) → Each P xs → first xs ≡ Some x → P x
+first_of_each P [] x facts is = absurd (none-some x is)
+first_of_each P (y ∷ xs) x facts is = subst P (ap (λ found. unwrap_or found x) is) facts.0
+
+abbrev of_zone : Option ZoneTable → Result ZoneTable Unread
+of_zone zone = elim zone [ None ↦ Err (not_resource ZoneMissing) | Some z ↦ Ok z ]
+
+abbrev unless_bad : Option Unread → Result ZoneTable Unread → Result ZoneTable Unread
+unless_bad fault read = elim fault [ Some f ↦ Err f | None ↦ read ]
+
+zone_found : (fault : Option Unread) (found : Option ZoneTable) (zone : ZoneTable) → unless_bad fault (of_zone found) ≡ Ok zone → found ≡ Some zone
+zone_found (Some fault) found zone good = absurd (false≢true (ap is_ok good))
+zone_found None None zone good = absurd (false≢true (ap is_ok good))
+zone_found None (Some one) zone good = ap (λ r. Some (result_unwrap_or r one)) good
+
+-- the zone that a text is has the table of some parts
+pub IsZone-read_zone : (octets : List ℕ) (zone : ZoneTable) → read_zone octets ≡ Ok zone → IsZone zone
+IsZone-read_zone octets zone good =
+    let placed = placed_lines octets in
+    let lines = after_lines (line_fault octets) (read_lines_by (read_zone_tree every_moment) placed) zone good in
+    let nested = after_nesting placed (nesting_fault (lines_in placed)) (of_tree (read_zone_tree every_moment placed) (tree_of (lines_in placed))) zone lines in
+    let found = after_tree (read_zone_tree every_moment placed) (tree_of (lines_in placed)) zone nested in
+    first_of_each IsZone (zones_of every_moment found.0) zone (zones_are (filter is_zone (children_of found.0)))
+    (zone_found (first_there (calendar_faults every_moment placed found.0)) (first (zones_of every_moment found.0)) zone found.2)
