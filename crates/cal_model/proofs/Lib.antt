@@ -31,3 +31,7 @@ pub mod RuleBounds
 pub mod OpenComponents
 pub mod PlacedComponents
 pub mod LineTests
+pub mod ReadingSteps
+pub mod ComponentStamps
+pub mod ServedDates
+pub mod ShortLengths

@@ -1,25 +1,23 @@
 -- Of a text without fault, each line passes the test of its name; and what the tests say of lengths.
 use Rattle.std.proofs.Common.{◌≡◌, ℕ, Bool, true, false, List, [], ◌∷◌, map, refl, sym, ap, ap₂, ◌∙◌}
-use Rattle.std.specs.Prelude.{Option, Some, None, find, not, ◌&&◌, ◌||◌, if◌then◌else◌, option_map, option_and_then, unwrap_or, slice_get, bytes_eq, is_some, codes}
-use Rattle.std.specs.List.{AllByRecursion as Each, enumerate_from, list_any, list_all}
+use Rattle.std.specs.Prelude.{Option, Some, None, find, not, ◌&&◌, if◌then◌else◌, option_map, unwrap_or, bytes_eq, is_some}
+use Rattle.std.specs.List.{AllByRecursion as Each, list_any, list_all}
 use Rattle.std.proofs.lemmas.Bool.{false≢true}
-use Rattle.std.proofs.lemmas.Option.{none-some, slice_get-map}
+use Rattle.std.proofs.lemmas.Option.{none-some}
 use Rattle.std.proofs.lemmas.Slice.Eq.{bytes_eq-Decides}
 use Rattle.cal_base.specs.declared.line.Line.{Line}
-use Rattle.cal_base.specs.ContentLines.{Placed, every}
-use Rattle.cal_moment.specs.declared.stamp.Length.{Length}
+use Rattle.cal_base.specs.ContentLines.{every}
 use Rattle.cal_base.specs.ComponentTrees.{or_else}
 use Rattle.cal_moment.specs.declared.stamp.Local.{Local}
 use Rattle.cal_moment.specs.declared.stamp.Period.{Period}
-use Rattle.cal_moment.specs.declared.stamp.PeriodEnd.TheVariants.{At as EndAt, After}
+use Rattle.cal_moment.specs.declared.stamp.PeriodEnd.TheVariants.{At as EndAt}
 use Rattle.cal_model.specs.ValueTexts.{date_time_of, cut}
-use Rattle.cal_model.specs.StampTexts.{is_named as is_one_of, utc_names, utc_stamp, time_stamp, stamp_of_time, zone_of, items_of, length_ahead, period_end, period_of_ends, period_with, period_of, periods_in_grammar, has_periods}
+use Rattle.cal_model.specs.StampTexts.{is_named as is_one_of, utc_names, utc_stamp, time_stamp, stamp_of_time, zone_of, items_of, length_ahead, period_end, period_of_ends, period_with, period_of, periods_in_grammar}
 use Rattle.cal_moment.specs.declared.stamp.PeriodEnd.{PeriodEnd}
 use Rattle.cal_moment.specs.declared.stamp.Stamp.{Stamp}
-use Rattle.cal_model.specs.LineValues.{looked_at, cannot_stand, has_own_fault, own_fault, lines_in, repeatable, is_second, is_short, is_short_length, is_short_end, are_short_periods}
+use Rattle.cal_model.specs.LineValues.{looked_at, cannot_stand, has_own_fault, repeatable, is_second, is_short_end, are_short_periods}
 use Rattle.cal_model.specs.ReadObjects.{HasShortEnd}
-use Rattle.cal_model.proofs.EachLemmas.{neither, both_hold, none_of_map, each_of_find}
-use Rattle.cal_model.proofs.RuleBounds.{map_value}
+use Rattle.cal_model.proofs.EachLemmas.{neither, both_hold}
 
 -- a line of the text, by its number, has no fault of its own
 abbrev pub IsTested : List Line → Line → Type 0
@@ -34,9 +32,9 @@ pub test_holds : (lines : List Line) (name : List ℕ) (test : Line → Bool) (l
     bytes_eq line.name name ≡ true → IsTested lines line → test line ≡ true
 test_holds lines name test line row named (k, sound) =
     let found : find (λ (row : List ℕ × (Line → Bool)). bytes_eq row.0 line.name) looked_at ≡ Some (name, test) =
-        ap (λ n. find (λ (row : List ℕ × (Line → Bool)). bytes_eq row.0 n) looked_at) ((bytes_eq-Decides line.name name).0 named) ∙ row in
+    ap (λ n. find (λ (row : List ℕ × (Line → Bool)). bytes_eq row.0 n) looked_at) ((bytes_eq-Decides line.name name).0 named) ∙ row in
     let stands : cannot_stand lines k line test ≡ false =
-        sym (ap (λ (o : Option (List ℕ × (Line → Bool))). elim o [ None ↦ false | Some r ↦ cannot_stand lines k line r.1 ]) found) ∙ sound in
+    sym (ap (λ (o : Option (List ℕ × (Line → Bool))). elim o [ None ↦ false | Some r ↦ cannot_stand lines k line r.1 ]) found) ∙ sound in
     known_true (test line) (neither (not (test line)) (not (list_any (bytes_eq line.name) repeatable) && is_second lines k line) stands).0
 
 -- Lengths of periods do not depend on zones
