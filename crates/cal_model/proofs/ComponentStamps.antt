@@ -22,7 +22,7 @@ use Rattle.cal_model.specs.StampTexts.{is_known, is_named as is_one_of}
 use Rattle.cal_model.specs.LineValues.{stamps_in, periods_in, stamps_at, periods_at, stamp_at, value_at}
 use Rattle.cal_model.specs.ValueTexts.{length_of}
 use Rattle.cal_model.specs.ComponentLines.{has_name, all_of, kind_of, lines_of}
-use Rattle.cal_model.specs.ComponentReading.{class_of, stored_busy_of, end_of_start, extent_without_end, extent_of, component_of}
+use Rattle.cal_model.specs.ComponentReading.{class_of, stored_busy_of, end_by_start, extent_without_end, extent_of, component_of}
 use Rattle.cal_model.specs.ReadObjects.{stamps_of_extent, stamps_of}
 use Rattle.cal_model.proofs.EachLemmas.{each_of_any, each-weaker, each-both, each-filter, each_passes, each-map, each-append, each_of_append, each-flat_map, each_of_flat_map}
 use Rattle.cal_model.specs.ObjectFaults.{Child, component_of_child, dated_names, dated_stamps, stamps_of_period, lacks_zone}
@@ -111,22 +111,31 @@ pub each_one_at : (P : Stamp → Type 0) (zones : List (List ℕ)) (name : List 
 each_one_at P zones name lines dated known = each_first_one P zones (stamps_at zones name lines) (each_stamp_at P zones name lines dated known)
 
 -- an extent that no end gives has no stamp
-pub end_of_start-stamps : (kind : Kind) (start : Stamp) → stamps_of_extent (end_of_start kind start) ≡ []
-end_of_start-stamps Event (Date day) = refl
-end_of_start-stamps Event (Floating local) = refl
-end_of_start-stamps Event (Zoned local number) = refl
-end_of_start-stamps Event (Utc moment) = refl
-end_of_start-stamps Journal (Date day) = refl
-end_of_start-stamps Journal (Floating local) = refl
-end_of_start-stamps Journal (Zoned local number) = refl
-end_of_start-stamps Journal (Utc moment) = refl
-end_of_start-stamps Todo start = refl
-end_of_start-stamps FreeBusy start = refl
+pub end_by_start-stamps : (kind : Kind) (start : Option Stamp) → stamps_of_extent (end_by_start kind start) ≡ []
+end_by_start-stamps Event None = refl
+end_by_start-stamps Event (Some (Date day)) = refl
+end_by_start-stamps Event (Some (Floating local)) = refl
+end_by_start-stamps Event (Some (Zoned local number)) = refl
+end_by_start-stamps Event (Some (Utc moment)) = refl
+end_by_start-stamps Journal None = refl
+end_by_start-stamps Journal (Some (Date day)) = refl
+end_by_start-stamps Journal (Some (Floating local)) = refl
+end_by_start-stamps Journal (Some (Zoned local number)) = refl
+end_by_start-stamps Journal (Some (Utc moment)) = refl
+end_by_start-stamps Todo None = refl
+end_by_start-stamps Todo (Some (Date day)) = refl
+end_by_start-stamps Todo (Some (Floating local)) = refl
+end_by_start-stamps Todo (Some (Zoned local number)) = refl
+end_by_start-stamps Todo (Some (Utc moment)) = refl
+end_by_start-stamps FreeBusy None = refl
+end_by_start-stamps FreeBusy (Some (Date day)) = refl
+end_by_start-stamps FreeBusy (Some (Floating local)) = refl
+end_by_start-stamps FreeBusy (Some (Zoned local number)) = refl
+end_by_start-stamps FreeBusy (Some (Utc moment)) = refl
 
 pub extent_without_end-stamps : (kind : Kind) (start : Option Stamp) (length : Option Length) → stamps_of_extent (extent_without_end kind start length) ≡ []
-extent_without_end-stamps kind None length = refl
-extent_without_end-stamps kind (Some start) (Some length) = refl
-extent_without_end-stamps kind (Some start) None = end_of_start-stamps kind start
+extent_without_end-stamps kind start (Some length) = refl
+extent_without_end-stamps kind start None = end_by_start-stamps kind start
 
 pub each_due : (P : Stamp → Type 0) (zones : List (List ℕ)) (end : Option Stamp) (other : Extent) → stamps_of_extent other ≡ [] → Each P (option_to_list end) →
     Each P (stamps_of_extent (unwrap_or (option_map extent.Due end) other))

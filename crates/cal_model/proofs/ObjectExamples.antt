@@ -14,6 +14,7 @@ use Rattle.cal_moment.specs.declared.stamp.Stamp.{Stamp}
 use Rattle.cal_moment.specs.declared.stamp.Stamp.TheVariants.{Date, Floating, Zoned, Utc}
 use Rattle.cal_model.specs.declared.object.Component.{Component}
 use Rattle.cal_model.specs.declared.object.Class.TheVariants.{Busy, Unavailable, Tentative}
+use Rattle.cal_model.specs.declared.object.Extent.{Extent}
 use Rattle.cal_model.specs.declared.object.Extent.TheVariants as extent
 use Rattle.cal_model.specs.declared.object.Kind.{Kind}
 use Rattle.cal_model.specs.declared.object.Kind.TheVariants.{Event, Todo, Journal, FreeBusy}
@@ -129,6 +130,23 @@ todo_of_a_day : components_in (codes "BEGIN:VTODO\nUID:one\nDTSTART:20250310\nDT
 } ∷ [])
 unfolding is_utf8 chars encode date_of time_of date_time_of count_of integer_of length_of offset_of stamps_in_grammar periods_in_grammar trigger_of rule_in_grammar N.out-Node N.roll-Node B.shown-the_row-Node-0 B.hidden-the_row-Node-0 B.shape-the_row-Node-0 H.out H.roll H.shown H.hidden
 todo_of_a_day = refl
+
+-- how each kind ends by DURATION, and by no line
+abbrev extents_in : List ℕ → Option (List Extent)
+extents_in inside = option_map (map (λ (c : Component). c.extent)) (components_in inside)
+
+ends : map extents_in (
+    codes "BEGIN:VEVENT\nUID:one\nDURATION:PT1H\nEND:VEVENT\n"
+    ∷ codes "BEGIN:VFREEBUSY\nUID:one\nDTSTART:20250310T090000Z\nDURATION:PT1H\nEND:VFREEBUSY\n"
+    ∷ codes "BEGIN:VEVENT\nUID:one\nEND:VEVENT\n"
+    ∷ codes "BEGIN:VTODO\nUID:one\nEND:VTODO\n"
+    ∷ codes "BEGIN:VTODO\nUID:one\nDTSTART:20250310T090000Z\nEND:VTODO\n"
+    ∷ codes "BEGIN:VFREEBUSY\nUID:one\nDTSTART:20250310T090000Z\nEND:VFREEBUSY\n"
+    ∷ codes "BEGIN:VJOURNAL\nUID:one\nDTSTART:20250310T090000Z\nEND:VJOURNAL\n" ∷ []
+    ) ≡ Some (extent.Lasting hour ∷ []) ∷ Some (extent.Lasting hour ∷ []) ∷ Some (extent.Point ∷ []) ∷ Some (extent.None ∷ []) ∷ Some (extent.Point ∷ [])
+    ∷ Some (extent.None ∷ []) ∷ Some (extent.Point ∷ []) ∷ []
+unfolding is_utf8 chars encode date_of time_of date_time_of count_of integer_of length_of offset_of stamps_in_grammar periods_in_grammar trigger_of rule_in_grammar N.out-Node N.roll-Node B.shown-the_row-Node-0 B.hidden-the_row-Node-0 B.shape-the_row-Node-0 H.out H.roll H.shown H.hidden
+ends = refl
 
 -- a VJOURNAL is free, and lasts its day
 journal : components_in (codes "BEGIN:VJOURNAL\nUID:one\nDTSTART:20250310\nSTATUS:TENTATIVE\nEND:VJOURNAL\n") ≡ Some (record (nothing_said Journal) {

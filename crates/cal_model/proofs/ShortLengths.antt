@@ -24,7 +24,7 @@ use Rattle.cal_model.specs.LineValues.{has_own_fault, is_short_length, is_of_sho
 use Rattle.cal_model.specs.ValueTexts.{length_of}
 use Rattle.cal_model.proofs.RuleBounds.{map_value, and_then_value, each_found}
 use Rattle.cal_model.specs.ComponentLines.{one_of, has_name, all_of, children_of, lines_of}
-use Rattle.cal_model.specs.ComponentReading.{class_of, stored_busy_of, end_of_start, extent_without_end, extent_of}
+use Rattle.cal_model.specs.ComponentReading.{class_of, stored_busy_of, end_by_start, extent_without_end, extent_of}
 use Rattle.cal_model.specs.ReadObjects.{IsShort, HasShortEnd, lengths_of_extent}
 use Rattle.cal_model.proofs.LineTests.{IsTested, test_holds, line_short}
 use Rattle.cal_model.proofs.PlacedComponents.{NodeAt, OuterAt}
@@ -68,22 +68,31 @@ duration_short all lines length tested is =
     (each_found (IsTested all) (has_name (codes "DURATION")) lines tested found.0 found.1) in
     sym (ap is_short_length found.2) ∙ test
 
+pub end_by_start-lengths : (kind : Kind) (start : Option Stamp) → lengths_of_extent (end_by_start kind start) ≡ []
+end_by_start-lengths Event None = refl
+end_by_start-lengths Event (Some (Date day)) = refl
+end_by_start-lengths Event (Some (Floating local)) = refl
+end_by_start-lengths Event (Some (Zoned local number)) = refl
+end_by_start-lengths Event (Some (Utc moment)) = refl
+end_by_start-lengths Journal None = refl
+end_by_start-lengths Journal (Some (Date day)) = refl
+end_by_start-lengths Journal (Some (Floating local)) = refl
+end_by_start-lengths Journal (Some (Zoned local number)) = refl
+end_by_start-lengths Journal (Some (Utc moment)) = refl
+end_by_start-lengths Todo None = refl
+end_by_start-lengths Todo (Some (Date day)) = refl
+end_by_start-lengths Todo (Some (Floating local)) = refl
+end_by_start-lengths Todo (Some (Zoned local number)) = refl
+end_by_start-lengths Todo (Some (Utc moment)) = refl
+end_by_start-lengths FreeBusy None = refl
+end_by_start-lengths FreeBusy (Some (Date day)) = refl
+end_by_start-lengths FreeBusy (Some (Floating local)) = refl
+end_by_start-lengths FreeBusy (Some (Zoned local number)) = refl
+end_by_start-lengths FreeBusy (Some (Utc moment)) = refl
+
 pub lasting_short : (kind : Kind) (start : Option Stamp) (length : Option Length) → ((l : Length) → length ≡ Some l → IsShort l) → Each IsShort (lengths_of_extent (extent_without_end kind start length))
-lasting_short kind None length short = tt
-lasting_short kind (Some start) (Some length) short = (short length refl, tt)
-lasting_short kind (Some start) None short = rw (no_lengths kind start) tt
-  where
-    no_lengths : (kind : Kind) (start : Stamp) → lengths_of_extent (end_of_start kind start) ≡ []
-    no_lengths Event (Date day) = refl
-    no_lengths Event (Floating local) = refl
-    no_lengths Event (Zoned local number) = refl
-    no_lengths Event (Utc moment) = refl
-    no_lengths Journal (Date day) = refl
-    no_lengths Journal (Floating local) = refl
-    no_lengths Journal (Zoned local number) = refl
-    no_lengths Journal (Utc moment) = refl
-    no_lengths Todo start = refl
-    no_lengths FreeBusy start = refl
+lasting_short kind start (Some length) short = (short length refl, tt)
+lasting_short kind start None short = rw (end_by_start-lengths kind start) tt
 
 pub by_due : (due : Option Stamp) (other : Extent) → Each IsShort (lengths_of_extent other) → Each IsShort (lengths_of_extent (unwrap_or (option_map extent.Due due) other))
 by_due None other short = short

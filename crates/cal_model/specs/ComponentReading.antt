@@ -15,7 +15,7 @@ use Rattle.cal_model.specs.declared.object.Component.{Component}
 use Rattle.cal_model.specs.declared.object.Extent.{Extent}
 use Rattle.cal_model.specs.declared.object.Extent.TheVariants as extent
 use Rattle.cal_model.specs.declared.object.Kind.{Kind}
-use Rattle.cal_model.specs.declared.object.Kind.TheVariants.{Event, Todo, Journal}
+use Rattle.cal_model.specs.declared.object.Kind.TheVariants.{Event, Todo, Journal, FreeBusy}
 use Rattle.cal_model.specs.declared.object.Trigger.{Trigger}
 use Rattle.cal_model.specs.ValueTexts.{length_of, moment_of}
 use Rattle.cal_model.specs.StampTexts.{param_value, trigger_of, repeat_of}
@@ -25,17 +25,18 @@ use Rattle.cal_model.specs.LineValues.{stamps_at, periods_in, periods_at, stamp_
 
 -- Ends
 
--- a DATE alone lasts its day in a VEVENT and a VJOURNAL
-abbrev pub end_of_start : Kind → Stamp → Extent
-end_of_start Event (Date day) = extent.WholeDay
-end_of_start Journal (Date day) = extent.WholeDay
-end_of_start kind start = extent.Point
+-- by no line: a DATE lasts its day in a VEVENT and a VJOURNAL
+abbrev pub end_by_start : Kind → Option Stamp → Extent
+end_by_start Event (Some (Date day)) = extent.WholeDay
+end_by_start Journal (Some (Date day)) = extent.WholeDay
+end_by_start Todo None = extent.None
+end_by_start FreeBusy start = extent.None
+end_by_start kind start = extent.Point
 
--- the end of a component by its DTSTART and DURATION, where no line says when it ends
+-- by DURATION, whether there is a start or not, or else by no line
 abbrev pub extent_without_end : Kind → Option Stamp → Option Length → Extent
-extent_without_end kind None length = extent.None
-extent_without_end kind (Some start) (Some length) = extent.Lasting length
-extent_without_end kind (Some start) None = end_of_start kind start
+extent_without_end kind start (Some length) = extent.Lasting length
+extent_without_end kind start None = end_by_start kind start
 
 -- a VTODO ends by DUE, and all others by DTEND
 abbrev pub end_stamp : List (List ℕ) → Kind → List Line → Option Extent
