@@ -35,3 +35,4 @@ pub mod ReadingSteps
 pub mod ComponentStamps
 pub mod ServedDates
 pub mod ShortLengths
+pub mod ZoneParts
