@@ -43,7 +43,7 @@ every_step : {X : Type 0} (o : Option X) (rest : List (Option X)) (xs : List X) 
 every_step None rest xs is = absurd (none-some xs is)
 every_step (Some x) rest xs is = let found = map_value (λ ys. x ∷ ys) (every rest) xs is in (x, found.0, refl, found.1, found.2)
 
-each_read : {X : Type 0} (P : X → Type 0) (item : List ℕ → Option X) → ((text : List ℕ) (x : X) → item text ≡ Some x → P x) →
+pub each_read : {X : Type 0} (P : X → Type 0) (item : List ℕ → Option X) → ((text : List ℕ) (x : X) → item text ≡ Some x → P x) →
     (texts : List (List ℕ)) (xs : List X) → every (map item texts) ≡ Some xs → Each P xs
 each_read P item reads [] xs is = subst (Each P) (ap (λ found. unwrap_or found xs) is) tt
 each_read P item reads (text ∷ texts) xs is =
