@@ -53,7 +53,7 @@ ends_alike (Some s) (Some s') None (Some e) ahead starts ends = absurd (false≢
 ends_alike (Some s) (Some s') (Some e) None ahead starts ends = absurd (false≢true (sym ends))
 ends_alike (Some s) (Some s') (Some e) (Some e') ahead starts ends = refl
 
-abbrev period_by : (List ℕ → Option Stamp) → Option (List ℕ × List ℕ) → Option Period
+abbrev pub period_by : (List ℕ → Option Stamp) → Option (List ℕ × List ℕ) → Option Period
 period_by moment parts = elim parts [ None ↦ None | Some p ↦ period_of_ends (moment p.0) (period_end moment p.1) ]
 
 parts_alike : (moment other : List ℕ → Option Stamp) → ((text : List ℕ) → is_some (moment text) ≡ is_some (other text)) → (parts : Option (List ℕ × List ℕ)) →

@@ -1,5 +1,5 @@
 -- The offsets and the rules of the parts of a zone that was read.
-use Rattle.std.proofs.Common.{◌≡◌, ℕ, ◌+◌, ◌*◌, ◌≤◌, Bool, true, false, List, [], ◌∷◌, ◌++◌, ap, arith, ℤ, pos, neg_ℤ, subst, ◌<◌, refl, min, sym, ◌+ℤ◌, ◌*ℤ◌}
+use Rattle.std.proofs.Common.{◌≡◌, ℕ, ◌+◌, ◌*◌, ◌≤◌, Bool, true, false, List, [], ◌∷◌, ◌++◌, ap, arith, ℤ, pos, neg_ℤ, subst, ◌<◌, refl, min, sym, map, ◌+ℤ◌, ◌*ℤ◌}
 use Rattle.std.specs.Prelude.{Option, Some, None, nat_le, ◌&&◌, bytes_eq, ◌≤ℤ◌, if◌then◌else◌, unwrap_or, take, drop, codes, option_map}
 use Rattle.std.proofs.lemmas.Bool.{leb-true}
 use Rattle.std.proofs.lemmas.Int.{ints}
@@ -8,17 +8,29 @@ use Rattle.cal_moment.specs.Calendar.{IsBetween, month_length, first_of_year, da
 use Rattle.cal_moment.proofs.CalendarLaws.{first_of_year-le, day_of_date-within, seconds_since_1970-moment_of_seconds}
 use Rattle.cal_moment.specs.declared.stamp.Day.{Day}
 use Rattle.cal_moment.specs.declared.stamp.Local.{Local}
-use Rattle.cal_model.specs.NextPassing.{IsWritten}
+use Rattle.cal_model.specs.NextPassing.{IsWritten, IsUsable, is_fine}
 use Rattle.std.specs.List.{AllByRecursion as Each}
 use Rattle.cal_base.specs.declared.line.Line.{Line}
 use Rattle.cal_moment.specs.declared.stamp.Stamp.{Stamp}
 use Rattle.cal_moment.specs.declared.stamp.Stamp.TheVariants.{Date, Floating, Zoned, Utc}
-use Rattle.cal_model.specs.StampTexts.{local_digits, stamp_of_time, time_stamp, utc_stamp, stamp_of, stamps_in_grammar, is_named as is_one_of, utc_names, is_date_text, zone_of, items_of}
-use Rattle.cal_model.proofs.RuleBounds.{map_value, each_read}
+use Rattle.std.proofs.lemmas.List.Elements.{All-from_recursion}
+use Rattle.cal_base.specs.ComponentTrees.{first}
+use Rattle.cal_moment.specs.declared.stamp.Period.{Period}
+use Rattle.cal_moment.specs.declared.stamp.PeriodEnd.{PeriodEnd}
+use Rattle.cal_model.specs.declared.rule.Rule.{Rule}
+use Rattle.cal_model.specs.declared.zone.ZonePart.{ZonePart}
+use Rattle.cal_model.specs.TableBounds.{IsOffset, IsPart}
+use Rattle.cal_model.specs.RuleTexts.{rule_of}
+use Rattle.cal_model.specs.ComponentLines.{all_of, one_of}
+use Rattle.cal_model.specs.LineValues.{is_of_periods, stamps_in, periods_in, stamps_at, stamp_at, value_at, rules_of}
+use Rattle.cal_model.specs.ZoneReading.{dates_of_line, part_dates, part_with, part_of_lines, has_fine_rule}
+use Rattle.cal_model.proofs.LineTests.{period_by}
+use Rattle.cal_model.specs.StampTexts.{local_digits, stamp_of_time, time_stamp, utc_stamp, stamp_of, stamps_in_grammar, is_named as is_one_of, utc_names, is_date_text, zone_of, items_of, period_of_ends, period_end, period_with, period_of, periods_in_grammar}
+use Rattle.cal_model.proofs.RuleBounds.{map_value, and_then_value, each_read, IsUsable-rule_of}
 use Rattle.cal_moment.specs.Texts.{digits, sign_text, signed, date_text, time_text, utc_text, local_of_seconds}
 use Rattle.cal_model.specs.UtcTexts.{number_at}
-use Rattle.cal_model.specs.ValueTexts.{is_date, is_time, date_of, time_of, date_time_of, local_time, moment_of_local, moment_of, offset_of, is_negative, second_text}
-use Rattle.cal_model.proofs.EachLemmas.{both_hold}
+use Rattle.cal_model.specs.ValueTexts.{is_date, is_time, date_of, time_of, date_time_of, local_time, moment_of_local, moment_of, cut, offset_of, is_negative, second_text}
+use Rattle.cal_model.proofs.EachLemmas.{both_hold, each_of_any, each-map, each-append, each-flat_map, each-filter_map}
 
 signed_within : (negative : Bool) (n : ℕ) → n ≤ 86_399 → IsBetween (neg_ℤ (pos 86_399)) (pos 86_399) (signed negative n)
 signed_within true n small = (omega (arith, ints), omega (arith, ints))
@@ -154,3 +166,93 @@ stamp_read zones line text stamp is = stamp_case (is_one_of utc_names line) (is_
 grammar_read : (zones : List (List ℕ)) (line : Line) (stamps : List Stamp) → stamps_in_grammar zones line ≡ Some stamps → Each HasDigits stamps
 unfolding stamps_in_grammar
 grammar_read zones line stamps is = each_read HasDigits (stamp_of zones line) (stamp_read zones line) (items_of line) stamps is
+
+-- Periods
+
+start_read : (moment : List ℕ → Option Stamp) → ((text : List ℕ) (stamp : Stamp) → moment text ≡ Some stamp → HasDigits stamp) → (a : List ℕ) (end : Option PeriodEnd) (start : Option Stamp) (period : Period) →
+    moment a ≡ start → period_of_ends start end ≡ Some period → HasDigits period.start
+start_read moment reads a end None period read is = absurd (none-some period is)
+start_read moment reads a None (Some start) period read is = absurd (none-some period is)
+start_read moment reads a (Some end) (Some start) period read is =
+    subst (λ (p : Period). HasDigits p.start) (ap (λ o. unwrap_or o period) is) (reads a start read)
+
+period_parts : (moment : List ℕ → Option Stamp) → ((text : List ℕ) (stamp : Stamp) → moment text ≡ Some stamp → HasDigits stamp) → (parts : Option (List ℕ × List ℕ)) (period : Period) →
+    period_by moment parts ≡ Some period → HasDigits period.start
+period_parts moment reads None period is = absurd (none-some period is)
+period_parts moment reads (Some p) period is = start_read moment reads p.0 (period_end moment p.1) (moment p.0) period refl is
+
+period_case : (utc : Bool) (number : Option ℕ) (text : List ℕ) (period : Period) → (if utc then period_with utc_stamp text else period_with (time_stamp number) text) ≡ Some period → HasDigits period.start
+period_case true number text period is = period_parts utc_stamp utc_stamp_read (cut 47 text) period is
+period_case false number text period is = period_parts (time_stamp number) (time_stamp_read number) (cut 47 text) period is
+
+periods_read : (zones : List (List ℕ)) (line : Line) (periods : List Period) → periods_in_grammar zones line ≡ Some periods → Each (λ (p : Period). HasDigits p.start) periods
+unfolding periods_in_grammar
+periods_read zones line periods is =
+    each_read (λ (p : Period). HasDigits p.start) (period_of zones line) (λ text period made. period_case (is_one_of utc_names line) (zone_of zones line) text period made) (items_of line) periods is
+
+-- Parts
+
+or_none : {X : Type 0} (P : X → Type 0) (o : Option (List X)) → ((xs : List X) → o ≡ Some xs → Each P xs) → Each P (unwrap_or o [])
+or_none P None facts = tt
+or_none P (Some xs) facts = facts xs refl
+
+if_else : {X : Type 0} (P : X → Type 0) (b : Bool) (xs ys : List X) → Each P xs → Each P ys → Each P (if b then xs else ys)
+if_else P true xs ys these those = these
+if_else P false xs ys these those = those
+
+stamps_in_digits : (line : Line) → Each HasDigits (stamps_in [] line)
+stamps_in_digits line =
+    if_else HasDigits (is_of_periods line) [] (unwrap_or (stamps_in_grammar [] line) []) tt (or_none HasDigits (stamps_in_grammar [] line) (grammar_read [] line))
+
+periods_in_digits : (line : Line) → Each (λ (p : Period). HasDigits p.start) (periods_in [] line)
+periods_in_digits line =
+    if_else (λ (p : Period). HasDigits p.start) (is_of_periods line) (unwrap_or (periods_in_grammar [] line) []) [] (or_none (λ (p : Period). HasDigits p.start) (periods_in_grammar [] line) (periods_read [] line)) tt
+
+all_lines : {P : Line → Type 0} → ((line : Line) → P line) → (lines : List Line) → Each P lines
+all_lines fact [] = tt
+all_lines fact (line ∷ lines) = (fact line, all_lines fact lines)
+
+stamps_at_digits : (name : List ℕ) (lines : List Line) → Each HasDigits (stamps_at [] name lines)
+stamps_at_digits name lines = each-flat_map HasDigits (stamps_in []) (all_of name lines) (all_lines stamps_in_digits (all_of name lines))
+
+first_digits : (stamps : List Stamp) (stamp : Stamp) → Each HasDigits stamps → first stamps ≡ Some stamp → HasDigits stamp
+first_digits [] stamp facts is = absurd (none-some stamp is)
+first_digits (one ∷ stamps) stamp facts is = subst HasDigits (ap (λ o. unwrap_or o stamp) is) facts.0
+
+line_dates : (line : Line) → Each IsWritten (dates_of_line line)
+line_dates line =
+    each-map IsWritten local_digits (stamps_in [] line ++ map (λ (period : Period). period.start) (periods_in [] line))
+    (each-append HasDigits (stamps_in [] line) (map (λ (period : Period). period.start) (periods_in [] line)) (stamps_in_digits line)
+    (each-map HasDigits (λ (period : Period). period.start) (periods_in [] line) (periods_in_digits line)))
+
+offset_at_name : (name : List ℕ) (lines : List Line) (offset : ℤ) → value_at offset_of name lines ≡ Some offset → IsOffset offset
+offset_at_name name lines offset is =
+    let found = and_then_value (λ (line : Line). offset_of line.value) (one_of name lines) offset is in offset_within found.0.value offset found.2
+
+rule_lines : (lines : List Line) → Each IsUsable (rules_of lines)
+rule_lines lines =
+    each-filter_map (λ line. Unit {0}) IsUsable (λ (line : Line). rule_of line.value) (λ line rule fact is. IsUsable-rule_of line.value rule is) (all_of (codes "RRULE") lines) (all_lines (λ line. tt) (all_of (codes "RRULE") lines))
+
+part_facts : (lines : List Line) (start : Option Stamp) (from to : Option ℤ) (part : ZonePart) → part_with lines start from to ≡ Some part → has_fine_rule part ≡ false →
+    ((s : Stamp) → start ≡ Some s → HasDigits s) → ((z : ℤ) → from ≡ Some z → IsOffset z) → ((z : ℤ) → to ≡ Some z → IsOffset z) → IsPart part
+part_facts lines None from to part is coarse starts froms tos = absurd (none-some part is)
+part_facts lines (Some s) None to part is coarse starts froms tos = absurd (none-some part is)
+part_facts lines (Some s) (Some f) None part is coarse starts froms tos = absurd (none-some part is)
+part_facts lines (Some s) (Some f) (Some t) part is coarse starts froms tos =
+    let made : record { start = local_digits s; from = f; to = t; rules = rules_of lines; dates = part_dates lines } ≡ part = ap (λ o. unwrap_or o part) is in
+    let plain = subst (λ (p : ZonePart). has_fine_rule p ≡ false) (sym made) coarse in
+    subst IsPart made (record {
+      start = starts s refl;
+      from = froms f refl;
+      to = tos t refl;
+      dates = All-from_recursion IsWritten (part_dates lines) (each-flat_map IsWritten dates_of_line (all_of (codes "RDATE") lines) (all_lines line_dates (all_of (codes "RDATE") lines)));
+      rules = All-from_recursion IsUsable (rules_of lines) (rule_lines lines);
+      coarse = All-from_recursion (λ (rule : Rule). is_fine rule.freq ≡ false) (rules_of lines) (each_of_any (λ (rule : Rule). is_fine rule.freq) (rules_of lines) plain);
+    })
+
+-- a part that is read and has no fine rule can be made a table of
+pub IsPart-part_of_lines : (lines : List Line) (part : ZonePart) → part_of_lines lines ≡ Some part → has_fine_rule part ≡ false → IsPart part
+IsPart-part_of_lines lines part is coarse =
+    part_facts lines (stamp_at [] (codes "DTSTART") lines) (value_at offset_of (codes "TZOFFSETFROM") lines) (value_at offset_of (codes "TZOFFSETTO") lines) part is coarse
+    (λ s found. first_digits (stamps_at [] (codes "DTSTART") lines) s (stamps_at_digits (codes "DTSTART") lines) found)
+    (offset_at_name (codes "TZOFFSETFROM") lines) (offset_at_name (codes "TZOFFSETTO") lines)
