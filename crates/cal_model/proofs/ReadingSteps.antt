@@ -3,7 +3,7 @@ use Rattle.std.proofs.Common.{◌≡◌, ℕ, ◌+◌, List, [], ◌∷◌, ◌+
 use Rattle.std.proofs.Math.Seq.{get_or-append_seam}
 use Rattle.std.proofs.lemmas.Option.{slice_get-get_or}
 use Rattle.std.specs.Prelude.{Option, Some, None, Result, Ok, Err, is_ok, option_map, slice_get, codes, if◌then◌else◌}
-use Rattle.std.specs.List.{AllByRecursion as Each, enumerate_from, zip}
+use Rattle.std.specs.List.{AllByRecursion as Each, enumerate_from}
 use Rattle.std.proofs.lemmas.Bool.{false≢true}
 use Rattle.std.proofs.lemmas.Option.{none-some}
 use Rattle.std.specs.Result.{result_unwrap_or}
@@ -15,7 +15,7 @@ use Rattle.cal_model.specs.LineValues.{lines_in, own_fault}
 use Rattle.cal_model.specs.ZoneReading.{zones_of, zone_names}
 use Rattle.cal_model.specs.ComponentLines.{is_named, children_of}
 use Rattle.cal_model.proofs.EachLemmas.{none_of_map}
-use Rattle.cal_model.specs.ObjectFaults.{Child, child_of, child_places, children_in, zones_among, kinds_among, zone_fault, component_fault, resource_fault, stamp_outside}
+use Rattle.cal_model.specs.ObjectFaults.{Child, child_at, child_places, children_in, zones_among, kinds_among, zone_fault, component_fault, resource_fault, stamp_outside}
 use Rattle.cal_model.specs.ObjectReading.{Unread, not_calendar, not_resource, date_outside, place_at, line_of_fault, first_there, calendar_faults, object_in, object_faults, read_tree, read_lines_by, read_object_over}
 
 -- Where a reading is Ok, no fault was there
@@ -141,14 +141,13 @@ pub seam_length : (before : List Node) (node : Node) → length before + 1 ≡ l
 seam_length before node = grind (arith, length-append)
 
 -- the nodes that stand behind others among all, each with its number
-pub children_from : (all before nodes : List Node) (number : ℕ) (places : List ℕ) → all ≡ before ++ nodes → number ≡ length before →
-    Each (IsChildOf all) (map child_of (enumerate_from number (zip places nodes)))
-children_from all before nodes number [] whole count = tt
-children_from all before [] number (place ∷ places) whole count = tt
-children_from all before (node ∷ nodes) number (place ∷ places) whole count = (
+pub children_from : (places : List ℕ) (all before nodes : List Node) (number : ℕ) → all ≡ before ++ nodes → number ≡ length before →
+    Each (IsChildOf all) (map (child_at places) (enumerate_from number nodes))
+children_from places all before [] number whole count = tt
+children_from places all before (node ∷ nodes) number whole count = (
   rw (whole, count) (seam before nodes node),
-  children_from all (before ++ node ∷ []) nodes (number + 1) places (whole ∙ sym (append_assoc before (node ∷ []) nodes)) (ap (λ n. n + 1) count ∙ seam_length before node),
+  children_from places all (before ++ node ∷ []) nodes (number + 1) (whole ∙ sym (append_assoc before (node ∷ []) nodes)) (ap (λ n. n + 1) count ∙ seam_length before node),
 )
 
 pub children_are : (placed : List Placed) (tree : Node) → Each (IsChildOf (children_of tree)) (children_in placed tree)
-children_are placed tree = children_from (children_of tree) [] (children_of tree) 0 (child_places placed) refl refl
+children_are placed tree = children_from (child_places placed) (children_of tree) [] (children_of tree) 0 refl refl

@@ -1,7 +1,7 @@
 -- Why a tree of lines is no calendar object: zones and components that cannot stand, with their places, what a calendar does not store (RFC 4791, 4.1), and dates outside those that are served.
 -- Each is a condition on a component, on the tree or on the list of all lines, and a table read from its top picks one.
-use Rattle.std.specs.Prelude.{ℕ, ◌+◌, ◌%◌, Bool, true, false, not, ◌&&◌, ◌||◌, ◌==◌, nat_lt, if◌then◌else◌, List, [], ◌∷◌, ◌++◌, map, length, take, filter, filter_map, flat_map, find, bytes_eq, Option, Some, None, is_some, option_map, unwrap_or, codes, pos, int_lt, nat_abs}
-use Rattle.std.specs.List.{list_any, enumerate_from, zip}
+use Rattle.std.specs.Prelude.{ℕ, ◌+◌, ◌%◌, Bool, true, false, not, ◌&&◌, ◌||◌, ◌==◌, nat_lt, if◌then◌else◌, List, [], ◌∷◌, ◌++◌, map, length, get_or, take, filter, filter_map, flat_map, find, bytes_eq, Option, Some, None, is_some, option_map, unwrap_or, codes, pos, int_lt, nat_abs}
+use Rattle.std.specs.List.{list_any, enumerate_from}
 use Rattle.cal_base.specs.declared.line.Line.{Line}
 use Rattle.cal_base.specs.declared.line.Param.{Param}
 use Rattle.cal_base.specs.declared.line.Node.{Node}
@@ -53,11 +53,12 @@ child_places placed =
     map (λ (found : ℕ × Placed). found.1.place)
     (filter (λ (found : ℕ × Placed). begins_child (lines_in placed) found.0 found.1.line) (enumerate_from 0 placed))
 
-abbrev pub child_of : ℕ × (ℕ × Node) → Child
-child_of (number, (place, tree)) = record { place = place; number = number; tree = tree }
+abbrev pub child_at : List ℕ → ℕ × Node → Child
+child_at places (number, tree) = record { place = get_or places number 0; number = number; tree = tree }
 
+-- the child of a number begins at the place of that number
 abbrev pub children_in : List Placed → Node → List Child
-children_in placed calendar = map child_of (enumerate_from 0 (zip (child_places placed) (children_of calendar)))
+children_in placed calendar = map (child_at (child_places placed)) (enumerate_from 0 (children_of calendar))
 
 -- those that define zones, and those of the four kinds; others are stored and do not count
 abbrev pub zones_among : List Child → List Child
