@@ -1,14 +1,14 @@
 -- What holds of each calendar object that was read, and of each zone.
-use Rattle.std.proofs.Common.{◌≡◌, ℕ, ◌<◌, ◌≤◌, List, [], ◌∷◌, ◌++◌, map, length, arith, refl, ap, sym, ◌∙◌, Bool, true, false, subst}
-use Rattle.std.specs.Prelude.{nat_lt, ◌||◌, not, bytes_eq, unwrap_or, All, Option, Some, None, is_some, Result, Ok, Err, is_ok, find, filter, filter_map, option_map, codes}
-use Rattle.std.specs.List.{AllByRecursion as Each, cons_option, list_any}
+use Rattle.std.proofs.Common.{◌≡◌, ℕ, ◌<◌, ◌≤◌, List, [], ◌∷◌, ◌++◌, map, length, arith, refl, ap, sym, ◌∙◌, Bool, true, false, subst, ◌+◌}
+use Rattle.std.specs.Prelude.{nat_lt, ◌||◌, not, bytes_eq, unwrap_or, All, Option, Some, None, is_some, Result, Ok, Err, is_ok, find, filter, filter_map, option_map, codes, take, if◌then◌else◌}
+use Rattle.std.specs.List.{AllByRecursion as Each, cons_option, list_any, enumerate_from}
 use Rattle.std.proofs.lemmas.Bool.{false≢true, ltb-false}
 use Rattle.std.proofs.lemmas.List.Elements.{All-from_recursion}
 use Rattle.std.proofs.lemmas.Slice.Eq.{bytes_eq-Decides}
 use Rattle.std.proofs.lemmas.Option.{none-some}
 use Rattle.std.specs.Result.{result_unwrap_or}
 use Rattle.cal_base.specs.declared.line.Node.{Node}
-use Rattle.cal_base.specs.ContentLines.{placed_lines, line_fault}
+use Rattle.cal_base.specs.ContentLines.{placed_lines, line_fault, Placed}
 use Rattle.cal_base.specs.ComponentTrees.{nesting_fault, tree_of, first}
 use Rattle.cal_base.specs.declared.line.Line.{Line}
 use Rattle.cal_moment.specs.declared.stamp.Period.{Period}
@@ -21,8 +21,11 @@ use Rattle.cal_model.specs.declared.object.NotResource.TheVariants.{ZoneMissing}
 use Rattle.cal_model.specs.declared.object.Object.{Object}
 use Rattle.cal_model.specs.declared.rule.Rule.{Rule}
 use Rattle.cal_model.specs.declared.zone.ZoneTable.{ZoneTable}
-use Rattle.cal_model.specs.LineValues.{periods_at, stamp_at, value_at, rules_of, lines_in}
-use Rattle.cal_model.specs.ZoneReading.{zones_of, zone_names, are_many, zone_table, is_zone, parts_of}
+use Rattle.cal_model.specs.TableBounds.{IsPart}
+use Rattle.cal_model.proofs.ZoneParts.{IsPart-part_of_lines}
+use Rattle.cal_model.specs.declared.zone.ZonePart.{ZonePart}
+use Rattle.cal_model.specs.LineValues.{periods_at, stamp_at, value_at, rules_of, lines_in, own_fault}
+use Rattle.cal_model.specs.ZoneReading.{zones_of, zone_names, are_many, zone_table, is_zone, parts_of, has_zone_fault, has_fine_rule, is_part, part_of_lines, are_too_many}
 use Rattle.cal_model.specs.ValueTexts.{length_of}
 use Rattle.cal_model.specs.Numbers.{is_empty}
 use Rattle.cal_model.specs.Rows.{masters}
@@ -30,15 +33,15 @@ use Rattle.cal_model.specs.RecurrenceSet.{every_moment}
 use Rattle.cal_model.specs.NextPassing.{IsUsable}
 use Rattle.cal_model.specs.RuleTexts.{rule_of}
 use Rattle.cal_model.proofs.RuleBounds.{IsUsable-rule_of}
-use Rattle.cal_model.specs.ComponentLines.{all_of, name_of, children_of, kind_named, kind_of, lines_of}
+use Rattle.cal_model.specs.ComponentLines.{all_of, name_of, children_of, kind_named, kind_of, lines_of, has, is_named}
 use Rattle.cal_model.specs.ComponentReading.{stored_busy_of, extent_of, component_of}
 use Rattle.cal_model.specs.ReadObjects.{stamps_of, IsKnown, IsReadComponent, IsZone, IsReadObject, IsRead, IsServed, IsShort, HasShortEnd, lengths_of_extent}
 use Rattle.cal_model.proofs.LineTests.{IsTested}
 use Rattle.cal_model.proofs.PlacedComponents.{tree_at}
-use Rattle.cal_model.proofs.EachLemmas.{neither, none_of_map, each_of_find, each_of_any, each-weaker, each-filter, each_passes, each_of_map, each-filter_map}
-use Rattle.cal_model.specs.ObjectFaults.{Child, children_in, kinds_among, component_fault, resource_fault, component_of_child, dated_stamps, lacks_zone, object_of, has_component_fault, is_bad_end, is_bad_period, is_bad_length, has_two_ends, are_different, resource_faults}
-use Rattle.cal_model.specs.ObjectReading.{Unread, not_resource, first_there, calendar_faults, read_lines_by, read_zone_tree, read_zone}
-use Rattle.cal_model.proofs.ReadingSteps.{after_lines, after_nesting, of_tree, after_tree, read_from, is_sound, IsChildOf, children_are}
+use Rattle.cal_model.proofs.EachLemmas.{neither, none_of_map, each_of_find, each_of_any, each-weaker, each-filter, each_passes, each_of_map, each-filter_map, each-both}
+use Rattle.cal_model.specs.ObjectFaults.{Child, children_in, kinds_among, component_fault, resource_fault, component_of_child, dated_stamps, lacks_zone, object_of, has_component_fault, is_bad_end, is_bad_period, is_bad_length, has_two_ends, are_different, resource_faults, child_at, child_places, zones_among, zone_fault, is_bad_zone}
+use Rattle.cal_model.specs.ObjectReading.{Unread, not_resource, first_there, calendar_faults, read_lines_by, read_zone_tree, read_zone, not_calendar, place_at}
+use Rattle.cal_model.proofs.ReadingSteps.{after_lines, after_nesting, of_tree, after_tree, read_from, is_sound, IsChildOf, children_are, head_none, tail_none}
 use Rattle.cal_model.proofs.ComponentStamps.{is_made, IsNamed, known_by_test, lines_known, each_stamp}
 use Rattle.cal_model.proofs.ServedDates.{child_served}
 use Rattle.cal_model.proofs.ShortLengths.{child_tested, extent_short, periods_short, busy_short}
@@ -167,10 +170,47 @@ sound_children all tree zones name (child ∷ children) numbers sound known name
   sound_children all tree zones name children numbers.1 sound.1 known.1 named.1 served tested,
 )
 
+-- the parts of a zone without fault
+zone_parts : (zone : Node) → has_zone_fault zone ≡ false → Each IsPart (parts_of zone)
+zone_parts zone sound =
+    let parts = parts_of zone in
+    let bare = not (has (codes "TZID") (lines_of zone)) || is_empty parts in
+    let fine = (neither bare (list_any has_fine_rule parts) (neither (bare || list_any has_fine_rule parts) (list_any (λ (part : ZonePart). are_many part.rules) parts) sound).0).1 in
+    let nodes = filter is_part (children_of zone) in
+    let made = each-filter_map (λ node. Unit {0}) (λ part. (lines : List Line) × (part_of_lines lines ≡ Some part)) (λ node. part_of_lines (lines_of node)) (λ node part fact is. (lines_of node, is)) nodes (each_any nodes) in
+    each-weaker (λ part facts. IsPart-part_of_lines facts.0.0 part facts.0.1 facts.1) parts
+    (each-both (λ part. (lines : List Line) × (part_of_lines lines ≡ Some part)) (λ part. has_fine_rule part ≡ false) parts made (each_of_any has_fine_rule parts fine))
+
 -- each table is that of the parts of its VTIMEZONE
-zones_are : (nodes : List Node) → Each IsZone (map (zone_table every_moment) nodes)
-zones_are [] = tt
-zones_are (node ∷ nodes) = (record { parts = parts_of node; table = refl }, zones_are nodes)
+zones_are : (nodes : List Node) → Each (λ node. has_zone_fault node ≡ false) nodes → Each IsZone (map (zone_table every_moment) nodes)
+zones_are [] sound = tt
+zones_are (node ∷ nodes) sound =
+    (record { parts = parts_of node; read = All-from_recursion IsPart (parts_of node) (zone_parts node sound.0); table = refl }, zones_are nodes sound.1)
+
+each_unnumbered : {X : Type 0} (P : X → Type 0) (from : ℕ) (xs : List X) → Each (λ (e : ℕ × X). P e.1) (enumerate_from from xs) → Each P xs
+each_unnumbered P from [] facts = tt
+each_unnumbered P from (x ∷ xs) facts = (facts.0, each_unnumbered P (from + 1) xs facts.1)
+
+zone_step : (child : Child) (children : List Child) (nodes : List Node) (b : Bool) → Each (λ (c : Child). has_zone_fault c.tree ≡ false) (if b then child ∷ children else children) →
+    (Each (λ (c : Child). has_zone_fault c.tree ≡ false) children → Each (λ node. has_zone_fault node ≡ false) nodes) → Each (λ node. has_zone_fault node ≡ false) (if b then child.tree ∷ nodes else nodes)
+zone_step child children nodes true facts later = (facts.0, later facts.1)
+zone_step child children nodes false facts later = later facts
+
+zone_nodes : (places : List ℕ) (from : ℕ) (nodes : List Node) → Each (λ (c : Child). has_zone_fault c.tree ≡ false) (zones_among (map (child_at places) (enumerate_from from nodes))) →
+    Each (λ node. has_zone_fault node ≡ false) (filter is_zone nodes)
+zone_nodes places from [] facts = tt
+zone_nodes places from (node ∷ nodes) facts =
+    zone_step (child_at places (from, node)) (zones_among (map (child_at places) (enumerate_from (from + 1) nodes))) (filter is_zone nodes) (is_zone node) facts (zone_nodes places (from + 1) nodes)
+
+-- no VTIMEZONE of a tree without such a fault has one
+zones_sound : (placed : List Placed) (tree : Node) → zone_fault every_moment (zones_among (children_in placed tree)) ≡ None → Each (λ node. has_zone_fault node ≡ false) (filter is_zone (children_of tree))
+zones_sound placed tree none =
+    let zones = zones_among (children_in placed tree) in
+    zone_nodes (child_places placed) 0 (children_of tree)
+    (each_unnumbered (λ (c : Child). has_zone_fault c.tree ≡ false) 0 zones
+    (each-weaker (λ (found : ℕ × Child) bad. (neither (has_zone_fault found.1.tree) (are_too_many every_moment (map (λ (c : Child). c.tree) (take (found.0 + 1) zones))) bad).0) (enumerate_from 0 zones)
+    (each_of_find (is_bad_zone every_moment zones) (enumerate_from 0 zones)
+    (none_of_map (λ (found : ℕ × Child). found.1.place) (find (is_bad_zone every_moment zones) (enumerate_from 0 zones)) none))))
 
 -- an object of children that are sound
 whole_object : (all : List Line) (tree : Node) (zones : List ZoneTable) (children : List Child) → All IsZone zones → Each (IsChildOf (children_of tree)) children →
@@ -211,7 +251,7 @@ IsReadObject-read object read =
     let sound = is_sound every_moment placed tree object found.1 in
     subst IsReadObject (sym found.1.is)
     (whole_object (lines_in placed) tree (zones_of every_moment tree) (kinds_among (children_in placed tree))
-    (All-from_recursion IsZone (zones_of every_moment tree) (zones_are (filter is_zone (children_of tree))))
+    (All-from_recursion IsZone (zones_of every_moment tree) (zones_are (filter is_zone (children_of tree)) (zones_sound placed tree sound.zone)))
     (each-filter (IsChildOf (children_of tree)) (λ (child : Child). is_some (kind_of child.tree)) (children_in placed tree) (children_are placed tree))
     (each_passes (λ (child : Child). is_some (kind_of child.tree)) (children_in placed tree))
     sound.component sound.resource
@@ -230,10 +270,10 @@ of_zone zone = elim zone [ None ↦ Err (not_resource ZoneMissing) | Some z ↦ 
 abbrev unless_bad : Option Unread → Result ZoneTable Unread → Result ZoneTable Unread
 unless_bad fault read = elim fault [ Some f ↦ Err f | None ↦ read ]
 
-zone_found : (fault : Option Unread) (found : Option ZoneTable) (zone : ZoneTable) → unless_bad fault (of_zone found) ≡ Ok zone → found ≡ Some zone
+zone_found : (fault : Option Unread) (found : Option ZoneTable) (zone : ZoneTable) → unless_bad fault (of_zone found) ≡ Ok zone → (fault ≡ None) × (found ≡ Some zone)
 zone_found (Some fault) found zone good = absurd (false≢true (ap is_ok good))
 zone_found None None zone good = absurd (false≢true (ap is_ok good))
-zone_found None (Some one) zone good = ap (λ r. Some (result_unwrap_or r one)) good
+zone_found None (Some one) zone good = (refl, ap (λ r. Some (result_unwrap_or r one)) good)
 
 -- the zone that a text is has the table of some parts
 pub IsZone-read_zone : (octets : List ℕ) (zone : ZoneTable) → read_zone octets ≡ Ok zone → IsZone zone
@@ -242,5 +282,11 @@ IsZone-read_zone octets zone good =
     let lines = after_lines (line_fault octets) (read_lines_by (read_zone_tree every_moment) placed) zone good in
     let nested = after_nesting placed (nesting_fault (lines_in placed)) (of_tree (read_zone_tree every_moment placed) (tree_of (lines_in placed))) zone lines in
     let found = after_tree (read_zone_tree every_moment placed) (tree_of (lines_in placed)) zone nested in
-    first_of_each IsZone (zones_of every_moment found.0) zone (zones_are (filter is_zone (children_of found.0)))
-    (zone_found (first_there (calendar_faults every_moment placed found.0)) (first (zones_of every_moment found.0)) zone found.2)
+    let both = zone_found (first_there (calendar_faults every_moment placed found.0)) (first (zones_of every_moment found.0)) zone found.2 in
+    let zones = zones_among (children_in placed found.0) in
+    let name = if is_named (codes "VCALENDAR") found.0 then None else Some (not_calendar (place_at placed 0)) in
+    let own = option_map not_calendar (own_fault placed) in
+    let bad = option_map not_calendar (zone_fault every_moment zones) in
+    let none = head_none bad [] (tail_none own (bad ∷ []) (tail_none name (own ∷ bad ∷ []) both.0)) in
+    first_of_each IsZone (zones_of every_moment found.0) zone
+    (zones_are (filter is_zone (children_of found.0)) (zones_sound placed found.0 (none_of_map not_calendar (zone_fault every_moment zones) none))) both.1

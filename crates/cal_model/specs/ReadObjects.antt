@@ -15,6 +15,7 @@ use Rattle.cal_model.specs.Limits.{first_date, last_date}
 use Rattle.cal_model.specs.Alignment.{written_value}
 use Rattle.cal_model.specs.NextPassing.{IsUsable}
 use Rattle.cal_model.specs.StampTexts.{is_known}
+use Rattle.cal_model.specs.TableBounds.{IsPart}
 use Rattle.cal_model.specs.ZoneOnsets.{table_of}
 use Rattle.cal_model.specs.Rows.{masters}
 use Rattle.cal_model.specs.ComponentLines.{children_of, kind_of}
@@ -78,9 +79,10 @@ pub record IsReadComponent (object : Object) (component : Component) : Type 0 wh
   pub short_periods : All HasShortEnd component.periods
   pub short_busy : All (λ (entry : Option Class × Period). HasShortEnd entry.1) component.stored_busy
 
--- a table is that of some parts, and so has all that such tables have
+-- a table is that of some parts that were read, and so has all that such tables have
 pub record IsZone (zone : ZoneTable) : Type 0 where
   pub parts : List ZonePart
+  pub read : All IsPart parts
   pub table : zone ≡ table_of zone.name parts
 
 -- what holds of an object
