@@ -12,7 +12,7 @@ use Rattle.cal_model.specs.NextPassing.{IsWritten, IsUsable, is_fine}
 use Rattle.std.specs.List.{AllByRecursion as Each}
 use Rattle.cal_base.specs.declared.line.Line.{Line}
 use Rattle.cal_moment.specs.declared.stamp.Stamp.{Stamp}
-use Rattle.cal_moment.specs.declared.stamp.Stamp.TheVariants.{Date, Floating, Zoned, Utc}
+use Rattle.cal_moment.specs.declared.stamp.Stamp.TheVariants.{Date, Utc}
 use Rattle.std.proofs.lemmas.List.Elements.{All-from_recursion}
 use Rattle.cal_base.specs.ComponentTrees.{first}
 use Rattle.cal_moment.specs.declared.stamp.Period.{Period}
