@@ -58,3 +58,18 @@ mod CostExamples
 mod RuleTextExamples
 mod RulePlaceExamples
 mod ValueExamples
+mod ObjectExamples
+mod ObjectFaultExamples
+mod PrivilegeExamples
+mod PrivilegeLaws
+pub mod ReadObjectLaws
+pub mod EachLemmas
+pub mod RuleBounds
+pub mod OpenComponents
+pub mod PlacedComponents
+pub mod LineTests
+pub mod ReadingSteps
+pub mod ComponentStamps
+pub mod ServedDates
+pub mod ShortLengths
+pub mod ZoneParts

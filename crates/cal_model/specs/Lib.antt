@@ -42,3 +42,13 @@ pub mod Cost
 pub mod BusyTimes
 pub mod Nearness
 pub mod ComponentLines
+pub mod ValueTexts
+pub mod StampTexts
+pub mod RuleTexts
+pub mod LineValues
+pub mod ZoneReading
+pub mod ComponentReading
+pub mod ObjectFaults
+pub mod ObjectReading
+pub mod Privileges
+pub mod ReadObjects
