@@ -21,3 +21,5 @@ mod RowExamples
 mod MovedRowExamples
 mod OverlapExamples
 mod CostExamples
+mod RuleTextExamples
+mod ValueExamples

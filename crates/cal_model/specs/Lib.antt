@@ -2,6 +2,9 @@ pub mod Limits
 pub mod Namespaces
 pub mod TextLines
 pub mod UtcTexts
+pub mod ValueTexts
+pub mod StampTexts
+pub mod RuleTexts
 pub mod ServerState
 pub mod EventTimes
 pub mod Queries
