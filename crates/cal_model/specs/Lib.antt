@@ -37,3 +37,15 @@ pub mod Overlap
 pub mod Cost
 pub mod BusyTimes
 pub mod ComponentLines
+pub mod TextTests
+pub mod DateProperties
+pub mod Matching
+pub mod RowRanges
+pub mod NamedRanges
+pub mod Picks
+pub mod Expansion
+pub mod LimitedSets
+pub mod CalendarData
+pub mod BusyRuns
+pub mod FreeBusyText
+pub mod ReportPairs
