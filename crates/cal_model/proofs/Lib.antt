@@ -23,3 +23,5 @@ mod OverlapExamples
 mod CostExamples
 mod RuleTextExamples
 mod ValueExamples
+mod FilterLemmas
+mod MatchingExamples

@@ -1,0 +1,155 @@
+-- Examples of filters, after RFC 4791, 7.8 and 9.7: an event from 9 to 10 o'clock of 10 March 2025 with an alarm a quarter of an hour before.
+use Rattle.std.specs.Prelude.{◌≡◌, refl, ℕ, ◌+◌, ◌*◌, Bool, true, false, List, [], ◌∷◌, ◌++◌, codes, ℤ, pos, neg_ℤ, Option, Some, None}
+use denote.Hole.Carrier as H
+use Rattle.cal_base.specs.declared.line.Line.{Line}
+use Rattle.cal_base.specs.declared.line.Param.{Param}
+use Rattle.cal_base.specs.declared.line.Node.{Node}
+use Rattle.cal_base.specs.declared.line.Node as N
+use Rattle.cal_base.specs.declared.line.Node.TheBlock as B
+use Rattle.cal_base.specs.ComponentTrees.{component}
+use Rattle.cal_moment.specs.declared.stamp.Stamp.TheVariants.{Utc}
+use Rattle.cal_model.specs.declared.filter.Collation.{Collation}
+use Rattle.cal_model.specs.declared.filter.Collation.TheVariants.{AsciiCasemap, Octet}
+use Rattle.cal_model.specs.declared.filter.CompFilter.{CompFilter}
+use Rattle.cal_model.specs.declared.filter.CompFilter.TheViews.{roll-CompFilter}
+use Rattle.cal_model.specs.declared.filter.ParamFilter.{ParamFilter}
+use Rattle.cal_model.specs.declared.filter.ParamTest.{ParamTest}
+use Rattle.cal_model.specs.declared.filter.ParamTest.TheVariants as param
+use Rattle.cal_model.specs.declared.filter.PropFilter.{PropFilter}
+use Rattle.cal_model.specs.declared.filter.PropTest.{PropTest}
+use Rattle.cal_model.specs.declared.filter.PropTest.TheVariants.{Absent, Defined, Time, Text}
+use Rattle.cal_model.specs.declared.filter.TextMatch.{TextMatch}
+use Rattle.cal_model.specs.declared.object.Alarm.{Alarm}
+use Rattle.cal_model.specs.declared.object.Component.{Component}
+use Rattle.cal_model.specs.declared.object.Kind.TheVariants.{Event, Todo}
+use Rattle.cal_model.specs.declared.object.Extent.TheVariants as extent
+use Rattle.cal_model.specs.declared.object.Object.{Object}
+use Rattle.cal_model.specs.declared.object.Related.TheVariants as related
+use Rattle.cal_model.specs.declared.object.Trigger.TheVariants as trigger
+use Rattle.cal_model.specs.declared.row.Range.{Range}
+use Rattle.cal_model.specs.declared.row.Row.{Row}
+use Rattle.cal_model.specs.declared.row.RowKind.TheVariants.{Instant, Undated}
+use Rattle.cal_model.specs.Alignment.{no_zone}
+use Rattle.cal_model.specs.Matching.{matches}
+use Rattle.cal_model.specs.Numbers.{counted_from}
+use Rattle.cal_model.specs.Rows.{row_of, undated_row}
+use Rattle.cal_model.specs.StampTexts.{stamps_in_grammar, trigger_of}
+use Rattle.cal_model.specs.TextTests.{text_passes, param_filter_holds}
+use Rattle.cal_model.specs.ValueTexts.{date_of, time_of, date_time_of, count_of, integer_of, length_of}
+use Rattle.cal_model.specs.Zones.{instant_of, offset_at}
+use Rattle.cal_model.proofs.FilterLemmas.{comp_filter_holds_roll}
+use Rattle.cal_model.proofs.RowExamples.{event, days_and_time}
+use Rattle.cal_model.proofs.Samples.{nine, ten}
+
+-- Texts
+
+abbrev pub match : List ℕ → Collation → Bool → TextMatch
+match text collation negate = record { text = text; collation = collation; negate = negate }
+
+-- without ASCII case, or octet for octet
+casemap : (text_passes (match (codes "STAND") AsciiCasemap false) (codes "Stand-up") ≡ true) × (text_passes (match (codes "STAND") Octet false) (codes "Stand-up") ≡ false)
+casemap = (refl, refl)
+
+-- letters beyond ASCII keep their case
+umlaut : text_passes (match (codes "Ä") AsciiCasemap false) (codes "ä") ≡ false
+umlaut = refl
+
+-- in the middle and at the end; the empty text stands in every text, and no text in the empty one
+places : (text_passes (match (codes "-u") Octet false) (codes "Stand-up") ≡ true) × (text_passes (match (codes "up") Octet false) (codes "Stand-up") ≡ true)
+    × (text_passes (match [] Octet false) [] ≡ true) × (text_passes (match (codes "a") Octet false) [] ≡ false)
+places = (refl, refl, refl, refl)
+
+-- negate-condition turns the answer
+negated : (text_passes (match (codes "up") Octet true) (codes "Stand-up") ≡ false) × (text_passes (match (codes "down") Octet true) (codes "Stand-up") ≡ true)
+negated = (refl, refl)
+
+-- the value is taken without its escapes: `a\,b` is `a,b`, and `\n` is a line feed
+escapes : (text_passes (match (codes "a,b") Octet false) (codes "a\\,b") ≡ true) × (text_passes (match (codes "\\,") Octet false) (codes "a\\,b") ≡ false)
+    × (text_passes (match (codes "a\nb") Octet false) (codes "a\\nb") ≡ true)
+escapes = (refl, refl, refl)
+
+-- Parameters
+
+abbrev pub language : List ℕ → Param
+language value = record { name = codes "LANGUAGE"; values = value ∷ [] }
+
+abbrev pub asks : ParamTest → ParamFilter
+asks test = record { name = codes "LANGUAGE"; test = test }
+
+param_absent : (param_filter_holds (language (codes "en") ∷ []) (asks param.Absent) ≡ false) × (param_filter_holds [] (asks param.Absent) ≡ true)
+param_absent = (refl, refl)
+
+param_defined : (param_filter_holds (language (codes "en") ∷ []) (asks param.Defined) ≡ true) × (param_filter_holds [] (asks param.Defined) ≡ false)
+param_defined = (refl, refl)
+
+-- one value that passes is enough; a parameter that is not there passes no text-match, not even a negated one
+param_text : (param_filter_holds (record { name = codes "LANGUAGE"; values = codes "de" ∷ codes "en" ∷ [] } ∷ []) (asks (param.Text (match (codes "EN") AsciiCasemap false))) ≡ true)
+    × (param_filter_holds (record { name = codes "LANGUAGE"; values = codes "de" ∷ codes "en" ∷ [] } ∷ []) (asks (param.Text (match (codes "EN") AsciiCasemap true))) ≡ true)
+    × (param_filter_holds [] (asks (param.Text (match (codes "en") Octet true))) ≡ false)
+param_text = (refl, refl, refl)
+
+-- An object with one event
+
+abbrev pub line : List ℕ → List ℕ → Line
+line name value = record { name = name; params = []; value = value; raw = name ++ codes ":" ++ value }
+
+abbrev pub node : List ℕ → List Line → List Node → Node
+node name lines children = component name (record { lines = lines; children = children })
+
+abbrev pub summary : Line
+summary = record { name = codes "SUMMARY"; params = language (codes "en") ∷ []; value = codes "Stand-up"; raw = codes "SUMMARY;LANGUAGE=en:Stand-up" }
+
+-- a VALARM without a TRIGGER stands first, and has no number
+abbrev pub alarms : List Node
+alarms = node (codes "VALARM") (line (codes "ACTION") (codes "NONE") ∷ []) [] ∷ node (codes "VALARM") (line (codes "TRIGGER") (codes "-PT15M") ∷ []) [] ∷ []
+
+abbrev pub event_lines : List Line
+event_lines = line (codes "DTSTART") (codes "20250310T090000Z") ∷ line (codes "DURATION") (codes "PT1H") ∷ summary ∷ []
+
+abbrev pub alarm : ℕ → Alarm
+alarm repeat = record { trigger = trigger.From related.Start (days_and_time (pos 0) (neg_ℤ (pos 900))); repeat = repeat; gap = days_and_time (pos 0) (pos 300) }
+
+abbrev pub meeting : ℕ → Component
+meeting repeat = record (event (Some (Utc (record { 0 = pos nine }))) (extent.Lasting (days_and_time (pos 0) (pos 3600)))) { alarms = alarm repeat ∷ [] }
+
+abbrev pub object : ℕ → Object
+object repeat = record {
+  kind = Event;
+  uid = codes "one";
+  tree = node (codes "VCALENDAR") [] (node (codes "VEVENT") event_lines alarms ∷ []);
+  zones = [];
+  components = meeting repeat ∷ [];
+}
+
+abbrev pub meeting_row : Row
+meeting_row = row_of (pos nine) (pos nine) (pos ten) 0 Instant Instant
+
+-- minutes after 8 o'clock
+abbrev pub minutes : ℕ → ℕ → Range
+minutes a b = record { start = record { 0 = pos (1_741_593_600 + 60 * a) }; end = record { 0 = pos (1_741_593_600 + 60 * b) } }
+
+abbrev pub comp : List ℕ → Option Range → List PropFilter → List CompFilter → CompFilter
+comp name time props comps = roll-CompFilter (record { name = name; absent = false; time = time; props = props; comps = comps })
+
+abbrev pub no_comp : List ℕ → CompFilter
+no_comp name = roll-CompFilter (record { name = name; absent = true; time = None; props = []; comps = [] })
+
+abbrev pub prop : List ℕ → PropTest → List ParamFilter → PropFilter
+prop name test params = record { name = name; test = test; params = params }
+
+-- whether the event matches what is asked within VCALENDAR
+abbrev pub finds : ℕ → CompFilter → Bool
+finds repeat inner = matches (record { top = comp (codes "VCALENDAR") None [] (inner ∷ []) }) (object repeat) (meeting_row ∷ []) no_zone
+
+abbrev pub event_asks : Option Range → List PropFilter → List CompFilter → CompFilter
+event_asks = comp (codes "VEVENT")
+
+-- another name at the top, and a component that is and is not there
+other_top : matches (record { top = comp (codes "VTODO") None [] [] }) (object 0) (meeting_row ∷ []) no_zone ≡ false
+unfolding N.out-Node N.roll-Node B.shown-the_row-Node-0 B.hidden-the_row-Node-0 B.shape-the_row-Node-0 H.out H.roll H.shown H.hidden
+other_top = simp (comp_filter_holds_roll) refl
+
+component_there : (finds 0 (event_asks None [] []) ≡ true) × (finds 0 (comp (codes "VTODO") None [] []) ≡ false)
+    × (finds 0 (no_comp (codes "VTODO")) ≡ true) × (finds 0 (no_comp (codes "VEVENT")) ≡ false)
+unfolding N.out-Node N.roll-Node B.shown-the_row-Node-0 B.hidden-the_row-Node-0 B.shape-the_row-Node-0 H.out H.roll H.shown H.hidden
+component_there = simp (comp_filter_holds_roll) (refl, refl, refl, refl)
