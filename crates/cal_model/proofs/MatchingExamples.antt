@@ -153,3 +153,112 @@ component_there : (finds 0 (event_asks None [] []) ≡ true) × (finds 0 (comp (
     × (finds 0 (no_comp (codes "VTODO")) ≡ true) × (finds 0 (no_comp (codes "VEVENT")) ≡ false)
 unfolding N.out-Node N.roll-Node B.shown-the_row-Node-0 B.hidden-the_row-Node-0 B.shape-the_row-Node-0 H.out H.roll H.shown H.hidden
 component_there = simp (comp_filter_holds_roll) (refl, refl, refl, refl)
+
+-- a range of the event; its alarm goes off at 8:45, before the event begins
+event_range : (finds 0 (event_asks (Some (minutes 60 120)) [] []) ≡ true) × (finds 0 (event_asks (Some (minutes 0 60)) [] []) ≡ false)
+unfolding N.out-Node N.roll-Node B.shown-the_row-Node-0 B.hidden-the_row-Node-0 B.shape-the_row-Node-0 H.out H.roll H.shown H.hidden
+event_range = simp (comp_filter_holds_roll) (refl, refl)
+
+abbrev pub alarm_in : Range → CompFilter
+alarm_in range = comp (codes "VALARM") (Some range) [] []
+
+alarm_range : (finds 0 (event_asks None [] (alarm_in (minutes 45 46) ∷ [])) ≡ true) × (finds 0 (event_asks None [] (alarm_in (minutes 46 90) ∷ [])) ≡ false)
+unfolding N.out-Node N.roll-Node B.shown-the_row-Node-0 B.hidden-the_row-Node-0 B.shape-the_row-Node-0 H.out H.roll H.shown H.hidden counted_from
+alarm_range = simp (comp_filter_holds_roll) (refl, refl)
+
+-- twice more, five minutes apart
+alarm_repeats : (finds 2 (event_asks None [] (alarm_in (minutes 50 51) ∷ [])) ≡ true) × (finds 2 (event_asks None [] (alarm_in (minutes 51 55) ∷ [])) ≡ false)
+unfolding N.out-Node N.roll-Node B.shown-the_row-Node-0 B.hidden-the_row-Node-0 B.shape-the_row-Node-0 H.out H.roll H.shown H.hidden counted_from
+alarm_repeats = simp (comp_filter_holds_roll) (refl, refl)
+
+-- the two ranges are tested by themselves: the event overlaps the outer one, its alarm lies in the inner one
+each_by_itself : (finds 0 (event_asks (Some (minutes 60 120)) [] (alarm_in (minutes 45 46) ∷ [])) ≡ true)
+    × (finds 0 (event_asks (Some (minutes 40 50)) [] (alarm_in (minutes 45 46) ∷ [])) ≡ false)
+unfolding N.out-Node N.roll-Node B.shown-the_row-Node-0 B.hidden-the_row-Node-0 B.shape-the_row-Node-0 H.out H.roll H.shown H.hidden counted_from
+each_by_itself = simp (comp_filter_holds_roll) (refl, refl)
+
+-- without a row the alarm has no moment
+without_rows : matches (record { top = comp (codes "VCALENDAR") None [] (event_asks None [] (alarm_in (minutes 45 46) ∷ []) ∷ []) }) (object 0) [] no_zone ≡ false
+unfolding N.out-Node N.roll-Node B.shown-the_row-Node-0 B.hidden-the_row-Node-0 B.shape-the_row-Node-0 H.out H.roll H.shown H.hidden counted_from
+without_rows = simp (comp_filter_holds_roll) refl
+
+-- a VALARM outside the four kinds has its absolute trigger alone
+abbrev pub lone : List ℕ → List ℕ → Object
+lone name value = record (object 0) {
+  tree = node (codes "VCALENDAR") [] (node (codes "VEVENT") event_lines [] ∷ node (codes "VALARM") (record { name = codes "TRIGGER"; params = record { name = codes "VALUE"; values = name ∷ [] } ∷ []; value = value; raw = [] } ∷ []) [] ∷ []);
+}
+
+lone_alarm : (matches (record { top = comp (codes "VCALENDAR") None [] (alarm_in (minutes 45 46) ∷ []) }) (lone (codes "DATE-TIME") (codes "20250310T084500Z")) (meeting_row ∷ []) no_zone ≡ true)
+    × (matches (record { top = comp (codes "VCALENDAR") None [] (alarm_in (minutes 45 46) ∷ []) }) (lone (codes "DURATION") (codes "-PT15M")) (meeting_row ∷ []) no_zone ≡ false)
+unfolding N.out-Node N.roll-Node B.shown-the_row-Node-0 B.hidden-the_row-Node-0 B.shape-the_row-Node-0 H.out H.roll H.shown H.hidden counted_from trigger_of date_time_of date_of time_of length_of count_of integer_of
+lone_alarm = simp (comp_filter_holds_roll) (refl, refl)
+
+-- a VEVENT that is no child of the outermost component has no row
+nested_event : matches (record { top = comp (codes "VCALENDAR") None [] (comp (codes "X-BOX") None [] (event_asks (Some (minutes 60 120)) [] [] ∷ []) ∷ []) })
+    (record (object 0) { tree = node (codes "VCALENDAR") [] (node (codes "X-BOX") [] (node (codes "VEVENT") event_lines [] ∷ []) ∷ []) }) (meeting_row ∷ []) no_zone ≡ false
+unfolding N.out-Node N.roll-Node B.shown-the_row-Node-0 B.hidden-the_row-Node-0 B.shape-the_row-Node-0 H.out H.roll H.shown H.hidden
+nested_event = simp (comp_filter_holds_roll) refl
+
+-- Properties
+
+prop_there : (finds 0 (event_asks None (prop (codes "SUMMARY") Defined [] ∷ []) []) ≡ true) × (finds 0 (event_asks None (prop (codes "SUMMARY") Absent [] ∷ []) []) ≡ false)
+    × (finds 0 (event_asks None (prop (codes "LOCATION") Defined [] ∷ []) []) ≡ false) × (finds 0 (event_asks None (prop (codes "LOCATION") Absent [] ∷ []) []) ≡ true)
+unfolding N.out-Node N.roll-Node B.shown-the_row-Node-0 B.hidden-the_row-Node-0 B.shape-the_row-Node-0 H.out H.roll H.shown H.hidden
+prop_there = simp (comp_filter_holds_roll) (refl, refl, refl, refl)
+
+-- one line has to pass the text-match and all param-filters; a negated text-match is not passed by a property that is not there
+prop_text : (finds 0 (event_asks None (prop (codes "SUMMARY") (Text (match (codes "stand") AsciiCasemap false)) (asks param.Defined ∷ []) ∷ []) []) ≡ true)
+    × (finds 0 (event_asks None (prop (codes "SUMMARY") (Text (match (codes "stand") AsciiCasemap false)) (asks param.Absent ∷ []) ∷ []) []) ≡ false)
+    × (finds 0 (event_asks None (prop (codes "LOCATION") (Text (match (codes "stand") AsciiCasemap true)) [] ∷ []) []) ≡ false)
+unfolding N.out-Node N.roll-Node B.shown-the_row-Node-0 B.hidden-the_row-Node-0 B.shape-the_row-Node-0 H.out H.roll H.shown H.hidden
+prop_text = simp (comp_filter_holds_roll) (refl, refl, refl)
+
+-- DURATION beside DTSTART is as if DTEND were written, for a range alone; at the end of the range it does not count
+abbrev pub end_in : Range → CompFilter
+end_in range = event_asks None (prop (codes "DTEND") (Time range) [] ∷ []) []
+
+effective_end : (finds 0 (end_in (minutes 120 121)) ≡ true) × (finds 0 (end_in (minutes 60 120)) ≡ false)
+    × (finds 0 (event_asks None (prop (codes "DUE") (Time (minutes 120 121)) [] ∷ []) []) ≡ false)
+    × (finds 0 (event_asks None (prop (codes "DTEND") Defined [] ∷ []) []) ≡ false)
+unfolding N.out-Node N.roll-Node B.shown-the_row-Node-0 B.hidden-the_row-Node-0 B.shape-the_row-Node-0 H.out H.roll H.shown H.hidden stamps_in_grammar date_time_of date_of time_of length_of count_of
+effective_end = simp (comp_filter_holds_roll) (refl, refl, refl, refl)
+
+-- the written start
+start_in_range : (finds 0 (event_asks None (prop (codes "DTSTART") (Time (minutes 60 61)) [] ∷ []) []) ≡ true) × (finds 0 (event_asks None (prop (codes "DTSTART") (Time (minutes 61 120)) [] ∷ []) []) ≡ false)
+    × (finds 0 (event_asks None (prop (codes "DTSTART") (Time (minutes 60 61)) (asks param.Defined ∷ []) ∷ []) []) ≡ false)
+unfolding N.out-Node N.roll-Node B.shown-the_row-Node-0 B.hidden-the_row-Node-0 B.shape-the_row-Node-0 H.out H.roll H.shown H.hidden stamps_in_grammar date_time_of date_of time_of length_of count_of
+start_in_range = simp (comp_filter_holds_roll) (refl, refl, refl)
+
+-- a date whose zone is nowhere defined passes no range; in a VTIMEZONE a DTSTART is local time whatever it says
+abbrev pub zoned_line : Line
+zoned_line = record { name = codes "DTSTART"; params = record { name = codes "TZID"; values = codes "NY" ∷ [] } ∷ []; value = codes "20250310T090000"; raw = [] }
+
+abbrev pub within : List ℕ → Object
+within name = record (object 0) { tree = node (codes "VCALENDAR") [] (node name [] (node (codes "DAYLIGHT") (zoned_line ∷ []) [] ∷ []) ∷ []) }
+
+abbrev pub starts_within : List ℕ → Bool
+starts_within name = matches (record { top = comp (codes "VCALENDAR") None [] (comp name None [] (comp (codes "DAYLIGHT") None (prop (codes "DTSTART") (Time (minutes 60 61)) [] ∷ []) [] ∷ []) ∷ []) })
+    (within name) [] no_zone
+
+unknown_zone : (starts_within (codes "X-BOX") ≡ false) × (starts_within (codes "VTIMEZONE") ≡ true)
+unfolding N.out-Node N.roll-Node B.shown-the_row-Node-0 B.hidden-the_row-Node-0 B.shape-the_row-Node-0 H.out H.roll H.shown H.hidden stamps_in_grammar date_time_of date_of time_of length_of count_of instant_of offset_at
+unknown_zone = simp (comp_filter_holds_roll) (refl, refl)
+
+-- To-dos
+
+abbrev pub to_do : Component → Object
+to_do c = record { kind = Todo; uid = codes "two"; tree = node (codes "VCALENDAR") [] (node (codes "VTODO") [] [] ∷ []); zones = []; components = record c { kind = Todo } ∷ [] }
+
+abbrev pub to_do_asks : Range → CompFilter
+to_do_asks range = comp (codes "VCALENDAR") None [] (comp (codes "VTODO") (Some range) [] [] ∷ [])
+
+-- with DUE at 9 o'clock alone a range that ends there matches, and one that begins there does not
+due_alone : (matches (record { top = to_do_asks (minutes 0 60) }) (to_do (event None (extent.Due (Utc (record { 0 = pos nine }))))) (row_of (pos nine) (pos nine) (pos nine) 0 Instant Instant ∷ []) no_zone ≡ true)
+    × (matches (record { top = to_do_asks (minutes 60 120) }) (to_do (event None (extent.Due (Utc (record { 0 = pos nine }))))) (row_of (pos nine) (pos nine) (pos nine) 0 Instant Instant ∷ []) no_zone ≡ false)
+unfolding N.out-Node N.roll-Node B.shown-the_row-Node-0 B.hidden-the_row-Node-0 B.shape-the_row-Node-0 H.out H.roll H.shown H.hidden
+due_alone = simp (comp_filter_holds_roll) (refl, refl)
+
+-- without a date it matches every range
+without_dates : matches (record { top = to_do_asks (minutes 0 1) }) (to_do (event None extent.None)) (undated_row 0 ∷ []) no_zone ≡ true
+unfolding N.out-Node N.roll-Node B.shown-the_row-Node-0 B.hidden-the_row-Node-0 B.shape-the_row-Node-0 H.out H.roll H.shown H.hidden
+without_dates = simp (comp_filter_holds_roll) refl
