@@ -3,9 +3,10 @@ use Rattle.std.specs.Prelude.{◌≡◌, ℕ, Bool, List, map}
 use Rattle.std.proofs.Common.{ap}
 use Rattle.cal_base.specs.declared.line.Node.{Node}
 use Rattle.cal_base.specs.declared.line.Node.TheOpen.{Node-F}
-use Rattle.cal_base.specs.declared.line.Node.TheViews.{roll-Node}
+use Rattle.cal_base.specs.declared.line.Node.TheViews.{roll-Node, out-roll-Node}
 use Rattle.cal_base.specs.declared.line.Node.TheFolds.{fold-roll-Node}
 use Rattle.cal_base.specs.ComponentTrees.{printed, print_step}
+use Rattle.cal_model.specs.ComponentLines.{name_of, lines_of, children_of}
 use Rattle.cal_model.specs.declared.filter.CompFilter.{CompFilter}
 use Rattle.cal_model.specs.declared.filter.CompFilter.TheOpen.{CompFilter-F}
 use Rattle.cal_model.specs.declared.filter.CompFilter.TheViews.{roll-CompFilter}
@@ -36,3 +37,13 @@ plain_roll = fold-roll-Node (List Node) plain_step
 
 pub busy_limited_roll : (range : Range) (x : Node-F Node) → busy_limited range (roll-Node x) ≡ busy_step range (record { name = x.name; lines = x.lines; children = map (busy_limited range) x.children })
 busy_limited_roll range = fold-roll-Node Node (busy_step range)
+
+-- what a made component holds
+pub name_of_roll : (x : Node-F Node) → name_of (roll-Node x) ≡ x.name
+name_of_roll x = ap (λ (y : Node-F Node). y.name) (out-roll-Node x)
+
+pub lines_of_roll : (x : Node-F Node) → lines_of (roll-Node x) ≡ x.lines
+lines_of_roll x = ap (λ (y : Node-F Node). y.lines) (out-roll-Node x)
+
+pub children_of_roll : (x : Node-F Node) → children_of (roll-Node x) ≡ x.children
+children_of_roll x = ap (λ (y : Node-F Node). y.children) (out-roll-Node x)

@@ -25,3 +25,4 @@ mod RuleTextExamples
 mod ValueExamples
 mod FilterLemmas
 mod MatchingExamples
+mod CalendarDataExamples
