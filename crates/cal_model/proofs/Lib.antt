@@ -26,3 +26,5 @@ mod ValueExamples
 mod FilterLemmas
 mod MatchingExamples
 mod CalendarDataExamples
+mod BusyRunExamples
+mod BusyRunLaws
