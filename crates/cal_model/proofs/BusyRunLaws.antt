@@ -1,7 +1,9 @@
 -- The runs of a range are right, and no other list is.
 use Rattle.std.proofs.Common.{◌≡◌, ◌≢◌, ℕ, zero, suc, ◌+◌, ◌-◌, ◌<◌, ◌≤◌, Bool, true, false, List, [], ◌∷◌, length, Option, Some, None, refl, sym, ap, ◌∙◌, ◌⊎◌, inl, inr, ⊎_elim, arith, rules}
 use Rattle.std.specs.Prelude.{ℤ, pos, ◌+ℤ◌, ◌-ℤ◌, ◌≤ℤ◌, ◌<ℤ◌, int_le, int_lt, All, AllPairs}
-use Rattle.std.proofs.lemmas.Int.{ints}
+use Rattle.std.proofs.lemmas.Int.{ints, by_lt_z}
+use Rattle.std.proofs.lemmas.Bool.{false≢true, eqb-true, cases_Bool, and_parts, and_from}
+use Rattle.std.specs.Option.{is_some}
 use Rattle.std.proofs.lemmas.List.Elements.{All-head, All-tail, All-cons, All-nil}
 use Rattle.std.proofs.lemmas.List.Kept.{AllPairs-cons}
 use Rattle.cal_model.specs.declared.object.Class.{Class}
@@ -51,3 +53,60 @@ class_later r rs t l = class_no t r rs (holds_after t r l)
 
 class_early : (a b : ℤ) (rs : List BusyTime) → Chain a b rs → (r : BusyTime) (rest : List BusyTime) → rs ≡ r ∷ rest → (t : ℤ) → t <ℤ r.start → class_at rs t ≡ None
 class_early a b rs c r rest e t l = rw e (class_no t r rest (holds_before t r l) ∙ none_before r.end b t rest (rw e at c).4 (omega (arith, ints, l, (rw e at c).1)))
+
+-- No other list
+
+none≢some : (c : Class) → None ≡ Some c → ⊥
+none≢some c e = false≢true (ap (λ (o : Option Class). is_some o) e)
+
+class_or : Class → Option Class → Class
+class_or d None = d
+class_or d (Some c) = c
+
+same_some : (c d : Class) → Some c ≡ Some d → c ≡ d
+unfolding class_or
+same_some c d e = ap (class_or c) e
+
+-- two lists give each second of a range the same class
+abbrev pub SameClasses : ℤ → ℤ → List BusyTime → List BusyTime → Type 0
+SameClasses a b xs ys = (t : ℤ) → a ≤ℤ t → t <ℤ b → class_at xs t ≡ class_at ys t
+
+same_back : (a b : ℤ) (xs ys : List BusyTime) → SameClasses a b xs ys → SameClasses a b ys xs
+same_back a b xs ys s t l m = sym (s t l m)
+
+start_le : (a b : ℤ) (x y : BusyTime) (xs ys : List BusyTime) → Chain a b (x ∷ xs) → Chain a b (y ∷ ys) → SameClasses a b (x ∷ xs) (y ∷ ys) → y.start ≤ℤ x.start
+start_le a b x y xs ys c d s = by_lt_z x.start y.start
+    (λ l. absurd (none≢some x.class (sym (class_early a b (y ∷ ys) d y ys refl x.start l) ∙ sym (s x.start c.0 (omega (arith, ints, c.1, c.2))) ∙ class_first a b x xs c x.start (omega (arith, ints)) c.1)))
+    (λ l. l)
+
+-- the list behind a run has its class at its end: that cannot be
+goes_on : (b : ℤ) (x : BusyTime) (xs : List BusyTime) → Apart x xs → Chain x.end b xs → class_at xs x.end ≡ Some x.class → ⊥
+goes_on b x [] p c e = none≢some x.class e
+goes_on b x (s ∷ ss) p c e = by_lt_z x.end s.start
+    (λ l. none≢some x.class (sym (class_early x.end b (s ∷ ss) c s ss refl x.end l) ∙ e))
+    (λ l. p (omega (arith, ints, l, c.0)) (same_some x.class s.class (sym e ∙ class_first x.end b s ss c x.end l (omega (arith, ints, c.0, c.1)))))
+
+same_first : (a b : ℤ) (x y : BusyTime) (xs ys : List BusyTime) → Chain a b (x ∷ xs) → Chain a b (y ∷ ys) → SameClasses a b (x ∷ xs) (y ∷ ys) → x.start ≡ y.start → x.class ≡ y.class
+same_first a b x y xs ys c d s e = same_some x.class y.class (sym (class_first a b x xs c x.start (omega (arith, ints)) c.1)
+    ∙ s x.start c.0 (omega (arith, ints, c.1, c.2)) ∙ class_first a b y ys d x.start (omega (arith, ints, e)) (omega (arith, ints, e, d.1)))
+
+end_le : (a b : ℤ) (x y : BusyTime) (xs ys : List BusyTime) → Chain a b (x ∷ xs) → Chain a b (y ∷ ys) → SameClasses a b (x ∷ xs) (y ∷ ys) → x.start ≡ y.start → y.end ≤ℤ x.end
+end_le a b x y xs ys c d s e = by_lt_z x.end y.end
+    (λ l. absurd (goes_on b x xs c.3 c.4 (sym (class_later x xs x.end (omega (arith, ints)))
+        ∙ s x.end (omega (arith, ints, c.0, c.1)) (omega (arith, ints, l, d.2))
+        ∙ class_first a b y ys d x.end (omega (arith, ints, e, c.1)) l
+        ∙ ap (λ k. Some k) (sym (same_first a b x y xs ys c d s e)))))
+    (λ l. l)
+
+chain_same : (xs ys : List BusyTime) (a b : ℤ) → Chain a b xs → Chain a b ys → SameClasses a b xs ys → xs ≡ ys
+chain_same [] [] a b c d s = refl
+chain_same [] (y ∷ ys) a b c d s = absurd (none≢some y.class (s y.start d.0 (omega (arith, ints, d.1, d.2)) ∙ class_first a b y ys d y.start (omega (arith, ints)) d.1))
+chain_same (x ∷ xs) [] a b c d s = absurd (none≢some x.class (sym (s x.start c.0 (omega (arith, ints, c.1, c.2))) ∙ class_first a b x xs c x.start (omega (arith, ints)) c.1))
+chain_same (x ∷ xs) (y ∷ ys) a b c d s =
+    let back = same_back a b (x ∷ xs) (y ∷ ys) s in
+    let start : x.start ≡ y.start = omega (arith, ints, start_le a b x y xs ys c d s, start_le a b y x ys xs d c back) in
+    let end : x.end ≡ y.end = omega (arith, ints, end_le a b x y xs ys c d s start, end_le a b y x ys xs d c back (sym start)) in
+    let class = same_first a b x y xs ys c d s start in
+    let first : x ≡ y = λ i. record { class = class i; start = start i; end = end i } in
+    let rest : xs ≡ ys = chain_same xs ys x.end b c.4 (rw end d.4) (λ t l m. sym (class_later x xs t l) ∙ s t (omega (arith, ints, l, c.0, c.1)) m ∙ class_later y ys t (omega (arith, ints, l, end))) in
+    ap (λ z. z ∷ xs) first ∙ ap (λ zs. y ∷ zs) rest
