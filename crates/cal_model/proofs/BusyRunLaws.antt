@@ -1,8 +1,8 @@
 -- The runs of a range are right, and no other list is.
-use Rattle.std.proofs.Common.{◌≡◌, ◌≢◌, ℕ, zero, suc, ◌+◌, ◌-◌, ◌<◌, ◌≤◌, Bool, true, false, List, [], ◌∷◌, length, Option, Some, None, refl, sym, ap, ◌∙◌, ◌⊎◌, inl, inr, ⊎_elim, arith, rules}
-use Rattle.std.specs.Prelude.{ℤ, pos, ◌+ℤ◌, ◌-ℤ◌, ◌≤ℤ◌, ◌<ℤ◌, int_le, int_lt, All, AllPairs}
+use Rattle.std.proofs.Common.{◌≡◌, ◌≢◌, ℕ, zero, suc, ◌+◌, ◌-◌, ◌<◌, ◌≤◌, Bool, true, false, cond, ◌&&◌, List, [], ◌∷◌, length, Option, Some, None, refl, sym, ap, ◌∙◌, ◌⊎◌, inl, inr, ⊎_elim, arith, rules}
+use Rattle.std.specs.Prelude.{ℤ, pos, negsuc, ◌+ℤ◌, ◌-ℤ◌, ◌≤ℤ◌, ◌<ℤ◌, int_le, int_lt, All, AllPairs}
 use Rattle.std.proofs.lemmas.Int.{ints, by_lt_z}
-use Rattle.std.proofs.lemmas.Bool.{false≢true, eqb-true, cases_Bool, and_parts, and_from}
+use Rattle.std.proofs.lemmas.Bool.{false≢true, eqb-true, eq-eqb, and_parts, and_from}
 use Rattle.std.specs.Option.{is_some}
 use Rattle.std.proofs.lemmas.List.Elements.{All-head, All-tail, All-cons, All-nil}
 use Rattle.std.proofs.lemmas.List.Kept.{AllPairs-cons}
@@ -10,6 +10,7 @@ use Rattle.cal_model.specs.declared.object.Class.{Class}
 use Rattle.cal_model.specs.declared.object.Class.TheVariants.{Busy, Unavailable, Tentative}
 use Rattle.cal_model.specs.declared.row.Range.{Range}
 use Rattle.cal_model.specs.BusyTimes.{BusyTime}
+use Rattle.cal_model.specs.Numbers.{same_int}
 use Rattle.cal_model.specs.BusyRuns.{holds, greater, greatest_class, class_at, runs, runs_from, with_second, with_class, one_second, same_class, size, AreRuns}
 
 holds_within : (t : ℤ) (r : BusyTime) → r.start ≤ℤ t → t <ℤ r.end → holds t r ≡ true
@@ -110,3 +111,104 @@ chain_same (x ∷ xs) (y ∷ ys) a b c d s =
     let first : x ≡ y = λ i. record { class = class i; start = start i; end = end i } in
     let rest : xs ≡ ys = chain_same xs ys x.end b c.4 (rw end d.4) (λ t l m. sym (class_later x xs t l) ∙ s t (omega (arith, ints, l, c.0, c.1)) m ∙ class_later y ys t (omega (arith, ints, l, end))) in
     ap (λ z. z ∷ xs) first ∙ ap (λ zs. y ∷ zs) rest
+
+-- The runs are such a list
+
+chain_weaker : (a a' b : ℤ) (rs : List BusyTime) → a' ≤ℤ a → Chain a b rs → Chain a' b rs
+chain_weaker a a' b [] l c = tt
+chain_weaker a a' b (r ∷ rs) l c = (omega (arith, ints, l, c.0), c.1, c.2, c.3, c.4)
+
+same_int-true : (a b : ℤ) → same_int a b ≡ true → a ≡ b
+same_int-true (pos a) (pos b) e = ap pos (eqb-true a b e)
+same_int-true (pos a) (negsuc b) e = absurd (false≢true e)
+same_int-true (negsuc a) (pos b) e = absurd (false≢true e)
+same_int-true (negsuc a) (negsuc b) e = ap negsuc (eqb-true a b e)
+
+same_int-refl : (a : ℤ) → same_int a a ≡ true
+same_int-refl (pos a) = eq-eqb a a refl
+same_int-refl (negsuc a) = eq-eqb a a refl
+
+same_class-true : (c d : Class) → same_class c d ≡ true → c ≡ d
+same_class-true Busy Busy e = refl
+same_class-true Busy Unavailable e = absurd (false≢true e)
+same_class-true Busy Tentative e = absurd (false≢true e)
+same_class-true Unavailable Busy e = absurd (false≢true e)
+same_class-true Unavailable Unavailable e = refl
+same_class-true Unavailable Tentative e = absurd (false≢true e)
+same_class-true Tentative Busy e = absurd (false≢true e)
+same_class-true Tentative Unavailable e = absurd (false≢true e)
+same_class-true Tentative Tentative e = refl
+
+same_class-refl : (c : Class) → same_class c c ≡ true
+same_class-refl Busy = refl
+same_class-refl Unavailable = refl
+same_class-refl Tentative = refl
+
+-- what is asked of a second t of a class before some runs
+pub record IsBefore (t b : ℤ) (o : Option Class) (rs found : List BusyTime) : Type 0 where
+  pub chain : Chain t b found
+  pub here : class_at found t ≡ o
+  pub later : (u : ℤ) → (t +ℤ pos 1) ≤ℤ u → class_at found u ≡ class_at rs u
+
+alone_before : (t b : ℤ) (c : Class) (rs : List BusyTime) → Apart (one_second t c) rs → (t +ℤ pos 1) ≤ℤ b → Chain (t +ℤ pos 1) b rs → IsBefore t b (Some c) rs (one_second t c ∷ rs)
+alone_before t b c rs p l d =
+    let chain : Chain t b (one_second t c ∷ rs) = (omega (arith, ints), omega (arith, ints), l, p, d) in
+    record {
+      chain = chain;
+      here = class_first t b (one_second t c) rs chain t (omega (arith, ints)) (omega (arith, ints));
+      later = λ u m. class_later (one_second t c) rs u m;
+    }
+
+longer : ℤ → BusyTime → BusyTime
+longer t r = record r { start = t }
+
+longer_before : (t b : ℤ) (r : BusyTime) (rs : List BusyTime) → r.start ≡ t +ℤ pos 1 → Chain (t +ℤ pos 1) b (r ∷ rs) → IsBefore t b (Some r.class) (r ∷ rs) (longer t r ∷ rs)
+unfolding longer
+longer_before t b r rs e d =
+    let chain : Chain t b (longer t r ∷ rs) = (omega (arith, ints), omega (arith, ints, d.1, e), d.2, apart rs d.3, d.4) in
+    record {
+      chain = chain;
+      here = class_first t b (longer t r) rs chain t (omega (arith, ints)) (omega (arith, ints, d.1, e));
+      later = λ u m. by_lt_z u r.end
+          (λ l. class_first t b (longer t r) rs chain u (omega (arith, ints, m)) l ∙ sym (class_first (t +ℤ pos 1) b r rs d u (omega (arith, ints, m, e)) l))
+          (λ l. class_later (longer t r) rs u l ∙ sym (class_later r rs u l));
+    }
+  where
+    apart : (ss : List BusyTime) → Apart r ss → Apart (record r { start = t }) ss
+    apart [] p = tt
+    apart (s ∷ ss) p = p
+
+-- whether the first run is lengthened
+lengthens : ℤ → Class → BusyTime → Bool
+lengthens t c r = same_class c r.class && same_int r.start (t +ℤ pos 1)
+
+by_test : (t b : ℤ) (c : Class) (r : BusyTime) (rs : List BusyTime) → (t +ℤ pos 1) ≤ℤ b → Chain (t +ℤ pos 1) b (r ∷ rs) → (test : Bool) → test ≡ (same_class c r.class && same_int r.start (t +ℤ pos 1))
+    → IsBefore t b (Some c) (r ∷ rs) (cond test (longer t r ∷ rs) (one_second t c ∷ r ∷ rs))
+by_test t b c r rs l d true e =
+    let both = and_parts (same_class c r.class) (same_int r.start (t +ℤ pos 1)) (sym e) in
+    rw (same_class-true c r.class both.0) (longer_before t b r rs (same_int-true r.start (t +ℤ pos 1) both.1) d)
+by_test t b c r rs l d false e =
+    alone_before t b c (r ∷ rs)
+      (λ p q. false≢true (e ∙ and_from (same_class c r.class) (same_int r.start (t +ℤ pos 1)) (rw q (same_class-refl r.class)) (rw p (same_int-refl r.start)))) l d
+
+with_class_before : (t b : ℤ) (c : Class) (rs : List BusyTime) → (t +ℤ pos 1) ≤ℤ b → Chain (t +ℤ pos 1) b rs → IsBefore t b (Some c) rs (with_class t c rs)
+unfolding longer
+with_class_before t b c [] l d = alone_before t b c [] tt l d
+with_class_before t b c (r ∷ rs) l d = by_test t b c r rs l d (same_class c r.class && same_int r.start (t +ℤ pos 1)) refl
+
+with_second_before : (t b : ℤ) (o : Option Class) (rs : List BusyTime) → (t +ℤ pos 1) ≤ℤ b → Chain (t +ℤ pos 1) b rs → IsBefore t b o rs (with_second t o rs)
+with_second_before t b None rs l d = record {
+  chain = chain_weaker (t +ℤ pos 1) t b rs (omega (arith, ints)) d;
+  here = none_before (t +ℤ pos 1) b t rs d (omega (arith, ints));
+  later = λ u m. refl;
+}
+with_second_before t b (Some c) rs l d = with_class_before t b c rs l d
+
+runs_from_chain : (times : List BusyTime) (n : ℕ) (t b : ℤ) → b ≡ t +ℤ pos n → Chain t b (runs_from times t n) × SameClasses t b (runs_from times t n) times
+runs_from_chain times zero t b e = (tt, λ u l m. absurd (omega (arith, ints, l, m, e)))
+runs_from_chain times (suc n) t b e =
+    let before = runs_from_chain times n (t +ℤ pos 1) b (omega (arith, ints, e)) in
+    let is = with_second_before t b (class_at times t) (runs_from times (t +ℤ pos 1) n) (omega (arith, ints, e)) before.0 in
+    (is.chain, λ u l m. by_lt_z t u
+        (λ k. is.later u (omega (arith, ints, k)) ∙ before.1 u (omega (arith, ints, k)) m)
+        (λ k. let same : u ≡ t = omega (arith, ints, k, l) in rw same is.here))
