@@ -1,6 +1,6 @@
 -- The runs of a range are right, and no other list is.
 use Rattle.std.proofs.Common.{◌≡◌, ◌≢◌, ℕ, zero, suc, ◌+◌, ◌-◌, ◌<◌, ◌≤◌, Bool, true, false, cond, ◌&&◌, List, [], ◌∷◌, length, Option, Some, None, refl, sym, ap, ◌∙◌, ◌⊎◌, inl, inr, ⊎_elim, arith, rules}
-use Rattle.std.specs.Prelude.{ℤ, pos, negsuc, ◌+ℤ◌, ◌-ℤ◌, ◌≤ℤ◌, ◌<ℤ◌, int_le, int_lt, All, AllPairs}
+use Rattle.std.specs.Prelude.{ℤ, pos, negsuc, ◌+ℤ◌, ◌-ℤ◌, ◌≤ℤ◌, ◌<ℤ◌, int_le, int_lt, nat_abs, All, AllPairs}
 use Rattle.std.proofs.lemmas.Int.{ints, by_lt_z}
 use Rattle.std.proofs.lemmas.Bool.{false≢true, eqb-true, eq-eqb, and_parts, and_from}
 use Rattle.std.specs.Option.{is_some}
@@ -212,3 +212,104 @@ runs_from_chain times (suc n) t b e =
     (is.chain, λ u l m. by_lt_z t u
         (λ k. is.later u (omega (arith, ints, k)) ∙ before.1 u (omega (arith, ints, k)) m)
         (λ k. let same : u ≡ t = omega (arith, ints, k, l) in rw same is.here))
+
+-- Between the two forms
+
+abbrev pub IsWithin : ℤ → ℤ → BusyTime → Type 0
+IsWithin a b run = (a ≤ℤ run.start) × (run.start <ℤ run.end) × (run.end ≤ℤ b)
+
+abbrev pub ComesBefore : BusyTime → BusyTime → Type 0
+ComesBefore run later = run.end ≤ℤ later.start
+
+abbrev pub EndsFor : BusyTime → BusyTime → Type 0
+EndsFor run later = run.end ≡ later.start → run.class ≢ later.class
+
+All-of_pairs : (R : BusyTime → BusyTime → Type 0) (x : BusyTime) (xs : List BusyTime) → AllPairs R (x ∷ xs) → All (R x) xs
+All-of_pairs R x xs p = λ k d l. p 0 (suc k) d (omega arith) (omega (arith, l))
+
+AllPairs-tail : (R : BusyTime → BusyTime → Type 0) (x : BusyTime) (xs : List BusyTime) → AllPairs R (x ∷ xs) → AllPairs R xs
+AllPairs-tail R x xs p = λ i j d l m. p (suc i) (suc j) d (omega (arith, l)) (omega (arith, m))
+
+apart_from : (x : BusyTime) (xs : List BusyTime) → All (EndsFor x) xs → Apart x xs
+apart_from x [] p = tt
+apart_from x (s ∷ ss) p = All-head (EndsFor x) s ss p
+
+-- two facts of each as one
+All-both : (P Q R : BusyTime → Type 0) → ((x : BusyTime) → P x → Q x → R x) → (xs : List BusyTime) → All P xs → All Q xs → All R xs
+All-both P Q R f [] p q = All-nil R
+All-both P Q R f (x ∷ xs) p q = All-cons R x xs (f x (All-head P x xs p) (All-head Q x xs q)) (All-both P Q R f xs (All-tail P x xs p) (All-tail Q x xs q))
+
+within_later : (a b : ℤ) (x y : BusyTime) → IsWithin a b y → ComesBefore x y → IsWithin x.end b y
+within_later a b x y w o = (o, w.1, w.2)
+
+chain_from : (a b : ℤ) (xs : List BusyTime) → All (IsWithin a b) xs → AllPairs ComesBefore xs → AllPairs EndsFor xs → Chain a b xs
+chain_from a b [] w o l = tt
+chain_from a b (x ∷ xs) w o l =
+    let first = All-head (IsWithin a b) x xs w in
+    (first.0, first.1, first.2, apart_from x xs (All-of_pairs EndsFor x xs l),
+      chain_from x.end b xs (All-both (IsWithin a b) (ComesBefore x) (IsWithin x.end b) (within_later a b x) xs (All-tail (IsWithin a b) x xs w) (All-of_pairs ComesBefore x xs o))
+        (AllPairs-tail ComesBefore x xs o) (AllPairs-tail EndsFor x xs l))
+
+chain_within : (a a' b : ℤ) (xs : List BusyTime) → a' ≤ℤ a → Chain a b xs → All (IsWithin a' b) xs
+chain_within a a' b [] l c = All-nil (IsWithin a' b)
+chain_within a a' b (x ∷ xs) l c =
+    All-cons (IsWithin a' b) x xs (omega (arith, ints, l, c.0), c.1, c.2) (chain_within x.end a' b xs (omega (arith, ints, l, c.0, c.1)) c.4)
+
+chain_before : (a b : ℤ) (x : BusyTime) (xs : List BusyTime) → x.end ≤ℤ a → Chain a b xs → All (ComesBefore x) xs
+chain_before a b x [] l c = All-nil (ComesBefore x)
+chain_before a b x (s ∷ ss) l c = All-cons (ComesBefore x) s ss (omega (arith, ints, l, c.0)) (chain_before s.end b x ss (omega (arith, ints, l, c.0, c.1)) c.4)
+
+chain_order : (a b : ℤ) (xs : List BusyTime) → Chain a b xs → AllPairs ComesBefore xs
+chain_order a b [] c = λ i j d l m. absurd (omega (arith, m))
+chain_order a b (x ∷ xs) c = AllPairs-cons ComesBefore x xs (chain_before x.end b x xs (omega (arith, ints)) c.4) (chain_order x.end b xs c.4)
+
+-- behind a gap
+ends_past : (a b : ℤ) (x : BusyTime) (xs : List BusyTime) → x.end <ℤ a → Chain a b xs → All (EndsFor x) xs
+ends_past a b x [] l c = All-nil (EndsFor x)
+ends_past a b x (s ∷ ss) l c = All-cons (EndsFor x) s ss (λ e. absurd (omega (arith, ints, l, c.0, e))) (ends_past s.end b x ss (omega (arith, ints, l, c.0, c.1)) c.4)
+
+chain_ends : (b : ℤ) (x : BusyTime) (xs : List BusyTime) → Apart x xs → Chain x.end b xs → All (EndsFor x) xs
+chain_ends b x [] p c = All-nil (EndsFor x)
+chain_ends b x (s ∷ ss) p c = All-cons (EndsFor x) s ss p (ends_past s.end b x ss (omega (arith, ints, c.0, c.1)) c.4)
+
+chain_longest : (a b : ℤ) (xs : List BusyTime) → Chain a b xs → AllPairs EndsFor xs
+chain_longest a b [] c = λ i j d l m. absurd (omega (arith, m))
+chain_longest a b (x ∷ xs) c = AllPairs-cons EndsFor x xs (chain_ends b x xs c.3 c.4) (chain_longest x.end b xs c.4)
+
+-- The laws
+
+AreRuns-chain : (times : List BusyTime) (range : Range) (found : List BusyTime) → Chain range.start.0 range.end.0 found → SameClasses range.start.0 range.end.0 found times → AreRuns times range found
+AreRuns-chain times range found c s = record {
+  within = chain_within range.start.0 range.start.0 range.end.0 found (omega (arith, ints)) c;
+  in_order = chain_order range.start.0 range.end.0 found c;
+  longest = chain_longest range.start.0 range.end.0 found c;
+  classes = s;
+}
+
+pos-nat_abs : (z : ℤ) → pos 0 ≤ℤ z → pos (nat_abs z) ≡ z
+pos-nat_abs (pos n) l = refl
+pos-nat_abs (negsuc n) l = absurd (omega (arith, ints, l))
+
+-- the seconds of a range, as far as there are any
+size_cases : (a b : ℤ) (test : Bool) → int_lt a b ≡ test → (b ≡ a +ℤ pos (cond test (nat_abs (b -ℤ a)) 0)) ⊎ ((b ≤ℤ a) × (cond test (nat_abs (b -ℤ a)) 0 ≡ 0))
+size_cases a b true e = inl (omega (arith, ints, pos-nat_abs (b -ℤ a) (grind (arith, ints, e))))
+size_cases a b false e = inr (grind (arith, ints, e), refl)
+
+-- the runs of a range are right
+pub AreRuns-runs : (times : List BusyTime) (range : Range) → AreRuns times range (runs times range)
+AreRuns-runs times range = ⊎_elim
+    (λ e. let both = runs_from_chain times (size range) range.start.0 range.end.0 e in AreRuns-chain times range (runs times range) both.0 both.1)
+    (λ none. rw none.1 (AreRuns-chain times range [] tt (λ t l m. absurd (omega (arith, ints, l, m, none.0)))))
+    (size_cases range.start.0 range.end.0 (int_lt range.start.0 range.end.0) refl)
+
+-- no two lists of a range are right
+pub AreRuns-same : (times : List BusyTime) (range : Range) (xs ys : List BusyTime) → AreRuns times range xs → AreRuns times range ys → xs ≡ ys
+AreRuns-same times range xs ys f g =
+    chain_same xs ys range.start.0 range.end.0
+      (chain_from range.start.0 range.end.0 xs f.within f.in_order f.longest)
+      (chain_from range.start.0 range.end.0 ys g.within g.in_order g.longest)
+      (λ t l m. f.classes t l m ∙ sym (g.classes t l m))
+
+-- what is right is the runs
+pub runs-AreRuns : (times : List BusyTime) (range : Range) (found : List BusyTime) → AreRuns times range found → found ≡ runs times range
+runs-AreRuns times range found f = AreRuns-same times range found (runs times range) f (AreRuns-runs times range)
