@@ -5,8 +5,12 @@ use Rattle.cal_model.specs.declared.object.Class.{Class}
 use Rattle.cal_model.specs.declared.object.Class.TheVariants.{Busy, Unavailable, Tentative}
 use Rattle.cal_model.specs.declared.row.Range.{Range}
 use Rattle.cal_model.specs.BusyTimes.{BusyTime}
-use Rattle.cal_model.specs.BusyRuns.{class_at, runs}
+use Rattle.cal_model.specs.BusyRuns.{class_at, same_class, runs}
 use Rattle.cal_model.specs.FreeBusyText.{free_busy_text}
+use Rattle.std.proofs.Common.{ap, arith}
+use Rattle.std.proofs.lemmas.Bool.{true≢false}
+use Rattle.std.proofs.lemmas.Int.{ints, by_lt_z}
+use Rattle.cal_model.proofs.BusyRunLaws.{AreRuns-chain, runs-AreRuns}
 use Rattle.cal_model.proofs.ZoneExamples.{written}
 
 abbrev pub hours : Class → ℕ → ℕ → BusyTime
@@ -52,3 +56,15 @@ answer : free_busy_text (pos 1_741_600_000) tenth_of_march two_runs
     ≡ codes "BEGIN:VCALENDAR\r\nVERSION:2.0\r\nPRODID:-//caldav_server//EN\r\nBEGIN:VFREEBUSY\r\nUID:free-busy\r\nDTSTAMP:20250310T094640Z\r\nDTSTART:20250310T000000Z\r\nDTEND:20250311T000000Z\r\nFREEBUSY;FBTYPE=BUSY-TENTATIVE:20250310T090000Z/20250310T100000Z\r\nFREEBUSY;FBTYPE=BUSY:20250310T100000Z/20250310T120000Z\r\nEND:VFREEBUSY\r\nEND:VCALENDAR\r\n"
 unfolding year_of month_of day_of_month
 answer = refl
+
+-- They are the runs of that whole day, second by second, where 9 to 11 is tentative and 10 to 12 is busy; an event that counts as free gives no time.
+abbrev pub two_times : List BusyTime
+two_times = record { class = Tentative; start = written 2025 3 10 9 0 0; end = written 2025 3 10 11 0 0 } ∷ record { class = Busy; start = written 2025 3 10 10 0 0; end = written 2025 3 10 12 0 0 } ∷ []
+
+same_classes : (t : ℤ) → class_at two_runs t ≡ class_at two_times t
+same_classes t = by_lt_z t (pos 1_741_597_200) (λ l. grind (arith, ints)) (λ l. by_lt_z t (pos 1_741_600_800) (λ m. grind (arith, ints)) (λ m. by_lt_z t (pos 1_741_604_400) (λ n. grind (arith, ints)) (λ n. by_lt_z t (pos 1_741_608_000) (λ o. grind (arith, ints)) (λ o. grind (arith, ints)))))
+
+whole_day : two_runs ≡ runs two_times tenth_of_march
+whole_day = runs-AreRuns two_times tenth_of_march two_runs (AreRuns-chain two_times tenth_of_march two_runs
+    (omega (arith, ints), omega (arith, ints), omega (arith, ints), λ e same. true≢false (ap (same_class Tentative) same), (omega (arith, ints), omega (arith, ints), omega (arith, ints), tt, tt))
+    (λ t l m. same_classes t))

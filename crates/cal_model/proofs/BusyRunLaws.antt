@@ -94,9 +94,9 @@ same_first a b x y xs ys c d s e = same_some x.class y.class (sym (class_first a
 end_le : (a b : ℤ) (x y : BusyTime) (xs ys : List BusyTime) → Chain a b (x ∷ xs) → Chain a b (y ∷ ys) → SameClasses a b (x ∷ xs) (y ∷ ys) → x.start ≡ y.start → y.end ≤ℤ x.end
 end_le a b x y xs ys c d s e = by_lt_z x.end y.end
     (λ l. absurd (goes_on b x xs c.3 c.4 (sym (class_later x xs x.end (omega (arith, ints)))
-        ∙ s x.end (omega (arith, ints, c.0, c.1)) (omega (arith, ints, l, d.2))
-        ∙ class_first a b y ys d x.end (omega (arith, ints, e, c.1)) l
-        ∙ ap (λ k. Some k) (sym (same_first a b x y xs ys c d s e)))))
+    ∙ s x.end (omega (arith, ints, c.0, c.1)) (omega (arith, ints, l, d.2))
+    ∙ class_first a b y ys d x.end (omega (arith, ints, e, c.1)) l
+    ∙ ap (λ k. Some k) (sym (same_first a b x y xs ys c d s e)))))
     (λ l. l)
 
 chain_same : (xs ys : List BusyTime) (a b : ℤ) → Chain a b xs → Chain a b ys → SameClasses a b xs ys → xs ≡ ys
@@ -189,7 +189,7 @@ by_test t b c r rs l d true e =
     rw (same_class-true c r.class both.0) (longer_before t b r rs (same_int-true r.start (t +ℤ pos 1) both.1) d)
 by_test t b c r rs l d false e =
     alone_before t b c (r ∷ rs)
-      (λ p q. false≢true (e ∙ and_from (same_class c r.class) (same_int r.start (t +ℤ pos 1)) (rw q (same_class-refl r.class)) (rw p (same_int-refl r.start)))) l d
+    (λ p q. false≢true (e ∙ and_from (same_class c r.class) (same_int r.start (t +ℤ pos 1)) (rw q (same_class-refl r.class)) (rw p (same_int-refl r.start)))) l d
 
 with_class_before : (t b : ℤ) (c : Class) (rs : List BusyTime) → (t +ℤ pos 1) ≤ℤ b → Chain (t +ℤ pos 1) b rs → IsBefore t b (Some c) rs (with_class t c rs)
 unfolding longer
@@ -208,10 +208,12 @@ runs_from_chain : (times : List BusyTime) (n : ℕ) (t b : ℤ) → b ≡ t +ℤ
 runs_from_chain times zero t b e = (tt, λ u l m. absurd (omega (arith, ints, l, m, e)))
 runs_from_chain times (suc n) t b e =
     let before = runs_from_chain times n (t +ℤ pos 1) b (omega (arith, ints, e)) in
-    let is = with_second_before t b (class_at times t) (runs_from times (t +ℤ pos 1) n) (omega (arith, ints, e)) before.0 in
-    (is.chain, λ u l m. by_lt_z t u
-        (λ k. is.later u (omega (arith, ints, k)) ∙ before.1 u (omega (arith, ints, k)) m)
-        (λ k. let same : u ≡ t = omega (arith, ints, k, l) in rw same is.here))
+    let is = with_second_before t b (class_at times t) (runs_from times (t +ℤ pos 1) n) (omega (arith, ints, e)) before.0 in (
+      is.chain,
+      λ u l m. by_lt_z t u
+          (λ k. is.later u (omega (arith, ints, k)) ∙ before.1 u (omega (arith, ints, k)) m)
+          (λ k. let same : u ≡ t = omega (arith, ints, k, l) in rw same is.here),
+    )
 
 -- Between the two forms
 
@@ -245,10 +247,14 @@ within_later a b x y w o = (o, w.1, w.2)
 chain_from : (a b : ℤ) (xs : List BusyTime) → All (IsWithin a b) xs → AllPairs ComesBefore xs → AllPairs EndsFor xs → Chain a b xs
 chain_from a b [] w o l = tt
 chain_from a b (x ∷ xs) w o l =
-    let first = All-head (IsWithin a b) x xs w in
-    (first.0, first.1, first.2, apart_from x xs (All-of_pairs EndsFor x xs l),
+    let first = All-head (IsWithin a b) x xs w in (
+      first.0,
+      first.1,
+      first.2,
+      apart_from x xs (All-of_pairs EndsFor x xs l),
       chain_from x.end b xs (All-both (IsWithin a b) (ComesBefore x) (IsWithin x.end b) (within_later a b x) xs (All-tail (IsWithin a b) x xs w) (All-of_pairs ComesBefore x xs o))
-        (AllPairs-tail ComesBefore x xs o) (AllPairs-tail EndsFor x xs l))
+          (AllPairs-tail ComesBefore x xs o) (AllPairs-tail EndsFor x xs l),
+    )
 
 chain_within : (a a' b : ℤ) (xs : List BusyTime) → a' ≤ℤ a → Chain a b xs → All (IsWithin a' b) xs
 chain_within a a' b [] l c = All-nil (IsWithin a' b)
@@ -278,7 +284,7 @@ chain_longest a b (x ∷ xs) c = AllPairs-cons EndsFor x xs (chain_ends b x xs c
 
 -- The laws
 
-AreRuns-chain : (times : List BusyTime) (range : Range) (found : List BusyTime) → Chain range.start.0 range.end.0 found → SameClasses range.start.0 range.end.0 found times → AreRuns times range found
+pub AreRuns-chain : (times : List BusyTime) (range : Range) (found : List BusyTime) → Chain range.start.0 range.end.0 found → SameClasses range.start.0 range.end.0 found times → AreRuns times range found
 AreRuns-chain times range found c s = record {
   within = chain_within range.start.0 range.start.0 range.end.0 found (omega (arith, ints)) c;
   in_order = chain_order range.start.0 range.end.0 found c;
@@ -306,9 +312,9 @@ AreRuns-runs times range = ⊎_elim
 pub AreRuns-same : (times : List BusyTime) (range : Range) (xs ys : List BusyTime) → AreRuns times range xs → AreRuns times range ys → xs ≡ ys
 AreRuns-same times range xs ys f g =
     chain_same xs ys range.start.0 range.end.0
-      (chain_from range.start.0 range.end.0 xs f.within f.in_order f.longest)
-      (chain_from range.start.0 range.end.0 ys g.within g.in_order g.longest)
-      (λ t l m. f.classes t l m ∙ sym (g.classes t l m))
+    (chain_from range.start.0 range.end.0 xs f.within f.in_order f.longest)
+    (chain_from range.start.0 range.end.0 ys g.within g.in_order g.longest)
+    (λ t l m. f.classes t l m ∙ sym (g.classes t l m))
 
 -- what is right is the runs
 pub runs-AreRuns : (times : List BusyTime) (range : Range) (found : List BusyTime) → AreRuns times range found → found ≡ runs times range

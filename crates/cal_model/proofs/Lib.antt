@@ -23,8 +23,8 @@ mod OverlapExamples
 mod CostExamples
 mod RuleTextExamples
 mod ValueExamples
-mod FilterLemmas
+pub mod FilterLemmas
 mod MatchingExamples
 mod CalendarDataExamples
 mod BusyRunExamples
-mod BusyRunLaws
+pub mod BusyRunLaws
