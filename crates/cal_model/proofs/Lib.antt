@@ -28,3 +28,4 @@ mod MatchingExamples
 mod CalendarDataExamples
 mod BusyRunExamples
 pub mod BusyRunLaws
+mod PickLaws
