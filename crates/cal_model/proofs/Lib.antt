@@ -29,3 +29,4 @@ mod CalendarDataExamples
 mod BusyRunExamples
 pub mod BusyRunLaws
 mod PickLaws
+mod MatchingLaws

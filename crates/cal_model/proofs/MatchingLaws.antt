@@ -1,0 +1,213 @@
+-- Whether an object matches a filter depends on no other rows than those that can meet a range of the filter.
+use Rattle.std.proofs.Common.{◌≡◌, ℕ, zero, suc, ◌+◌, ◌<◌, Bool, true, false, cond, not, ◌&&◌, ◌||◌, List, [], ◌∷◌, ◌++◌, map, length, Option, Some, None, refl, sym, ap, ◌∙◌, subst, append_assoc, arith}
+use Rattle.std.specs.Prelude.{IsTrue, ◌==◌, flat_map, filter, option_to_list, slice_get, codes}
+use Rattle.std.specs.List.{list_any, list_all, Contains, AllByRecursion}
+use Rattle.std.proofs.lemmas.Bool.{false≢true, eqb-true, and_parts}
+use Rattle.std.proofs.lemmas.List.Elements.{Contains-get_or, recursion_from_All}
+use Rattle.std.proofs.lemmas.Option.{slice_get_within, get_or_from_slice_get}
+use Rattle.std.proofs.lemmas.Grind.{common_steps}
+use Rattle.std.proofs.lemmas.List.Folds.{list_any_at, Any-from_list_any}
+use Rattle.cal_base.specs.declared.line.Node.{Node}
+use Rattle.cal_model.specs.declared.filter.CompFilter.{CompFilter}
+use Rattle.cal_model.specs.declared.filter.CompFilter.TheOpen.{CompFilter-F}
+use Rattle.cal_model.specs.declared.filter.CompFilter.TheViews.{roll-CompFilter}
+use Rattle.cal_model.specs.declared.filter.CompFilter.TheFolds.{ind-CompFilter}
+use Rattle.cal_model.specs.declared.filter.Filter.{Filter}
+use Rattle.cal_model.specs.declared.filter.PropFilter.{PropFilter}
+use Rattle.cal_model.specs.declared.object.Alarm.{Alarm}
+use Rattle.cal_model.specs.declared.object.Component.{Component}
+use Rattle.cal_model.specs.declared.object.Object.{Object}
+use Rattle.cal_model.specs.declared.row.Fixed.{Fixed}
+use Rattle.cal_model.specs.declared.row.Range.{Range}
+use Rattle.cal_model.specs.declared.row.Row.{Row}
+use Rattle.cal_model.specs.declared.zone.ZoneTable.{ZoneTable}
+use Rattle.cal_model.specs.ComponentLines.{is_named}
+use Rattle.cal_model.specs.Matching.{Matched, Site, matches, comp_filter_holds, comp_step, passes_all, has_filter_name, time_passes, range_passes, component_passes, valarm_passes, alarm_passes, alarm_at, alarms_before, has_trigger, component_of, component_at, holder_of, sites_in, whole_site}
+use Rattle.cal_model.specs.NamedRanges.{ranges_of_filter, ranges_of_test, ranges_step}
+use Rattle.cal_model.specs.Overlap.{overlaps, alarm_overlaps, fixed}
+use Rattle.cal_model.specs.RowRanges.{component_of_row, row_meets, row_overlaps, row_alarms, moment_of_row}
+use Rattle.cal_model.specs.Rows.{Numbered, numbered_from, is_dated}
+use Rattle.cal_model.proofs.FilterLemmas.{comp_filter_holds_roll, ranges_of_filter_roll}
+
+-- Tests of lists
+
+same_bool : (s t : Bool) → (s ≡ true → t ≡ true) → (t ≡ true → s ≡ true) → s ≡ t
+same_bool true t f g = sym (f refl)
+same_bool false true f g = g refl
+same_bool false false f g = refl
+
+any_from : {X : Type 0} (p : X → Bool) (xs : List X) (x : X) → Contains xs x → p x ≡ true → list_any p xs ≡ true
+any_from p xs x c e = list_any_at p xs c.0 x c.1 (ap p c.2 ∙ e)
+
+-- a test that finds nothing beyond some elements finds in all what it finds in those
+any_same : {X : Type 0} (p : X → Bool) (some all : List X) → ((x : X) → Contains some x → Contains all x) → ((x : X) → Contains all x → p x ≡ true → Contains some x) → list_any p some ≡ list_any p all
+any_same p some all sub enough = same_bool (list_any p some) (list_any p all)
+    (λ e. let found = Any-from_list_any p some e in any_from p all found.1 (sub found.1 (found.0, found.2, found.3)) found.4)
+    (λ e. let found = Any-from_list_any p all e in any_from p some found.1 (enough found.1 (found.0, found.2, found.3) found.4) found.4)
+
+any_agree : {X : Type 0} (p q : X → Bool) (Q : X → Type 0) → ((x : X) → Q x → p x ≡ q x) → (xs : List X) → AllByRecursion Q xs → list_any p xs ≡ list_any q xs
+any_agree p q Q f [] a = refl
+any_agree p q Q f (x ∷ xs) a = rw (f x a.0) (ap (λ t. q x || t) (any_agree p q Q f xs a.1))
+
+any_agree_all : {X : Type 0} (p q : X → Bool) → ((x : X) → p x ≡ q x) → (xs : List X) → list_any p xs ≡ list_any q xs
+any_agree_all p q f [] = refl
+any_agree_all p q f (x ∷ xs) = rw (f x) (ap (λ t. q x || t) (any_agree_all p q f xs))
+
+any_cond : {X : Type 0} (p : X → Bool) (test : Bool) (x : X) (xs : List X) → list_any p (cond test (x ∷ xs) xs) ≡ ((test && p x) || list_any p xs)
+any_cond p true x xs = refl
+any_cond p false x xs = refl
+
+any_filter : {X : Type 0} (p q : X → Bool) (xs : List X) → list_any p (filter q xs) ≡ list_any (λ x. q x && p x) xs
+any_filter p q [] = refl
+any_filter p q (x ∷ xs) = any_cond p (q x) x (filter q xs) ∙ ap (λ t. (q x && p x) || t) (any_filter p q xs)
+
+any_map : {X Y : Type 0} (p : Y → Bool) (f : X → Y) (xs : List X) → list_any p (map f xs) ≡ list_any (λ x. p (f x)) xs
+any_map p f [] = refl
+any_map p f (x ∷ xs) = ap (λ t. p (f x) || t) (any_map p f xs)
+
+any_at : {X : Type 0} (p : X → Bool) (xs : List X) (k : ℕ) (x : X) → slice_get xs k ≡ Some x → p x ≡ true → list_any p xs ≡ true
+any_at p xs k x e h = any_from p xs x (k, slice_get_within xs k x e, get_or_from_slice_get xs k x x e) h
+
+all_cond : {X : Type 0} (Q : X → Type 0) (test : Bool) (x : X) (xs : List X) → Q x → AllByRecursion Q xs → AllByRecursion Q (cond test (x ∷ xs) xs)
+all_cond Q true x xs q a = (q, a)
+all_cond Q false x xs q a = a
+
+all_filter : {X : Type 0} (Q : X → Type 0) (p : X → Bool) (xs : List X) → AllByRecursion Q xs → AllByRecursion Q (filter p xs)
+all_filter Q p [] a = tt
+all_filter Q p (x ∷ xs) a = all_cond Q (p x) x (filter p xs) a.0 (all_filter Q p xs a.1)
+
+all_front : {X : Type 0} (Q : X → Type 0) (xs ys : List X) → AllByRecursion Q (xs ++ ys) → AllByRecursion Q xs
+all_front Q [] ys a = tt
+all_front Q (x ∷ xs) ys a = (a.0, all_front Q xs ys a.1)
+
+all_back : {X : Type 0} (Q : X → Type 0) (xs ys : List X) → AllByRecursion Q (xs ++ ys) → AllByRecursion Q ys
+all_back Q [] ys a = a
+all_back Q (x ∷ xs) ys a = all_back Q xs ys a.1
+
+-- Numbers of components
+
+abbrev pub IsNumbered : List Component → Numbered → Type 0
+IsNumbered components n = slice_get components n.number ≡ Some n.component
+
+at_end_of_front : (front : List Component) (c : Component) (cs : List Component) → slice_get (front ++ c ∷ cs) (length front) ≡ Some c
+at_end_of_front [] c cs = refl
+at_end_of_front (d ∷ front) c cs = at_end_of_front front c cs
+
+numbered_is : (cs front : List Component) → AllByRecursion (IsNumbered (front ++ cs)) (numbered_from (length front) cs)
+numbered_is [] front = tt
+numbered_is (c ∷ cs) front =
+    let joined : (front ++ (c ∷ [])) ++ cs ≡ front ++ c ∷ cs = append_assoc front (c ∷ []) cs in
+    let longer : length (front ++ (c ∷ [])) ≡ length front + 1 = grind (arith, common_steps) in
+    (at_end_of_front front c cs, subst (λ n. AllByRecursion (IsNumbered (front ++ c ∷ cs)) (numbered_from n cs)) longer (rw joined at (numbered_is cs (front ++ (c ∷ [])))))
+
+component_at_is : (object : Object) (child : ℕ) → AllByRecursion (IsNumbered object.components) (component_at object child)
+component_at_is object child = all_filter (IsNumbered object.components) (λ (n : Numbered). n.component.child == child) (numbered_from 0 object.components) (numbered_is object.components [])
+
+component_of_is : (object : Object) (path : List ℕ) → AllByRecursion (IsNumbered object.components) (component_of object path)
+component_of_is object [] = tt
+component_of_is object (child ∷ []) = component_at_is object child
+component_of_is object (a ∷ b ∷ path) = tt
+
+holder_of_is : (object : Object) (path : List ℕ) → AllByRecursion (IsNumbered object.components) (holder_of object path)
+holder_of_is object [] = tt
+holder_of_is object (a ∷ []) = tt
+holder_of_is object (place ∷ child ∷ []) = component_at_is object child
+holder_of_is object (a ∷ b ∷ c ∷ path) = tt
+
+-- Rows
+
+-- the rows of an object that a range may depend on are among some of them
+pub record AreEnough (object : Object) (zone : ZoneTable) (range : Range) (some all : List Row) : Type 0 where
+  pub rows_of : (row : Row) → Contains some row → Contains all row
+  pub meeting : (row : Row) → Contains all row → row_meets object zone range row ≡ true → Contains some row
+
+abbrev with_rows : Object → ZoneTable → List Row → Matched
+with_rows object zone rows = record { object = object; rows = rows; zone = zone }
+
+or_right : (s t : Bool) → t ≡ true → (s || t) ≡ true
+or_right true t e = refl
+or_right false t e = e
+
+or_left : (s t : Bool) → s ≡ true → (s || t) ≡ true
+or_left true t e = refl
+or_left false t e = absurd (false≢true e)
+
+component_of_row_is : (object : Object) (row : Row) (n : Numbered) → IsNumbered object.components n → (row.component == n.number) ≡ true → component_of_row object row ≡ n.component ∷ []
+component_of_row_is object row n is e = ap option_to_list (ap (slice_get object.components) (eqb-true row.component n.number e) ∙ is)
+
+overlap_meets : (object : Object) (zone : ZoneTable) (range : Range) (n : Numbered) → IsNumbered object.components n → (row : Row)
+    → ((row.component == n.number) && overlaps n.component (fixed row zone) range) ≡ true → row_meets object zone range row ≡ true
+overlap_meets object zone range n is row e =
+    let both = and_parts (row.component == n.number) (overlaps n.component (fixed row zone) range) e in
+    or_left (row_overlaps object zone range row) (row_alarms object zone range row)
+      (ap (list_any (λ c. overlaps c (fixed row zone) range)) (component_of_row_is object row n is both.0) ∙ or_left (overlaps n.component (fixed row zone) range) false both.1)
+
+component_passes_same : (object : Object) (zone : ZoneTable) (range : Range) (some all : List Row) → AreEnough object zone range some all → (n : Numbered) → IsNumbered object.components n
+    → component_passes (with_rows object zone some) range n ≡ component_passes (with_rows object zone all) range n
+component_passes_same object zone range some all enough n is =
+    let p : Row → Bool = λ row. overlaps n.component (fixed row zone) range in
+    let q : Row → Bool = λ row. row.component == n.number in
+    any_filter p q some ∙ any_same (λ row. q row && p row) some all enough.rows_of (λ row c e. enough.meeting row c (overlap_meets object zone range n is row e)) ∙ sym (any_filter p q all)
+
+-- an alarm of a component
+abbrev pub IsAlarm : Numbered → Alarm → Type 0
+IsAlarm n alarm = (k : ℕ) × (slice_get n.component.alarms k ≡ Some alarm)
+
+some_at : (n : Numbered) (k : ℕ) (found : Option Alarm) → slice_get n.component.alarms k ≡ found → AllByRecursion (IsAlarm n) (option_to_list found)
+some_at n k None e = tt
+some_at n k (Some alarm) e = ((k, e), tt)
+
+alarm_at_is : (object : Object) (path : List ℕ) (n : Numbered) → AllByRecursion (IsAlarm n) (option_to_list (alarm_at object path n))
+alarm_at_is object [] n = tt
+alarm_at_is object (a ∷ []) n = tt
+alarm_at_is object (place ∷ child ∷ []) n = some_at n (alarms_before object place child) (slice_get n.component.alarms (alarms_before object place child)) refl
+alarm_at_is object (a ∷ b ∷ c ∷ path) n = tt
+
+moment_is : (zone : ZoneTable) (row : Row) → is_dated row ≡ true → moment_of_row zone row ≡ Some (fixed row zone)
+moment_is zone row e = rw e refl
+
+alarm_meets : (object : Object) (zone : ZoneTable) (range : Range) (n : Numbered) → IsNumbered object.components n → (alarm : Alarm) → IsAlarm n alarm → (row : Row)
+    → ((row.component == n.number) && (is_dated row && alarm_overlaps alarm n.component (Some (fixed row zone)) range)) ≡ true → row_meets object zone range row ≡ true
+alarm_meets object zone range n is alarm its row e =
+    let both = and_parts (row.component == n.number) (is_dated row && alarm_overlaps alarm n.component (Some (fixed row zone)) range) e in
+    let dated = and_parts (is_dated row) (alarm_overlaps alarm n.component (Some (fixed row zone)) range) both.1 in
+    let test : Alarm → Bool = λ a. alarm_overlaps a n.component (moment_of_row zone row) range in
+    let found : list_any test n.component.alarms ≡ true = any_at test n.component.alarms its.0 alarm its.1 (ap (λ at. alarm_overlaps alarm n.component at range) (moment_is zone row dated.0) ∙ dated.1) in
+    or_right (row_overlaps object zone range row) (row_alarms object zone range row)
+      (ap (list_any (λ (c : Component). list_any (λ a. alarm_overlaps a c (moment_of_row zone row) range) c.alarms)) (component_of_row_is object row n is both.0) ∙ or_left (list_any test n.component.alarms) false found)
+
+alarm_form : (g : Option Fixed → Bool) (zone : ZoneTable) (number : ℕ) (rows : List Row)
+    → list_any g (map (λ row. Some (fixed row zone)) (filter is_dated (filter (λ (row : Row). row.component == number) rows)))
+    ≡ list_any (λ (row : Row). (row.component == number) && (is_dated row && g (Some (fixed row zone)))) rows
+alarm_form g zone number rows =
+    let q : Row → Bool = λ row. row.component == number in
+    any_map g (λ row. Some (fixed row zone)) (filter is_dated (filter q rows)) ∙ any_filter (λ row. g (Some (fixed row zone))) is_dated (filter q rows)
+    ∙ any_filter (λ row. is_dated row && g (Some (fixed row zone))) q rows
+
+alarm_passes_same : (object : Object) (zone : ZoneTable) (range : Range) (some all : List Row) → AreEnough object zone range some all → (n : Numbered) → IsNumbered object.components n → (alarm : Alarm) → IsAlarm n alarm
+    → alarm_passes (with_rows object zone some) range n alarm ≡ alarm_passes (with_rows object zone all) range n alarm
+alarm_passes_same object zone range some all enough n is alarm its =
+    let g : Option Fixed → Bool = λ at. alarm_overlaps alarm n.component at range in
+    ap (λ t. g None || t) (alarm_form g zone n.number some
+      ∙ any_same (λ row. (row.component == n.number) && (is_dated row && g (Some (fixed row zone)))) some all enough.rows_of (λ row c e. enough.meeting row c (alarm_meets object zone range n is alarm its row e))
+      ∙ sym (alarm_form g zone n.number all))
+
+valarm_passes_same : (object : Object) (zone : ZoneTable) (range : Range) (some all : List Row) → AreEnough object zone range some all → (site : Site) (holders : List Numbered) → AllByRecursion (IsNumbered object.components) holders
+    → valarm_passes (with_rows object zone some) range site holders ≡ valarm_passes (with_rows object zone all) range site holders
+valarm_passes_same object zone range some all enough site [] is = refl
+valarm_passes_same object zone range some all enough site (n ∷ more) is =
+    ap (λ t. has_trigger site.node && t) (any_agree (alarm_passes (with_rows object zone some) range n) (alarm_passes (with_rows object zone all) range n) (IsAlarm n)
+      (λ alarm its. alarm_passes_same object zone range some all enough n is.0 alarm its) (option_to_list (alarm_at object site.path n)) (alarm_at_is object site.path n))
+
+cond_same : (test : Bool) (s s' t t' : Bool) → s ≡ s' → t ≡ t' → cond test s t ≡ cond test s' t'
+cond_same test s s' t t' e f = λ i. cond test (e i) (f i)
+
+range_passes_same : (object : Object) (zone : ZoneTable) (range : Range) (some all : List Row) → AreEnough object zone range some all → (site : Site)
+    → range_passes (with_rows object zone some) range site ≡ range_passes (with_rows object zone all) range site
+range_passes_same object zone range some all enough site =
+    cond_same (is_named (codes "VALARM") site.node)
+      (valarm_passes (with_rows object zone some) range site (holder_of object site.path)) (valarm_passes (with_rows object zone all) range site (holder_of object site.path))
+      (list_any (component_passes (with_rows object zone some) range) (component_of object site.path)) (list_any (component_passes (with_rows object zone all) range) (component_of object site.path))
+      (valarm_passes_same object zone range some all enough site (holder_of object site.path) (holder_of_is object site.path))
+      (any_agree (component_passes (with_rows object zone some) range) (component_passes (with_rows object zone all) range) (IsNumbered object.components)
+        (λ n is. component_passes_same object zone range some all enough n is) (component_of object site.path) (component_of_is object site.path))
