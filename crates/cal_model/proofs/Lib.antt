@@ -28,5 +28,5 @@ mod MatchingExamples
 mod CalendarDataExamples
 mod BusyRunExamples
 pub mod BusyRunLaws
-mod PickLaws
-mod MatchingLaws
+pub mod PickLaws
+pub mod MatchingLaws

@@ -1,5 +1,5 @@
 -- Whether an object matches a filter depends on no other rows than those that can meet a range of the filter.
-use Rattle.std.proofs.Common.{◌≡◌, ℕ, zero, suc, ◌+◌, ◌<◌, Bool, true, false, cond, not, ◌&&◌, ◌||◌, List, [], ◌∷◌, ◌++◌, map, length, Option, Some, None, refl, sym, ap, ◌∙◌, subst, append_assoc, arith}
+use Rattle.std.proofs.Common.{◌≡◌, ℕ, zero, suc, ◌+◌, ◌<◌, Bool, true, false, cond, not, ◌&&◌, ◌||◌, List, [], ◌∷◌, ◌++◌, map, length, Option, Some, None, refl, sym, ap, ◌∙◌, subst, append_assoc, get_or, arith}
 use Rattle.std.specs.Prelude.{IsTrue, ◌==◌, flat_map, filter, option_to_list, slice_get, codes}
 use Rattle.std.specs.List.{list_any, list_all, Contains, AllByRecursion}
 use Rattle.std.proofs.lemmas.Bool.{false≢true, eqb-true, and_parts}
@@ -22,11 +22,11 @@ use Rattle.cal_model.specs.declared.row.Range.{Range}
 use Rattle.cal_model.specs.declared.row.Row.{Row}
 use Rattle.cal_model.specs.declared.zone.ZoneTable.{ZoneTable}
 use Rattle.cal_model.specs.ComponentLines.{is_named}
-use Rattle.cal_model.specs.Matching.{Matched, Site, matches, comp_filter_holds, comp_step, passes_all, has_filter_name, time_passes, range_passes, component_passes, valarm_passes, alarm_passes, alarm_at, alarms_before, has_trigger, component_of, component_at, holder_of, sites_in, whole_site}
+use Rattle.cal_model.specs.Matching.{Matched, Site, matches, matches_object, comp_filter_holds, prop_filter_holds, comp_step, passes_all, has_filter_name, time_passes, range_passes, component_passes, valarm_passes, alarm_passes, alarm_at, alarms_before, has_trigger, component_of, component_at, holder_of, sites_in, whole_site}
 use Rattle.cal_model.specs.NamedRanges.{ranges_of_filter, ranges_of_test, ranges_step}
 use Rattle.cal_model.specs.Overlap.{overlaps, alarm_overlaps, fixed}
 use Rattle.cal_model.specs.RowRanges.{component_of_row, row_meets, row_overlaps, row_alarms, moment_of_row}
-use Rattle.cal_model.specs.Rows.{Numbered, numbered_from, is_dated}
+use Rattle.cal_model.specs.Rows.{Numbered, numbered_from, is_dated, rows}
 use Rattle.cal_model.proofs.FilterLemmas.{comp_filter_holds_roll, ranges_of_filter_roll}
 
 -- Tests of lists
@@ -140,7 +140,7 @@ overlap_meets : (object : Object) (zone : ZoneTable) (range : Range) (n : Number
 overlap_meets object zone range n is row e =
     let both = and_parts (row.component == n.number) (overlaps n.component (fixed row zone) range) e in
     or_left (row_overlaps object zone range row) (row_alarms object zone range row)
-      (ap (list_any (λ c. overlaps c (fixed row zone) range)) (component_of_row_is object row n is both.0) ∙ or_left (overlaps n.component (fixed row zone) range) false both.1)
+    (ap (list_any (λ c. overlaps c (fixed row zone) range)) (component_of_row_is object row n is both.0) ∙ or_left (overlaps n.component (fixed row zone) range) false both.1)
 
 component_passes_same : (object : Object) (zone : ZoneTable) (range : Range) (some all : List Row) → AreEnough object zone range some all → (n : Numbered) → IsNumbered object.components n
     → component_passes (with_rows object zone some) range n ≡ component_passes (with_rows object zone all) range n
@@ -174,7 +174,7 @@ alarm_meets object zone range n is alarm its row e =
     let test : Alarm → Bool = λ a. alarm_overlaps a n.component (moment_of_row zone row) range in
     let found : list_any test n.component.alarms ≡ true = any_at test n.component.alarms its.0 alarm its.1 (ap (λ at. alarm_overlaps alarm n.component at range) (moment_is zone row dated.0) ∙ dated.1) in
     or_right (row_overlaps object zone range row) (row_alarms object zone range row)
-      (ap (list_any (λ (c : Component). list_any (λ a. alarm_overlaps a c (moment_of_row zone row) range) c.alarms)) (component_of_row_is object row n is both.0) ∙ or_left (list_any test n.component.alarms) false found)
+    (ap (list_any (λ (c : Component). list_any (λ a. alarm_overlaps a c (moment_of_row zone row) range) c.alarms)) (component_of_row_is object row n is both.0) ∙ or_left (list_any test n.component.alarms) false found)
 
 alarm_form : (g : Option Fixed → Bool) (zone : ZoneTable) (number : ℕ) (rows : List Row)
     → list_any g (map (λ row. Some (fixed row zone)) (filter is_dated (filter (λ (row : Row). row.component == number) rows)))
@@ -189,15 +189,15 @@ alarm_passes_same : (object : Object) (zone : ZoneTable) (range : Range) (some a
 alarm_passes_same object zone range some all enough n is alarm its =
     let g : Option Fixed → Bool = λ at. alarm_overlaps alarm n.component at range in
     ap (λ t. g None || t) (alarm_form g zone n.number some
-      ∙ any_same (λ row. (row.component == n.number) && (is_dated row && g (Some (fixed row zone)))) some all enough.rows_of (λ row c e. enough.meeting row c (alarm_meets object zone range n is alarm its row e))
-      ∙ sym (alarm_form g zone n.number all))
+    ∙ any_same (λ row. (row.component == n.number) && (is_dated row && g (Some (fixed row zone)))) some all enough.rows_of (λ row c e. enough.meeting row c (alarm_meets object zone range n is alarm its row e))
+    ∙ sym (alarm_form g zone n.number all))
 
 valarm_passes_same : (object : Object) (zone : ZoneTable) (range : Range) (some all : List Row) → AreEnough object zone range some all → (site : Site) (holders : List Numbered) → AllByRecursion (IsNumbered object.components) holders
     → valarm_passes (with_rows object zone some) range site holders ≡ valarm_passes (with_rows object zone all) range site holders
 valarm_passes_same object zone range some all enough site [] is = refl
 valarm_passes_same object zone range some all enough site (n ∷ more) is =
     ap (λ t. has_trigger site.node && t) (any_agree (alarm_passes (with_rows object zone some) range n) (alarm_passes (with_rows object zone all) range n) (IsAlarm n)
-      (λ alarm its. alarm_passes_same object zone range some all enough n is.0 alarm its) (option_to_list (alarm_at object site.path n)) (alarm_at_is object site.path n))
+    (λ alarm its. alarm_passes_same object zone range some all enough n is.0 alarm its) (option_to_list (alarm_at object site.path n)) (alarm_at_is object site.path n))
 
 cond_same : (test : Bool) (s s' t t' : Bool) → s ≡ s' → t ≡ t' → cond test s t ≡ cond test s' t'
 cond_same test s s' t t' e f = λ i. cond test (e i) (f i)
@@ -206,8 +206,92 @@ range_passes_same : (object : Object) (zone : ZoneTable) (range : Range) (some a
     → range_passes (with_rows object zone some) range site ≡ range_passes (with_rows object zone all) range site
 range_passes_same object zone range some all enough site =
     cond_same (is_named (codes "VALARM") site.node)
-      (valarm_passes (with_rows object zone some) range site (holder_of object site.path)) (valarm_passes (with_rows object zone all) range site (holder_of object site.path))
-      (list_any (component_passes (with_rows object zone some) range) (component_of object site.path)) (list_any (component_passes (with_rows object zone all) range) (component_of object site.path))
-      (valarm_passes_same object zone range some all enough site (holder_of object site.path) (holder_of_is object site.path))
-      (any_agree (component_passes (with_rows object zone some) range) (component_passes (with_rows object zone all) range) (IsNumbered object.components)
-        (λ n is. component_passes_same object zone range some all enough n is) (component_of object site.path) (component_of_is object site.path))
+    (valarm_passes (with_rows object zone some) range site (holder_of object site.path)) (valarm_passes (with_rows object zone all) range site (holder_of object site.path))
+    (list_any (component_passes (with_rows object zone some) range) (component_of object site.path)) (list_any (component_passes (with_rows object zone all) range) (component_of object site.path))
+    (valarm_passes_same object zone range some all enough site (holder_of object site.path) (holder_of_is object site.path))
+    (any_agree (component_passes (with_rows object zone some) range) (component_passes (with_rows object zone all) range) (IsNumbered object.components)
+    (λ n is. component_passes_same object zone range some all enough n is) (component_of object site.path) (component_of_is object site.path))
+
+-- Filters: two lists of rows that pass the same ranges of a filter give it the same answer
+
+abbrev pub IsSame : Object → ZoneTable → List Row → List Row → Range → Type 0
+IsSame object zone some all range = (site : Site) → range_passes (with_rows object zone some) range site ≡ range_passes (with_rows object zone all) range site
+
+abbrev joined : List (List Range) → List Range
+joined lists = flat_map (λ (inner : List Range). inner) lists
+
+abbrev pub IsAgreed : Object → ZoneTable → List Row → List Row → CompFilter → Type 0
+IsAgreed object zone some all filter =
+    AllByRecursion (IsSame object zone some all) (ranges_of_filter filter) → (sites : List Site)
+    → comp_filter_holds (with_rows object zone some) filter sites ≡ comp_filter_holds (with_rows object zone all) filter sites
+
+-- the tests of a filter's components
+abbrev all_hold : Matched → List CompFilter → List Site → Bool
+all_hold matched comps sites = list_all (λ (inner : List Site → Bool). inner sites) (map (comp_filter_holds matched) comps)
+
+abbrev pub AreAgreed : Object → ZoneTable → List Row → List Row → List CompFilter → Type 0
+AreAgreed object zone some all comps =
+    AllByRecursion (IsSame object zone some all) (joined (map ranges_of_filter comps)) → (sites : List Site)
+    → all_hold (with_rows object zone some) comps sites ≡ all_hold (with_rows object zone all) comps sites
+
+agreed_list : (object : Object) (zone : ZoneTable) (some all : List Row) (es : List ((filter : CompFilter) × IsAgreed object zone some all filter)) → AreAgreed object zone some all (map (λ e. e.0) es)
+agreed_list object zone some all [] same sites = refl
+agreed_list object zone some all (e ∷ es) same sites =
+    let first = e.1 (all_front (IsSame object zone some all) (ranges_of_filter e.0) (joined (map ranges_of_filter (map (λ d. d.0) es))) same) sites in
+    let rest = agreed_list object zone some all es (all_back (IsSame object zone some all) (ranges_of_filter e.0) (joined (map ranges_of_filter (map (λ d. d.0) es))) same) sites in
+    rw first (ap (λ t. comp_filter_holds (with_rows object zone all) e.0 sites && t) rest)
+
+time_agreed : (object : Object) (zone : ZoneTable) (some all : List Row) (time : Option Range) → AllByRecursion (IsSame object zone some all) (option_to_list time) → (site : Site)
+    → time_passes (with_rows object zone some) time site ≡ time_passes (with_rows object zone all) time site
+time_agreed object zone some all None same site = refl
+time_agreed object zone some all (Some range) same site = same.0 site
+
+-- one level of a filter, with the tests of its components
+abbrev level : Matched → CompFilter-F CompFilter → CompFilter-F (List Site → Bool)
+level matched x = record { name = x.name; absent = x.absent; time = x.time; props = x.props; comps = map (comp_filter_holds matched) x.comps }
+
+site_agreed : (object : Object) (zone : ZoneTable) (some all : List Row) (x : CompFilter-F CompFilter) → AllByRecursion (IsSame object zone some all) (ranges_step (record { name = x.name; absent = x.absent; time = x.time; props = x.props; comps = map ranges_of_filter x.comps }))
+    → AreAgreed object zone some all x.comps → (site : Site)
+    → passes_all (with_rows object zone some) (level (with_rows object zone some) x) site ≡ passes_all (with_rows object zone all) (level (with_rows object zone all) x) site
+site_agreed object zone some all x same agreed site =
+    let props = flat_map (λ (p : PropFilter). ranges_of_test p.test) x.props in
+    let comps = joined (map ranges_of_filter x.comps) in
+    let time = time_agreed object zone some all x.time (all_front (IsSame object zone some all) (option_to_list x.time) (props ++ comps) same) site in
+    let inner = agreed (all_back (IsSame object zone some all) props comps (all_back (IsSame object zone some all) (option_to_list x.time) (props ++ comps) same)) (sites_in site) in
+    λ i. has_filter_name x.name site && time i && list_all (prop_filter_holds (with_rows object zone all) site) x.props && inner i
+
+level_agreed : (object : Object) (zone : ZoneTable) (some all : List Row) (x : CompFilter-F CompFilter) → AllByRecursion (IsSame object zone some all) (ranges_step (record { name = x.name; absent = x.absent; time = x.time; props = x.props; comps = map ranges_of_filter x.comps }))
+    → AreAgreed object zone some all x.comps → (sites : List Site)
+    → comp_step (with_rows object zone some) (level (with_rows object zone some) x) sites ≡ comp_step (with_rows object zone all) (level (with_rows object zone all) x) sites
+level_agreed object zone some all x same agreed sites =
+    ap (λ t. cond x.absent (not (list_any (has_filter_name x.name) sites)) t)
+    (any_agree_all (passes_all (with_rows object zone some) (level (with_rows object zone some) x)) (passes_all (with_rows object zone all) (level (with_rows object zone all) x)) (site_agreed object zone some all x same agreed) sites)
+
+roll_agreed : (object : Object) (zone : ZoneTable) (some all : List Row) (x : CompFilter-F CompFilter) → AreAgreed object zone some all x.comps → IsAgreed object zone some all (roll-CompFilter x)
+roll_agreed object zone some all x agreed same sites =
+    comp_filter_holds_roll (with_rows object zone some) x sites
+    ∙ level_agreed object zone some all x (subst (AllByRecursion (IsSame object zone some all)) (ranges_of_filter_roll x) same) agreed sites
+    ∙ sym (comp_filter_holds_roll (with_rows object zone all) x sites)
+
+agreed_filter : (object : Object) (zone : ZoneTable) (some all : List Row) (filter : CompFilter) → IsAgreed object zone some all filter
+agreed_filter object zone some all = ind-CompFilter (IsAgreed object zone some all)
+    (λ x y is. roll_agreed object zone some all x (subst (λ (z : CompFilter-F CompFilter). AreAgreed object zone some all z.comps) is (agreed_list object zone some all y.comps)))
+
+-- The law. The given rows are rows of the object, and each row of the object that meets a range of the filter is among them: then they tell as much as all rows.
+pub matches-enough_rows : (filter : Filter) (object : Object) (zone : ZoneTable) (some all : List Row)
+    → ((row : Row) → Contains some row → Contains all row)
+    → ((range : Range) → Contains (ranges_of_filter filter.top) range → (row : Row) → Contains all row → row_meets object zone range row ≡ true → Contains some row)
+    → matches filter object some zone ≡ matches filter object all zone
+matches-enough_rows filter object zone some all sub enough =
+    agreed_filter object zone some all filter.top
+    (recursion_from_All (IsSame object zone some all) (ranges_of_filter filter.top)
+    (λ k range l. range_passes_same object zone (get_or (ranges_of_filter filter.top) k range) some all
+    (record { rows_of = sub; meeting = λ row c e. enough (get_or (ranges_of_filter filter.top) k range) (Contains-get_or (ranges_of_filter filter.top) k range l) row c e })))
+    (whole_site object ∷ [])
+
+-- so they tell what all rows of the object tell
+pub matches-enough_rows_of_object : (filter : Filter) (object : Object) (zone : ZoneTable) (some : List Row)
+    → ((row : Row) → Contains some row → Contains (rows object) row)
+    → ((range : Range) → Contains (ranges_of_filter filter.top) range → (row : Row) → Contains (rows object) row → row_meets object zone range row ≡ true → Contains some row)
+    → matches filter object some zone ≡ matches_object filter object zone
+matches-enough_rows_of_object filter object zone some = matches-enough_rows filter object zone some (rows object)
