@@ -30,3 +30,4 @@ mod BusyRunExamples
 pub mod BusyRunLaws
 pub mod PickLaws
 pub mod MatchingLaws
+pub mod CalendarDataLaws

@@ -31,12 +31,12 @@ use Rattle.cal_model.proofs.FilterLemmas.{comp_filter_holds_roll, ranges_of_filt
 
 -- Tests of lists
 
-same_bool : (s t : Bool) → (s ≡ true → t ≡ true) → (t ≡ true → s ≡ true) → s ≡ t
+pub same_bool : (s t : Bool) → (s ≡ true → t ≡ true) → (t ≡ true → s ≡ true) → s ≡ t
 same_bool true t f g = sym (f refl)
 same_bool false true f g = g refl
 same_bool false false f g = refl
 
-any_from : {X : Type 0} (p : X → Bool) (xs : List X) (x : X) → Contains xs x → p x ≡ true → list_any p xs ≡ true
+pub any_from : {X : Type 0} (p : X → Bool) (xs : List X) (x : X) → Contains xs x → p x ≡ true → list_any p xs ≡ true
 any_from p xs x c e = list_any_at p xs c.0 x c.1 (ap p c.2 ∙ e)
 
 -- a test that finds nothing beyond some elements finds in all what it finds in those
@@ -45,7 +45,7 @@ any_same p some all sub enough = same_bool (list_any p some) (list_any p all)
     (λ e. let found = Any-from_list_any p some e in any_from p all found.1 (sub found.1 (found.0, found.2, found.3)) found.4)
     (λ e. let found = Any-from_list_any p all e in any_from p some found.1 (enough found.1 (found.0, found.2, found.3) found.4) found.4)
 
-any_agree : {X : Type 0} (p q : X → Bool) (Q : X → Type 0) → ((x : X) → Q x → p x ≡ q x) → (xs : List X) → AllByRecursion Q xs → list_any p xs ≡ list_any q xs
+pub any_agree : {X : Type 0} (p q : X → Bool) (Q : X → Type 0) → ((x : X) → Q x → p x ≡ q x) → (xs : List X) → AllByRecursion Q xs → list_any p xs ≡ list_any q xs
 any_agree p q Q f [] a = refl
 any_agree p q Q f (x ∷ xs) a = rw (f x a.0) (ap (λ t. q x || t) (any_agree p q Q f xs a.1))
 
@@ -57,7 +57,7 @@ any_cond : {X : Type 0} (p : X → Bool) (test : Bool) (x : X) (xs : List X) →
 any_cond p true x xs = refl
 any_cond p false x xs = refl
 
-any_filter : {X : Type 0} (p q : X → Bool) (xs : List X) → list_any p (filter q xs) ≡ list_any (λ x. q x && p x) xs
+pub any_filter : {X : Type 0} (p q : X → Bool) (xs : List X) → list_any p (filter q xs) ≡ list_any (λ x. q x && p x) xs
 any_filter p q [] = refl
 any_filter p q (x ∷ xs) = any_cond p (q x) x (filter q xs) ∙ ap (λ t. (q x && p x) || t) (any_filter p q xs)
 
