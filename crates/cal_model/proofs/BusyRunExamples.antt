@@ -1,11 +1,16 @@
 -- Examples of the class of a second, of runs and of their text (RFC 4791, 7.10). Where runs are computed, a number is an hour of the day in place of a second.
-use Rattle.std.specs.Prelude.{◌≡◌, refl, ℕ, List, [], ◌∷◌, codes, ℤ, pos, Some, None}
+use Rattle.std.specs.Prelude.{◌≡◌, refl, ℕ, List, [], ◌∷◌, codes, ℤ, pos, Option, Some, None}
 use Rattle.cal_moment.specs.Calendar.{year_of, month_of, day_of_month}
 use Rattle.cal_model.specs.declared.object.Class.{Class}
 use Rattle.cal_model.specs.declared.object.Class.TheVariants.{Busy, Unavailable, Tentative}
 use Rattle.cal_model.specs.declared.row.Range.{Range}
+use Rattle.cal_model.specs.declared.object.Extent.TheVariants as extent
+use Rattle.cal_model.specs.declared.object.Object.{Object}
+use Rattle.cal_model.specs.Alignment.{no_zone}
+use Rattle.cal_model.specs.Zones.{exists_in, instant_of, offset_at}
+use Rattle.cal_model.proofs.RowExamples.{event, object_of, utc}
 use Rattle.cal_model.specs.BusyTimes.{BusyTime}
-use Rattle.cal_model.specs.BusyRuns.{class_at, same_class, runs}
+use Rattle.cal_model.specs.BusyRuns.{calendar_times, class_at, same_class, runs}
 use Rattle.cal_model.specs.FreeBusyText.{free_busy_text}
 use Rattle.std.proofs.Common.{ap, arith}
 use Rattle.std.proofs.lemmas.Bool.{true≢false}
@@ -68,3 +73,11 @@ whole_day : two_runs ≡ runs two_times tenth_of_march
 whole_day = runs-AreRuns two_times tenth_of_march two_runs (AreRuns-chain two_times tenth_of_march two_runs
     (omega (arith, ints), omega (arith, ints), omega (arith, ints), λ e same. true≢false (ap (same_class Tentative) same), (omega (arith, ints), omega (arith, ints), omega (arith, ints), tt, tt))
     (λ t l m. same_classes t))
+
+-- a calendar with three events of that day: 9 to 11 tentative, 10 to 12, and 8 to 13 that counts as free
+abbrev pub from_to : Option Class → ℕ → ℕ → Object
+from_to class start end = object_of (record (event (Some (utc 2025 3 10 start 0)) (extent.End (utc 2025 3 10 end 0))) { busy = class } ∷ [])
+
+three_events : calendar_times no_zone (from_to (Some Tentative) 9 11 ∷ from_to (Some Busy) 10 12 ∷ from_to None 8 13 ∷ []) ≡ two_times
+unfolding exists_in instant_of offset_at
+three_events = refl

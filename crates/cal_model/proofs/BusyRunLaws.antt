@@ -178,10 +178,6 @@ longer_before t b r rs e d =
     apart [] p = tt
     apart (s ∷ ss) p = p
 
--- whether the first run is lengthened
-lengthens : ℤ → Class → BusyTime → Bool
-lengthens t c r = same_class c r.class && same_int r.start (t +ℤ pos 1)
-
 by_test : (t b : ℤ) (c : Class) (r : BusyTime) (rs : List BusyTime) → (t +ℤ pos 1) ≤ℤ b → Chain (t +ℤ pos 1) b (r ∷ rs) → (test : Bool) → test ≡ (same_class c r.class && same_int r.start (t +ℤ pos 1))
     → IsBefore t b (Some c) (r ∷ rs) (cond test (longer t r ∷ rs) (one_second t c ∷ r ∷ rs))
 by_test t b c r rs l d true e =

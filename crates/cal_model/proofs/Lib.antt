@@ -31,3 +31,4 @@ pub mod BusyRunLaws
 pub mod PickLaws
 pub mod MatchingLaws
 pub mod CalendarDataLaws
+mod ReportPairExamples

@@ -49,3 +49,4 @@ pub mod CalendarData
 pub mod BusyRuns
 pub mod FreeBusyText
 pub mod ReportPairs
+pub mod FloatingZone
