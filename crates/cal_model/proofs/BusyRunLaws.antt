@@ -1,6 +1,6 @@
 -- The runs of a range are right, and no other list is.
-use Rattle.std.proofs.Common.{◌≡◌, ◌≢◌, ℕ, zero, suc, ◌+◌, ◌-◌, ◌<◌, ◌≤◌, Bool, true, false, cond, ◌&&◌, List, [], ◌∷◌, length, Option, Some, None, refl, sym, ap, ◌∙◌, ◌⊎◌, inl, inr, ⊎_elim, arith, rules}
-use Rattle.std.specs.Prelude.{ℤ, pos, negsuc, ◌+ℤ◌, ◌-ℤ◌, ◌≤ℤ◌, ◌<ℤ◌, int_le, int_lt, nat_abs, All, AllPairs}
+use Rattle.std.proofs.Common.{◌≡◌, ◌≢◌, ℕ, zero, suc, Bool, true, false, cond, ◌&&◌, List, [], ◌∷◌, Option, Some, None, refl, sym, ap, ◌∙◌, ◌⊎◌, inl, inr, ⊎_elim, arith}
+use Rattle.std.specs.Prelude.{ℤ, pos, negsuc, ◌+ℤ◌, ◌-ℤ◌, ◌≤ℤ◌, ◌<ℤ◌, int_lt, nat_abs, All, AllPairs}
 use Rattle.std.proofs.lemmas.Int.{ints, by_lt_z}
 use Rattle.std.proofs.lemmas.Bool.{false≢true, eqb-true, eq-eqb, and_parts, and_from}
 use Rattle.std.specs.Option.{is_some}
@@ -11,7 +11,7 @@ use Rattle.cal_model.specs.declared.object.Class.TheVariants.{Busy, Unavailable,
 use Rattle.cal_model.specs.declared.row.Range.{Range}
 use Rattle.cal_model.specs.BusyTimes.{BusyTime}
 use Rattle.cal_model.specs.Numbers.{same_int}
-use Rattle.cal_model.specs.BusyRuns.{holds, greater, greatest_class, class_at, runs, runs_from, with_second, with_class, one_second, same_class, size, AreRuns}
+use Rattle.cal_model.specs.BusyRuns.{holds, greater, class_at, runs, runs_from, with_second, with_class, one_second, same_class, size, AreRuns}
 
 holds_within : (t : ℤ) (r : BusyTime) → r.start ≤ℤ t → t <ℤ r.end → holds t r ≡ true
 holds_within t r a b = grind (arith, ints)

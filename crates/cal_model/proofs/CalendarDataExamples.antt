@@ -1,14 +1,11 @@
 -- Examples of calendar data, after RFC 4791, 7.8.1 to 7.8.3.
-use Rattle.std.specs.Prelude.{◌≡◌, refl, ℕ, ◌+◌, ◌*◌, Bool, true, false, List, [], ◌∷◌, ◌++◌, map, flat_map, codes, ℤ, pos, neg_ℤ, Option, Some, None}
+use Rattle.std.specs.Prelude.{◌≡◌, refl, ℕ, Bool, true, false, List, [], ◌∷◌, ◌++◌, map, codes, pos, Some, None}
 use Rattle.std.specs.Str.{chars}
 use lib.Utf8.{encode}
 use denote.Hole.Carrier as H
 use Rattle.cal_base.specs.declared.line.Line.{Line}
-use Rattle.cal_base.specs.declared.line.Param.{Param}
 use Rattle.cal_base.specs.declared.line.Node.{Node}
-use Rattle.cal_base.specs.ComponentTrees.{printed}
 use Rattle.cal_moment.specs.Calendar.{day_of_date, year_of, month_of, day_of_month}
-use Rattle.cal_moment.specs.declared.stamp.Stamp.TheVariants.{Utc}
 use Rattle.cal_moment.specs.declared.stamp.PeriodEnd.TheVariants.{After}
 use Rattle.cal_model.specs.declared.object.Component.{Component}
 use Rattle.cal_model.specs.declared.object.Kind.TheVariants.{Event, Todo}

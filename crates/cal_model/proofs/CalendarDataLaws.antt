@@ -1,5 +1,5 @@
 -- What is shown of an object depends on no other rows than those that overlap the selection's range, and the overrides' own rows where overrides are limited.
-use Rattle.std.proofs.Common.{◌≡◌, ℕ, Bool, true, false, cond, not, ◌&&◌, ◌||◌, List, [], ◌∷◌, ◌++◌, map, Option, Some, None, get_or, refl, sym, ap, ◌∙◌}
+use Rattle.std.proofs.Common.{◌≡◌, ℕ, Bool, true, false, cond, not, ◌&&◌, ◌||◌, List, [], ◌∷◌, ◌++◌, map, get_or, refl, sym, ap, ◌∙◌}
 use Rattle.std.specs.Prelude.{◌==◌, flat_map, filter, take, option_to_list}
 use Rattle.std.specs.List.{list_any, enumerate_from, Contains, AllByRecursion}
 use Rattle.std.proofs.lemmas.Bool.{and_parts, and_from}
@@ -14,9 +14,8 @@ use Rattle.cal_model.specs.declared.selection.Recur.TheVariants.{Whole, Expand, 
 use Rattle.cal_model.specs.declared.selection.Selection.{Selection}
 use Rattle.cal_model.specs.declared.zone.ZoneTable.{ZoneTable}
 use Rattle.cal_model.specs.CalendarData.{shown, recurrence_shown, busy_shown, takes_all}
-use Rattle.cal_model.specs.Expansion.{expanded, overlapping, expanded_children, instances_of_row, plain_lines}
-use Rattle.cal_model.specs.LimitedSets.{original_row, limited, left_out, is_left_out, rows_of_override, ids_of_override, dated_ids, original_rows, rows_to_test}
-use Rattle.cal_model.specs.NamedRanges.{ranges_of_recur}
+use Rattle.cal_model.specs.Expansion.{expanded_children, instances_of_row, plain_lines}
+use Rattle.cal_model.specs.LimitedSets.{original_row, left_out, is_left_out}
 use Rattle.cal_model.specs.Picks.{picked_text}
 use Rattle.cal_model.specs.RowRanges.{row_overlaps}
 use Rattle.cal_model.specs.Rows.{Numbered, overrides, masters, named_by, id_of_override, ids_start, is_dated}

@@ -1,5 +1,5 @@
 -- Examples of filters, after RFC 4791, 7.8 and 9.7: an event from 9 to 10 o'clock of 10 March 2025 with an alarm a quarter of an hour before.
-use Rattle.std.specs.Prelude.{◌≡◌, refl, ℕ, ◌+◌, ◌*◌, Bool, true, false, List, [], ◌∷◌, ◌++◌, codes, ℤ, pos, neg_ℤ, Option, Some, None}
+use Rattle.std.specs.Prelude.{◌≡◌, refl, ℕ, ◌+◌, ◌*◌, Bool, true, false, List, [], ◌∷◌, ◌++◌, codes, pos, neg_ℤ, Option, Some, None}
 use denote.Hole.Carrier as H
 use Rattle.cal_base.specs.declared.line.Line.{Line}
 use Rattle.cal_base.specs.declared.line.Param.{Param}
@@ -28,7 +28,7 @@ use Rattle.cal_model.specs.declared.object.Related.TheVariants as related
 use Rattle.cal_model.specs.declared.object.Trigger.TheVariants as trigger
 use Rattle.cal_model.specs.declared.row.Range.{Range}
 use Rattle.cal_model.specs.declared.row.Row.{Row}
-use Rattle.cal_model.specs.declared.row.RowKind.TheVariants.{Instant, Undated}
+use Rattle.cal_model.specs.declared.row.RowKind.TheVariants.{Instant}
 use Rattle.cal_model.specs.Alignment.{no_zone}
 use Rattle.cal_model.specs.Matching.{matches}
 use Rattle.cal_model.specs.Numbers.{counted_from}

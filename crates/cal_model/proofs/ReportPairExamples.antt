@@ -1,10 +1,8 @@
 -- Examples of the windows that a report may need.
-use Rattle.std.specs.Prelude.{◌≡◌, refl, ℕ, true, false, List, [], ◌∷◌, codes, ℤ, pos, neg_ℤ, Some, None}
-use Rattle.cal_model.specs.declared.filter.CompFilter.{CompFilter}
+use Rattle.std.specs.Prelude.{◌≡◌, refl, true, false, [], ◌∷◌, codes, pos, neg_ℤ, Some, None}
 use Rattle.cal_model.specs.declared.object.Extent.TheVariants as extent
 use Rattle.cal_model.specs.declared.object.Object.{Object}
 use Rattle.cal_model.specs.declared.property.Props.TheVariants.{None as NoProps}
-use Rattle.cal_model.specs.declared.report.ReportRequest.{ReportRequest}
 use Rattle.cal_model.specs.declared.report.ReportRequest.TheVariants.{Query, Multiget, FreeBusy}
 use Rattle.cal_model.specs.declared.row.Range.{Range}
 use Rattle.cal_model.specs.declared.selection.Recur.TheVariants.{Whole, Limit}

@@ -1,6 +1,6 @@
 -- The dates of a component that a range in a prop-filter is tested on (RFC 4791, 9.7.2 and 9.9): those of its date properties, and the end that DURATION makes.
 -- What a line's value spells stands in `StampTexts`, and which moments a range has in `Overlap`.
-use Rattle.std.specs.Prelude.{ℕ, Bool, ◌&&◌, if◌then◌else◌, List, [], ◌∷◌, ◌++◌, map, filter_map, option_to_list, option_map, option_and_then, bytes_eq, codes, ℤ, Option, Some, None}
+use Rattle.std.specs.Prelude.{ℕ, Bool, ◌&&◌, if◌then◌else◌, List, [], ◌∷◌, ◌++◌, map, filter_map, option_to_list, option_map, option_and_then, bytes_eq, codes, ℤ, Option}
 use Rattle.std.specs.List.{list_any}
 use Rattle.cal_base.specs.declared.line.Line.{Line}
 use Rattle.cal_base.specs.declared.line.Node.{Node}

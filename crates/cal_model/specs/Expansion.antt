@@ -1,6 +1,6 @@
 -- A recurring object as single instances, the option `expand` of calendar data (RFC 4791, 9.6.5): a transformation of the tree by the rows that overlap the range.
 -- Rows, overlap and picks stand elsewhere; nothing here says how rows are found.
-use Rattle.std.specs.Prelude.{ℕ, ◌-◌, Bool, true, false, not, ◌&&◌, ◌||◌, if◌then◌else◌, List, [], ◌∷◌, ◌++◌, length, take, drop, filter, flat_map, option_to_list, slice_get, bytes_eq, codes, is_some, is_none, ℤ, Option, Some, None}
+use Rattle.std.specs.Prelude.{ℕ, ◌-◌, Bool, true, false, not, ◌&&◌, ◌||◌, if◌then◌else◌, List, [], ◌∷◌, ◌++◌, length, take, drop, filter, flat_map, option_to_list, slice_get, bytes_eq, codes, is_some, is_none, ℤ, Some, None}
 use Rattle.std.specs.List.{list_any, join_with_byte, position_or_len}
 use Rattle.cal_base.specs.declared.line.Line.{Line}
 use Rattle.cal_base.specs.declared.line.Node.{Node}
@@ -24,7 +24,6 @@ use Rattle.cal_model.specs.declared.row.RowKind.TheVariants.{Date, Floating}
 use Rattle.cal_model.specs.declared.zone.ZoneTable.{ZoneTable}
 use Rattle.cal_model.specs.ComponentLines.{has, lines_of, name_of, children_of, kind_of}
 use Rattle.cal_model.specs.Numbers.{is_empty, same_int}
-use Rattle.cal_model.specs.Picks.{header}
 use Rattle.cal_model.specs.RowRanges.{row_overlaps, component_of_row}
 use Rattle.cal_model.specs.Rows.{end_from, is_dated}
 

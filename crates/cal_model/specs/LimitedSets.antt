@@ -1,5 +1,5 @@
 -- Calendar data limited to a range: limit-recurrence-set and limit-freebusy-set (RFC 4791, 9.6.6 and 9.6.7).
-use Rattle.std.specs.Prelude.{ℕ, ◌==◌, Bool, true, false, not, ◌&&◌, ◌||◌, if◌then◌else◌, List, [], ◌∷◌, ◌++◌, map, take, filter, filter_map, flat_map, option_to_list, bytes_eq, codes, is_some, ℤ, Option, Some, None}
+use Rattle.std.specs.Prelude.{ℕ, ◌==◌, Bool, not, if◌then◌else◌, List, [], ◌∷◌, ◌++◌, map, take, filter, flat_map, option_to_list, bytes_eq, codes, ℤ}
 use Rattle.std.specs.List.{list_any, enumerate_from, join_with_byte}
 use Rattle.cal_base.specs.declared.line.Line.{Line}
 use Rattle.cal_base.specs.declared.line.Node.{Node}
@@ -17,7 +17,7 @@ use Rattle.cal_model.specs.declared.zone.ZoneTable.{ZoneTable}
 use Rattle.cal_model.specs.Alignment.{kind_of}
 use Rattle.cal_model.specs.ComponentLines.{lines_of, name_of, children_of}
 use Rattle.cal_model.specs.Numbers.{is_empty}
-use Rattle.cal_model.specs.Overlap.{overlaps, fixed, stored_period, some_meets}
+use Rattle.cal_model.specs.Overlap.{stored_period, some_meets}
 use Rattle.cal_model.specs.Picks.{header}
 use Rattle.cal_model.specs.RowRanges.{row_overlaps}
 use Rattle.cal_model.specs.Rows.{Numbered, overrides, masters, ids_start, named_by, id_of_override, end_from, is_dated, row_of}

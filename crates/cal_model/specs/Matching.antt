@@ -1,6 +1,6 @@
 -- Whether an object matches a filter (RFC 4791, 9.7), by the structure of the filter, over a list of rows of the object.
 -- Each test of a range asks for some row of all that are given; no row is carried from one test to another.
-use Rattle.std.specs.Prelude.{ℕ, ◌==◌, Bool, true, false, not, ◌&&◌, ◌||◌, if◌then◌else◌, List, [], ◌∷◌, map, take, filter, flat_map, count_by, option_to_list, option_map, option_and_then, slice_get, bytes_eq, codes, ℤ, pos, Option, Some, None}
+use Rattle.std.specs.Prelude.{ℕ, ◌==◌, Bool, true, false, not, ◌&&◌, ◌||◌, if◌then◌else◌, List, [], ◌∷◌, map, take, filter, count_by, option_to_list, option_map, option_and_then, slice_get, codes, ℤ, pos, Option, Some, None}
 use Rattle.std.specs.List.{list_any, list_all, enumerate_from}
 use Rattle.cal_base.specs.declared.line.Line.{Line}
 use Rattle.cal_base.specs.declared.line.Node.{Node}

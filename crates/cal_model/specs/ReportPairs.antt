@@ -1,6 +1,6 @@
 -- The windows in which a report may have to look at the rows of an object. Windows are 64 days, counted from 1 January 1970.
 -- The standards know no windows: these bound what a report expands, and say nothing of its answer.
-use Rattle.std.specs.Prelude.{ℕ, ◌+◌, Bool, ◌&&◌, ◌||◌, not, List, map, filter, filter_map, option_map, ℤ, pos, ◌+ℤ◌, ◌-ℤ◌, int_le, nat_abs, Option}
+use Rattle.std.specs.Prelude.{◌+◌, Bool, ◌&&◌, ◌||◌, not, List, map, filter, filter_map, option_map, ℤ, pos, ◌+ℤ◌, ◌-ℤ◌, int_le, nat_abs, Option}
 use Rattle.std.specs.Int.{int_div_euclid}
 use Rattle.std.specs.List.{list_any}
 use Rattle.cal_moment.specs.declared.stamp.Stamp.{Stamp}

@@ -1,5 +1,5 @@
 -- Whether a row of an object meets a range: by its own time, or by an alarm of its component (RFC 4791, 9.9).
-use Rattle.std.specs.Prelude.{ℕ, Bool, ◌||◌, if◌then◌else◌, List, option_to_list, slice_get, Option, Some, None}
+use Rattle.std.specs.Prelude.{Bool, ◌||◌, if◌then◌else◌, List, option_to_list, slice_get, Option, Some, None}
 use Rattle.std.specs.List.{list_any}
 use Rattle.cal_model.specs.declared.object.Component.{Component}
 use Rattle.cal_model.specs.declared.object.Object.{Object}
