@@ -3,6 +3,7 @@ use Rattle.std.proofs.Common.{◌≡◌, ℕ, zero, suc, ◌+◌, ◌/◌, ◌%�
 use Rattle.std.specs.List.{list_all}
 use Rattle.std.proofs.lemmas.Bool.{and_parts, and_from, cases_Bool, eqb-true}
 use Rattle.std.proofs.lemmas.List.Folds.{list_all-append}
+use Rattle.cal_base.specs.declared.line.Line.{Line}
 use Rattle.cal_base.specs.ContentLines.{line_of, lines_of}
 use Rattle.cal_moment.specs.Texts.{digits, date_text, time_text}
 use Rattle.cal_model.specs.EventTexts.{EventText, IsEventText, is_name_octet, is_printable, event_lines, event_octets}

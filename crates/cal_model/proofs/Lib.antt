@@ -6,6 +6,13 @@ pub mod LineLemmas
 pub mod QueryLemmas
 pub mod RequestLemmas
 pub mod UtcLemmas
+pub mod NearTimes
+pub mod RisingLists
+pub mod Everywhere
+pub mod RowBounds
+pub mod NearRows
+pub mod NearRanges
+pub mod WindowLaws
 mod Samples
 mod TextExamples
 mod ReplyExamples
@@ -18,8 +25,10 @@ mod ZoneExamples
 mod RecurrenceSetExamples
 mod ZoneOnsetExamples
 mod RowExamples
-mod MovedRowExamples
+mod OverrideExamples
+mod LaterRowExamples
 mod OverlapExamples
+mod BusyTimeExamples
 mod CostExamples
 mod RuleTextExamples
 mod ValueExamples

@@ -1,4 +1,5 @@
--- A stamp beside a start: which instants, digits or days are compared. From RFC 5545, 3.8.4.4 and 3.8.5.1.
+-- A stamp beside a start: which instants, digits or days are compared. From RFC 5545, 3.8.2.4, 3.8.4.4, 3.8.5.1 and 3.3.6.
+-- A table by the kinds of the two stamps. It knows no component and no rule.
 use Rattle.std.specs.Prelude.{ℕ, ◌*◌, Bool, true, false, List, [], get_or, ℤ, pos, ◌+ℤ◌, ◌-ℤ◌, ◌*ℤ◌}
 use Rattle.cal_moment.specs.Calendar.{moment_of_seconds, seconds_since_1970, day_of_moment}
 use Rattle.cal_moment.specs.declared.stamp.Stamp.{Stamp}
@@ -11,12 +12,13 @@ use Rattle.cal_model.specs.Numbers.{same_int}
 use Rattle.cal_model.specs.Zones.{exists_in, instant_of, local_at}
 use Rattle.cal_model.specs.RecurrenceSet.{Reading, plain_reading, utc_reading}
 
--- the zone of that number in an object
-abbrev pub no_zone : ZoneTable
-no_zone = record { name = []; before = pos 0; onsets = [] }
+-- the zone whose clock shows UTC
+abbrev pub utc_zone : ZoneTable
+utc_zone = record { name = []; before = pos 0; onsets = [] }
 
+-- the zone of that number in an object
 abbrev pub zone_of : List ZoneTable → ℕ → ZoneTable
-zone_of zones number = get_or zones number no_zone
+zone_of zones number = get_or zones number utc_zone
 
 -- a stamp's written value: the digits, of a DATE those of its midnight, of an instant those in UTC
 abbrev pub written_value : Stamp → ℤ

@@ -19,7 +19,7 @@ use Rattle.cal_model.specs.Passing.{passes, period_number}
 use Rattle.cal_model.specs.RecurrenceSet.{every_moment}
 use Rattle.cal_model.specs.Alignment.{Aligned, at, on_day, value_of, written_moment}
 use Rattle.cal_model.specs.Overlap.{seconds_of}
-use Rattle.cal_model.specs.Rows.{is_date, overrides, ids_start, named_by}
+use Rattle.cal_model.specs.Rows.{is_date, own_start, overrides, ids_start, named_by, window_seconds}
 
 -- Cost.
 
@@ -57,19 +57,23 @@ greatest (n ∷ ns) = max n (greatest ns)
 abbrev pub last_of_window : ℤ → ℕ
 last_of_window window = unsigned_abs (window *ℤ pos 64 +ℤ pos (63 + epoch_day))
 
--- the last day on which a period may begin. RANGE=THISANDFUTURE changes this one definition
+-- the last day on which a period may begin. RANGE=THISANDFUTURE changes this one definition, to `later_last_day`
 abbrev pub last_day : Object → ℤ → ℕ
 last_day object window = max (last_of_window window) (greatest (days_named_from object (ids_start object)))
 
+-- one, and what each component counts up to a day
+abbrev pub cost_up_to : List ℕ → Object → ℕ → ℕ
+cost_up_to moments object day = suc (sum (map (component_cost moments day) object.components))
+
 abbrev pub cost_over : List ℕ → Object → ℤ → ℕ
-cost_over moments object window = suc (sum (map (component_cost moments (last_day object window)) object.components))
+cost_over moments object window = cost_up_to moments object (last_day object window)
 
 abbrev pub cost : Object → ℤ → ℕ
 cost = cost_over every_moment
 
 -- Margin, in seconds.
 
--- the written length of a component: of DURATION, or from the start to DTEND or DUE
+-- the size of the length that a component writes: of DURATION, or from its start to DTEND or DUE. A day that no line writes is none.
 abbrev pub extent_length : List ZoneTable → Option Stamp → Extent → ℕ
 extent_length zones s (extent.Lasting length) = unsigned_abs (seconds_of length)
 extent_length zones (Some s) (extent.End e) = unsigned_abs (value_of zones e -ℤ value_of zones s)
@@ -88,15 +92,20 @@ abbrev pub alarm_reach : Alarm → ℕ
 alarm_reach alarm = trigger_length alarm.trigger + alarm.repeat * unsigned_abs (seconds_of alarm.gap)
 
 abbrev pub lengths : List ZoneTable → Component → List ℕ
-lengths zones c = extent_length zones c.start c.extent ∷ map (λ (p : Period). length_to zones p.start p.end) c.periods
+lengths zones c = extent_length zones (own_start c) c.extent ∷ map (λ (p : Period). length_to zones p.start p.end) c.periods
 
--- four days, the greatest length, and the greatest reach of an alarm
+-- the greatest length that the object writes, and the greatest reach of its alarms
+abbrev pub longest : Object → ℕ
+longest object = greatest (flat_map (lengths object.zones) object.components)
+
+abbrev pub alarms_reach : Object → ℕ
+alarms_reach object = greatest (flat_map (λ (c : Component). map alarm_reach c.alarms) object.components)
+
+-- how far from a row's nominal start a range may lie that meets it: four days, and these two
 abbrev pub margin : Object → ℕ
-margin object =
-    345_600 + (greatest (flat_map (lengths object.zones) object.components)
-    + greatest (flat_map (λ (c : Component). map alarm_reach c.alarms) object.components))
+margin object = 345_600 + (longest object + alarms_reach object)
 
--- a window of 64 days meets a range that is widened on both sides
+-- a window meets a range that is widened on both sides
 abbrev pub window_meets : ℕ → Range → ℤ → Bool
 window_meets by range window =
-    int_lt (range.start.0 -ℤ pos by) ((window +ℤ pos 1) *ℤ pos 5_529_600) && int_lt (window *ℤ pos 5_529_600) (range.end.0 +ℤ pos by)
+    int_lt (range.start.0 -ℤ pos by) ((window +ℤ pos 1) *ℤ window_seconds) && int_lt (window *ℤ window_seconds) (range.end.0 +ℤ pos by)

@@ -31,11 +31,13 @@ pub mod TableBounds
 pub mod RecurrenceSet
 pub mod ZoneOnsets
 pub mod Alignment
+pub mod Starts
 pub mod Rows
-pub mod MovedRows
+pub mod LaterRows
 pub mod Overlap
 pub mod Cost
 pub mod BusyTimes
+pub mod Nearness
 pub mod ComponentLines
 pub mod TextTests
 pub mod DateProperties

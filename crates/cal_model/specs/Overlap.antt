@@ -1,9 +1,10 @@
--- Overlap of a component's instance with a range. After RFC 4791, 9.9.
--- One table: a line for each kind of component, what each line asks, and which line fits.
-use Rattle.std.specs.Prelude.{◌+◌, Bool, true, false, ◌&&◌, ◌||◌, if◌then◌else◌, List, map, ℤ, pos, ◌+ℤ◌, ◌*ℤ◌, int_le, int_lt, Option, Some, None}
+-- Overlap of a range with the instance of a component, an alarm, a stored period or a date property. After RFC 4791, 9.9; RFC 5545, 3.6.6 and 3.8.6.
+-- One table: a line for each kind of component, what each line asks, and which line fits. A range has its start and not its end. No order of tests is said.
+use Rattle.std.specs.Prelude.{◌+◌, Bool, true, false, ◌&&◌, ◌||◌, if◌then◌else◌, List, map, option_map, option_to_list, is_some, ℤ, pos, ◌+ℤ◌, ◌*ℤ◌, int_le, int_lt, Option, Some, None}
 use Rattle.cal_moment.specs.declared.stamp.Stamp.{Stamp}
-use Rattle.cal_moment.specs.declared.stamp.Stamp.TheVariants.{Date, Floating, Zoned}
+use Rattle.cal_moment.specs.declared.stamp.Stamp.TheVariants.{Date, Floating}
 use Rattle.cal_moment.specs.declared.stamp.Stamp.TheVariants as stamp
+use Rattle.cal_moment.specs.declared.stamp.Local.{Local}
 use Rattle.cal_moment.specs.declared.stamp.Utc.{Utc}
 use Rattle.cal_moment.specs.declared.stamp.Length.{Length}
 use Rattle.cal_moment.specs.declared.stamp.Period.{Period}
@@ -29,7 +30,8 @@ use Rattle.cal_model.specs.declared.zone.ZoneTable.{ZoneTable}
 use Rattle.cal_model.specs.Numbers.{numbers_between}
 use Rattle.std.specs.List.{list_any}
 use Rattle.cal_model.specs.Zones.{instant_of}
-use Rattle.cal_model.specs.Alignment.{written_value, value_of}
+use Rattle.cal_model.specs.Alignment.{written_value, value_of, kind_of, reading_of, plus_length}
+use Rattle.cal_model.specs.Rows.{is_dated}
 
 -- The lines.
 
@@ -122,7 +124,7 @@ line_of_kind FreeBusy c = line_of_free_busy c.start c.extent (map (λ (s : Optio
 abbrev pub line_of : Component → Line
 line_of c = line_of_kind c.kind c
 
--- an instance overlaps a range
+-- an instance from and to these moments overlaps a range
 abbrev pub overlaps : Component → Fixed → Range → Bool
 overlaps c at range = holds (line_of c) range.start.0 range.end.0 at.start at.end
 
@@ -136,53 +138,74 @@ in_zone other zone u = u
 abbrev pub fixed : Row → ZoneTable → Fixed
 fixed row zone = record { start = in_zone row.kind zone row.start; end = in_zone row.kind zone row.end }
 
+-- a VJOURNAL that is a DATE lasts that day for a range, also where DTEND or DURATION gives its row another end
+abbrev pub lasts_its_day : Kind → RowKind → Bool
+lasts_its_day Journal kind.Date = true
+lasts_its_day other its_kind = false
+
+-- a row as a range looks at it
+abbrev pub row_for_range : Component → Row → Row
+row_for_range c row = if lasts_its_day c.kind row.kind then record row { end = row.start +ℤ pos 86400 } else row
+
+-- a row of a component overlaps a range, where floating and DATE moments are read in the zone
+abbrev pub row_overlaps : Component → Row → Range → ZoneTable → Bool
+row_overlaps c row range zone = overlaps c (fixed (row_for_range c row) zone) range
+
 -- Alarms.
 
--- the moment from which an alarm counts; an absent start or end gives none
-abbrev pub has_start : Option Stamp → Bool
-has_start None = false
-has_start (Some s) = true
+-- the moments from which the alarms of a row count; an Undated row has none
+abbrev pub dated_fixed : Row → ZoneTable → Option Fixed
+dated_fixed row zone = if is_dated row then Some (fixed row zone) else None
 
+-- the end is there where the component says it
 abbrev pub has_end : Extent → Bool
 has_end (extent.End e) = true
 has_end (extent.Due e) = true
 has_end (extent.Lasting length) = true
 has_end other = false
 
+-- the moment from which an alarm counts; an absent start or end gives none
 abbrev pub moment_related : Related → Component → Option Fixed → Option ℤ
 moment_related r c None = None
-moment_related related.Start c (Some at) = if has_start c.start then Some at.start else None
+moment_related related.Start c (Some at) = if is_some c.start then Some at.start else None
 moment_related related.End c (Some at) = if has_end c.extent then Some at.end else None
-
-abbrev pub plus : Option ℤ → ℤ → Option ℤ
-plus None z = None
-plus (Some x) z = Some (x +ℤ z)
 
 abbrev pub first_trigger : Trigger → Component → Option Fixed → Option ℤ
 first_trigger (trigger.At u) c at = Some u.0
-first_trigger (trigger.From r length) c at = plus (moment_related r c at) (seconds_of length)
+first_trigger (trigger.From r length) c at = option_map (λ t. t +ℤ seconds_of length) (moment_related r c at)
 
 -- a moment that is in the range, which has its start and not its end
 abbrev pub is_in : Range → ℤ → Bool
 is_in range t = int_le range.start.0 t && int_lt t range.end.0
 
--- the first trigger, and so many repeats, each a gap later
-abbrev pub some_trigger : Alarm → Range → Option ℤ → Bool
-some_trigger alarm range None = false
-some_trigger alarm range (Some t) =
+-- the first trigger, and so many repeats, each a gap after the one before
+abbrev pub some_trigger : Alarm → Range → ℤ → Bool
+some_trigger alarm range t =
     list_any (λ k. is_in range (t +ℤ pos k *ℤ seconds_of alarm.gap)) (numbers_between 0 (alarm.repeat + 1))
 
 abbrev pub alarm_overlaps : Alarm → Component → Option Fixed → Range → Bool
-alarm_overlaps alarm c at range = some_trigger alarm range (first_trigger alarm.trigger c at)
+alarm_overlaps alarm c at range = list_any (some_trigger alarm range) (option_to_list (first_trigger alarm.trigger c at))
 
--- Date properties: COMPLETED, CREATED, DTEND, DTSTAMP, DTSTART, DUE, LAST-MODIFIED.
+-- Date properties: COMPLETED, CREATED, DTEND, DTSTAMP, DTSTART, DUE and LAST-MODIFIED, by themselves.
+
+-- a DATE-TIME that is read as UTC whether it ends in Z or not: those of COMPLETED, CREATED, DTSTAMP and LAST-MODIFIED
+abbrev pub read_as_utc : Local → Stamp
+read_as_utc l = stamp.Utc (record { 0 = written_value (Floating l) })
 
 -- the instant of a written stamp, floating and DATE values read in the given zone
 abbrev pub date_in : List ZoneTable → ZoneTable → Stamp → ℤ
-date_in zones zone (Date d) = instant_of zone (written_value (Date d))
-date_in zones zone (Floating l) = instant_of zone (written_value (Floating l))
-date_in zones zone (Zoned l number) = value_of zones (Zoned l number)
-date_in zones zone (stamp.Utc u) = u.0
+date_in zones zone date = in_zone (kind_of date) zone (value_of zones date)
 
 abbrev pub date_overlaps : List ZoneTable → ZoneTable → Stamp → Range → Bool
 date_overlaps zones zone date range = is_in range (date_in zones zone date)
+
+-- the end of a component by its DTSTART and DURATION, in place of a DTEND or DUE
+abbrev pub effective_end : List ZoneTable → ZoneTable → Stamp → Length → ℤ
+effective_end zones zone s length = in_zone (kind_of s) zone (plus_length (reading_of zones s) (value_of zones s) length)
+
+abbrev pub effective_end_overlaps : List ZoneTable → ZoneTable → Stamp → Length → Range → Bool
+effective_end_overlaps zones zone s length range = is_in range (effective_end zones zone s length)
+
+-- a value whose zone is nowhere defined is no stamp, and passes no range
+abbrev pub some_date_overlaps : List ZoneTable → ZoneTable → Option Stamp → Range → Bool
+some_date_overlaps zones zone date range = list_any (λ s. date_overlaps zones zone s range) (option_to_list date)

@@ -18,20 +18,24 @@ pub enum Kind {
     FreeBusy,
 }
 
-/// How a component says when it ends.
+/// How a component says when it ends (RFC 5545, 3.6.1 to 3.6.4). Only one of DTEND, DUE and
+/// DURATION is in a component that is read: DUE counts in a VTODO alone, DTEND in the other kinds
+/// alone, DURATION in all.
 #[derive(Clone, Copy, PartialEq, Eq)]
 pub enum Extent {
-    /// At the value of DTEND.
+    /// By DTEND, of a VEVENT, VJOURNAL or VFREEBUSY: at that value.
     End(Stamp),
-    /// A DURATION after its start.
+    /// By DURATION: so long after its start. Without DTSTART it gives no end; in a VFREEBUSY it
+    /// never does.
     Lasting(Length),
-    /// It says nothing and starts at a moment: it has no length.
+    /// By no line. A VEVENT or VJOURNAL whose DTSTART is a DATE-TIME, and a VTODO with any DTSTART,
+    /// ends where it starts; a VEVENT or VJOURNAL without DTSTART has no end.
     Point,
-    /// It says nothing and starts with a day: it lasts that day.
+    /// By no line, of a VEVENT or VJOURNAL whose DTSTART is a DATE: it lasts that day.
     WholeDay,
-    /// At the value of DUE.
+    /// By DUE, of a VTODO: at that value. Without DTSTART the VTODO also starts there.
     Due(Stamp),
-    /// It has neither a start nor an end.
+    /// By no line: a VTODO without DTSTART, or a VFREEBUSY.
     None,
 }
 
@@ -59,13 +63,14 @@ pub enum Trigger {
     From(Related, Length),
 }
 
-/// An alarm that has a TRIGGER (RFC 5545, 3.6.6).
+/// An alarm that has a TRIGGER (RFC 5545, 3.6.6). One without never goes off, and is not kept.
 #[derive(Clone, Copy, PartialEq, Eq)]
 pub struct Alarm {
     pub trigger: Trigger,
-    /// How many times it goes off after the first time.
+    /// How many times it goes off after the first time: REPEAT, or 0.
     pub repeat: u32,
-    /// The length between two of these.
+    /// How long after the time before each of these is: DURATION, or nothing. A negative one goes
+    /// backwards.
     pub gap: Length,
 }
 
@@ -78,6 +83,7 @@ pub struct Component {
     pub child: u32,
     /// DTSTART.
     pub start: Option<Stamp>,
+    /// What DTEND, DUE or DURATION says, or that none of them is there.
     pub extent: Extent,
     /// RECURRENCE-ID: the instance that this component takes the place of.
     pub recurrence_id: Option<Stamp>,
@@ -95,6 +101,7 @@ pub struct Component {
     pub busy: Option<Class>,
     /// The FREEBUSY periods, in UTC. One without a class is free.
     pub stored_busy: List<(Option<Class>, Period)>,
+    /// Its VALARMs that have a TRIGGER, in order.
     pub alarms: List<Alarm>,
 }
 
