@@ -41,3 +41,4 @@ pub mod PickLaws
 pub mod MatchingLaws
 pub mod CalendarDataLaws
 mod ReportPairExamples
+mod ObjectExamples

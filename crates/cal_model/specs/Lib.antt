@@ -52,3 +52,8 @@ pub mod BusyRuns
 pub mod FreeBusyText
 pub mod ReportPairs
 pub mod FloatingZone
+pub mod LineValues
+pub mod ZoneReading
+pub mod ComponentReading
+pub mod ObjectFaults
+pub mod ObjectReading

@@ -119,3 +119,29 @@ pub struct Object {
     /// Its components of the four kinds in the order of the text.
     pub components: List<Component>,
 }
+
+/// Why a calendar that can be read cannot be stored as an object (RFC 4791, 4.1), in the order in
+/// which these are looked at.
+#[derive(Clone, Copy, PartialEq, Eq)]
+pub enum NotResource {
+    /// The VCALENDAR has a METHOD.
+    Method,
+    /// It has no component of the four kinds.
+    NoComponent,
+    /// It has components of two kinds.
+    MixedKinds,
+    /// A component has no UID.
+    NoUid,
+    /// Two components have different UIDs.
+    MixedUids,
+    /// Two components have no RECURRENCE-ID.
+    TwoMasters,
+    /// Two components take the place of one instance.
+    SameRecurrenceId,
+    /// A value is in a zone that no VTIMEZONE defines.
+    ZoneMissing,
+    /// A component has an EXRULE.
+    ExRule,
+    /// A RECURRENCE-ID stands for all later instances too.
+    ThisAndFuture,
+}
