@@ -6,7 +6,7 @@ use Rattle.cal_model.specs.declared.object.Class.TheVariants.{Busy, Unavailable,
 use Rattle.cal_model.specs.declared.row.Range.{Range}
 use Rattle.cal_model.specs.declared.object.Extent.TheVariants as extent
 use Rattle.cal_model.specs.declared.object.Object.{Object}
-use Rattle.cal_model.specs.Alignment.{no_zone}
+use Rattle.cal_model.specs.Alignment.{utc_zone}
 use Rattle.cal_model.specs.Zones.{exists_in, instant_of, offset_at}
 use Rattle.cal_model.proofs.RowExamples.{event, object_of, utc}
 use Rattle.cal_model.specs.BusyTimes.{BusyTime}
@@ -78,6 +78,6 @@ whole_day = runs-AreRuns two_times tenth_of_march two_runs (AreRuns-chain two_ti
 abbrev pub from_to : Option Class → ℕ → ℕ → Object
 from_to class start end = object_of (record (event (Some (utc 2025 3 10 start 0)) (extent.End (utc 2025 3 10 end 0))) { busy = class } ∷ [])
 
-three_events : calendar_times no_zone (from_to (Some Tentative) 9 11 ∷ from_to (Some Busy) 10 12 ∷ from_to None 8 13 ∷ []) ≡ two_times
+three_events : calendar_times utc_zone (from_to (Some Tentative) 9 11 ∷ from_to (Some Busy) 10 12 ∷ from_to None 8 13 ∷ []) ≡ two_times
 unfolding exists_in instant_of offset_at
 three_events = refl

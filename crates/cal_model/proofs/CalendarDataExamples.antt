@@ -13,7 +13,7 @@ use Rattle.cal_model.specs.declared.object.Extent.TheVariants as extent
 use Rattle.cal_model.specs.declared.object.Object.{Object}
 use Rattle.cal_model.specs.declared.row.Range.{Range}
 use Rattle.cal_model.specs.declared.row.Row.{Row}
-use Rattle.cal_model.specs.declared.row.RowKind.TheVariants.{Instant, Floating, Date}
+use Rattle.cal_model.specs.declared.row.RowKind.TheVariants.{Instant, Floating, Date, Undated}
 use Rattle.cal_model.specs.declared.selection.CompPick.{CompPick}
 use Rattle.cal_model.specs.declared.selection.CompPick as P
 use Rattle.cal_model.specs.declared.selection.CompPick.TheBlock as PB
@@ -22,20 +22,22 @@ use Rattle.cal_model.specs.declared.selection.PropPick.{PropPick}
 use Rattle.cal_model.specs.declared.selection.Recur.{Recur}
 use Rattle.cal_model.specs.declared.selection.Recur.TheVariants.{Whole, Expand, Limit}
 use Rattle.cal_model.specs.declared.selection.Selection.{Selection}
-use Rattle.cal_model.specs.Alignment.{no_zone}
+use Rattle.cal_model.specs.Alignment.{utc_zone}
 use Rattle.cal_model.specs.CalendarData.{shown}
-use Rattle.cal_model.specs.Expansion.{rewritten, instance_lines, plain_lines, value_text}
+use Rattle.cal_model.specs.Expansion.{instance_lines, plain_lines}
+use Rattle.cal_model.specs.RowLines.{rewritten, value_text}
 use Rattle.cal_model.specs.LimitedSets.{busy_line, left_out}
 use Rattle.cal_model.specs.Numbers.{counted_from}
 use Rattle.cal_model.specs.Passing.{day_passes, time_passes}
 use Rattle.cal_model.specs.Picks.{picked_text}
-use Rattle.cal_model.specs.Rows.{rows_over, row_of, undated_row}
+use Rattle.cal_model.specs.Rows.{rows_over, row_of}
 use Rattle.cal_model.specs.ValueTexts.{date_of, time_of, date_time_of, count_of, length_of}
 use Rattle.cal_model.specs.Zones.{exists_in, instant_of, offset_at}
 use Rattle.cal_model.proofs.FilterLemmas.{name_of_roll, lines_of_roll, children_of_roll, printed_roll, picked_roll, plain_roll, busy_limited_roll}
 use Rattle.cal_model.proofs.MatchingExamples.{line, node}
+use Rattle.cal_model.proofs.OverrideExamples.{moved}
 use Rattle.cal_model.proofs.RecurrenceSetExamples.{daily_at}
-use Rattle.cal_model.proofs.RowExamples.{event, date, instant_row, meeting, moved, days_and_time, utc}
+use Rattle.cal_model.proofs.RowExamples.{event, date, instant_row, meeting, days_and_time, utc}
 use Rattle.cal_model.proofs.ZoneExamples.{new_york, written}
 
 -- Picks
@@ -163,36 +165,36 @@ asked recur = record { comp = None; recur = recur; busy = None }
 abbrev pub plan_text : List ℕ
 plan_text = codes "BEGIN:VCALENDAR\r\nVERSION:2.0\r\nBEGIN:VEVENT\r\nUID:meet\r\nDTSTART:20250304T150000Z\r\nRECURRENCE-ID:20250304T150000Z\r\nDTEND:20250304T160000Z\r\nSUMMARY:Plan\r\nEND:VEVENT\r\nBEGIN:VEVENT\r\nUID:meet\r\nDTSTART:20250311T140000Z\r\nRECURRENCE-ID:20250311T140000Z\r\nDTEND:20250311T150000Z\r\nSUMMARY:Plan\r\nEND:VEVENT\r\nBEGIN:VEVENT\r\nUID:meet\r\nRECURRENCE-ID:20250325T140000Z\r\nDTSTART:20250326T180000Z\r\nDTEND:20250326T190000Z\r\nSUMMARY:Plan moved\r\nEND:VEVENT\r\nEND:VCALENDAR\r\n"
 
-each_instance : shown [] plan plan_rows (asked (Expand (range 3 1 3 29))) no_zone ≡ plan_text
+each_instance : shown [] plan plan_rows (asked (Expand (range 3 1 3 29))) utc_zone ≡ plan_text
 unfolding chars encode H.out H.roll H.shown H.hidden year_of month_of day_of_month
 each_instance = simp (name_of_roll, lines_of_roll, children_of_roll, plain_roll, printed_roll) refl
 
 -- An override is kept where its own time overlaps the range, or the time of the instance that it moved: here the 26th from 14:00, and the 25th from 10:00, in New York
-kept_by_own_time : left_out plan plan_rows no_zone (range 3 26 3 27) ≡ []
+kept_by_own_time : left_out plan plan_rows utc_zone (range 3 26 3 27) ≡ []
 unfolding exists_in instant_of offset_at
 kept_by_own_time = refl
 
-kept_by_original_time : left_out plan plan_rows no_zone (range 3 25 3 26) ≡ []
+kept_by_original_time : left_out plan plan_rows utc_zone (range 3 25 3 26) ≡ []
 unfolding exists_in instant_of offset_at
 kept_by_original_time = refl
 
-not_kept : left_out plan plan_rows no_zone (range 3 4 3 5) ≡ 2 ∷ []
+not_kept : left_out plan plan_rows utc_zone (range 3 4 3 5) ≡ 2 ∷ []
 unfolding exists_in instant_of offset_at
 not_kept = refl
 
 -- the original instance has the master's length, an hour: at 11:00 it is over
-original_length : (left_out plan plan_rows no_zone (record { start = record { 0 = written 2025 3 25 14 59 59 }; end = record { 0 = written 2025 3 25 16 0 0 } }) ≡ [])
-    × (left_out plan plan_rows no_zone (record { start = record { 0 = written 2025 3 25 15 0 0 }; end = record { 0 = written 2025 3 25 16 0 0 } }) ≡ 2 ∷ [])
+original_length : (left_out plan plan_rows utc_zone (record { start = record { 0 = written 2025 3 25 14 59 59 }; end = record { 0 = written 2025 3 25 16 0 0 } }) ≡ [])
+    × (left_out plan plan_rows utc_zone (record { start = record { 0 = written 2025 3 25 15 0 0 }; end = record { 0 = written 2025 3 25 16 0 0 } }) ≡ 2 ∷ [])
 unfolding exists_in instant_of offset_at
 original_length = (refl, refl)
 
 -- where all components have a RECURRENCE-ID there is no original instance
-no_master : left_out (record plan { components = record moved { child = 2 } ∷ [] }) (instant_row (written 2025 3 25 14 0 0) (written 2025 3 26 18 0 0) (written 2025 3 26 19 0 0) 0 ∷ []) no_zone (range 3 25 3 26) ≡ 2 ∷ []
+no_master : left_out (record plan { components = record moved { child = 2 } ∷ [] }) (instant_row (written 2025 3 25 14 0 0) (written 2025 3 26 18 0 0) (written 2025 3 26 19 0 0) 0 ∷ []) utc_zone (range 3 25 3 26) ≡ 2 ∷ []
 unfolding exists_in instant_of offset_at
 no_master = refl
 
 -- the text keeps the zone and the master as they are
-limited_text : shown [] plan plan_rows (asked (Limit (range 3 4 3 5))) no_zone
+limited_text : shown [] plan plan_rows (asked (Limit (range 3 4 3 5))) utc_zone
     ≡ codes "BEGIN:VCALENDAR\r\nVERSION:2.0\r\nBEGIN:VTIMEZONE\r\nTZID:NY\r\nEND:VTIMEZONE\r\nBEGIN:VEVENT\r\nUID:meet\r\nDTSTART;TZID=NY:20250304T100000\r\nDTEND;TZID=NY:20250304T110000\r\nRRULE:FREQ=WEEKLY;COUNT=5\r\nEXDATE;TZID=NY:20250318T100000\r\nSUMMARY:Plan\r\nEND:VEVENT\r\nEND:VCALENDAR\r\n"
 unfolding chars encode H.out H.roll H.shown H.hidden exists_in instant_of offset_at
 limited_text = simp (name_of_roll, lines_of_roll, children_of_roll, printed_roll) refl
@@ -249,7 +251,7 @@ unfolding year_of month_of day_of_month exists_in instant_of offset_at
 end_of_period = (refl, refl)
 
 -- a component without a date keeps its lines but for those of recurrence
-no_date : in_one (record (event None extent.None) { kind = Todo }) (line (codes "RRULE") (codes "FREQ=DAILY") ∷ line (codes "DURATION") (codes "PT1H") ∷ []) (undated_row 0) ≡ codes "DURATION:PT1H" ∷ []
+no_date : in_one (record (event None extent.None) { kind = Todo }) (line (codes "RRULE") (codes "FREQ=DAILY") ∷ line (codes "DURATION") (codes "PT1H") ∷ []) (row_of (pos 0) (pos 0) (pos 0) 0 Undated Undated) ≡ codes "DURATION:PT1H" ∷ []
 no_date = refl
 
 -- what stands around the components of the four kinds keeps its order, the instances stand where the first of them stood, and the lines of recurrence and VTIMEZONEs go at every depth
@@ -260,7 +262,7 @@ nested = record plan {
   components = record (lasting 0) { child = 1 } ∷ [];
 }
 
-surroundings : shown [] nested (instant_row (written 2025 3 4 9 0 0) (written 2025 3 4 9 0 0) (written 2025 3 4 9 0 0) 0 ∷ []) (asked (Expand (range 3 1 3 29))) no_zone
+surroundings : shown [] nested (instant_row (written 2025 3 4 9 0 0) (written 2025 3 4 9 0 0) (written 2025 3 4 9 0 0) 0 ∷ []) (asked (Expand (range 3 1 3 29))) utc_zone
     ≡ codes "BEGIN:VCALENDAR\r\nBEGIN:X-ONE\r\nEND:X-ONE\r\nBEGIN:VEVENT\r\nDTSTART:20250304T090000Z\r\nBEGIN:VALARM\r\nACTION:NONE\r\nEND:VALARM\r\nEND:VEVENT\r\nBEGIN:X-TWO\r\nEND:X-TWO\r\nEND:VCALENDAR\r\n"
 unfolding chars encode H.out H.roll H.shown H.hidden year_of month_of day_of_month
 surroundings = simp (name_of_roll, lines_of_roll, children_of_roll, plain_roll, printed_roll) refl
@@ -280,11 +282,11 @@ periods_kept = (refl, refl, refl)
 abbrev pub free_busy : Object
 free_busy = record plan { tree = node (codes "VCALENDAR") [] (node (codes "VFREEBUSY") (busy (codes "20250305T000000Z/PT1H") ∷ line (codes "UID") (codes "f") ∷ []) [] ∷ []); components = [] }
 
-busy_then_picks : shown [] free_busy [] (record { comp = Some (of_calendar (pick (codes "VFREEBUSY") false (prop (codes "FREEBUSY") false ∷ []) false [] ∷ [])); recur = Whole; busy = Some (range 3 4 3 5) }) no_zone
+busy_then_picks : shown [] free_busy [] (record { comp = Some (of_calendar (pick (codes "VFREEBUSY") false (prop (codes "FREEBUSY") false ∷ []) false [] ∷ [])); recur = Whole; busy = Some (range 3 4 3 5) }) utc_zone
     ≡ codes "BEGIN:VCALENDAR\r\nBEGIN:VFREEBUSY\r\nEND:VFREEBUSY\r\nEND:VCALENDAR\r\n"
 unfolding chars encode P.out-CompPick P.roll-CompPick PB.shown-the_row-CompPick-0 PB.hidden-the_row-CompPick-0 PB.shape-the_row-CompPick-0 H.out H.roll H.shown H.hidden date_time_of date_of time_of length_of count_of
 busy_then_picks = simp (name_of_roll, busy_limited_roll, picked_roll, printed_roll) refl
 
 -- a selection that says nothing shows the stored octets
-stored : shown (codes "as stored") plan plan_rows (asked Whole) no_zone ≡ codes "as stored"
+stored : shown (codes "as stored") plan plan_rows (asked Whole) utc_zone ≡ codes "as stored"
 stored = refl

@@ -17,7 +17,7 @@ use Rattle.cal_model.specs.CalendarData.{shown, recurrence_shown, busy_shown, ta
 use Rattle.cal_model.specs.Expansion.{expanded_children, instances_of_row, plain_lines}
 use Rattle.cal_model.specs.LimitedSets.{original_row, left_out, is_left_out}
 use Rattle.cal_model.specs.Picks.{picked_text}
-use Rattle.cal_model.specs.RowRanges.{row_overlaps}
+use Rattle.cal_model.specs.RowRanges.{row_in_range}
 use Rattle.cal_model.specs.Rows.{Numbered, overrides, masters, named_by, id_of_override, ids_start, is_dated}
 use Rattle.cal_model.specs.ComponentLines.{name_of, lines_of, children_of}
 use Rattle.cal_base.specs.ComponentTrees.{component}
@@ -69,11 +69,11 @@ abbrev originals : Object → Numbered → List Row → List Row
 originals object n dated =
     flat_map (λ (ids : Stamp). flat_map (λ id. map (original_row object ids id) (masters object)) (take 1 (map (λ (row : Row). row.id) dated ++ map (id_of_override object ids []) (named_by object.zones ids n)))) (option_to_list (ids_start object))
 
-is_left_out_same : (object : Object) (zone : ZoneTable) (range : Range) (keep : Row → Bool) (all : List Row) → Keeps keep all (row_overlaps object zone range)
+is_left_out_same : (object : Object) (zone : ZoneTable) (range : Range) (keep : Row → Bool) (all : List Row) → Keeps keep all (row_in_range object zone range)
     → Keeps keep all (λ row. is_of_override object row && is_dated row) → (n : Numbered) → Contains (overrides object) n
     → is_left_out object (filter keep all) zone range n ≡ is_left_out object all zone range n
 is_left_out_same object zone range keep all meeting dated n c =
-    let overlaps : Row → Bool = row_overlaps object zone range in
+    let overlaps : Row → Bool = row_in_range object zone range in
     let own : list_any overlaps (filter (has_number n) (filter keep all)) ≡ list_any overlaps (filter (has_number n) all) =
     any_filter overlaps (has_number n) (filter keep all)
     ∙ any_kept keep (λ row. has_number n row && overlaps row) all (λ row d e. meeting row d (and_parts (has_number n row) (overlaps row) e).1)
@@ -87,7 +87,7 @@ is_left_out_same object zone range keep all meeting dated n c =
     ∙ (λ i. own i || list_any overlaps (originals object n (same_dated i)))
     ∙ sym (list_any-append overlaps (filter (has_number n) all) (originals object n (filter is_dated (filter (has_number n) all)))))
 
-left_out_same : (object : Object) (zone : ZoneTable) (range : Range) (keep : Row → Bool) (all : List Row) → Keeps keep all (row_overlaps object zone range)
+left_out_same : (object : Object) (zone : ZoneTable) (range : Range) (keep : Row → Bool) (all : List Row) → Keeps keep all (row_in_range object zone range)
     → Keeps keep all (λ row. is_of_override object row && is_dated row) → left_out object (filter keep all) zone range ≡ left_out object all zone range
 left_out_same object zone range keep all meeting dated =
     ap (map (λ (n : Numbered). n.component.child)) (filter_agreed (is_left_out object (filter keep all) zone range) (is_left_out object all zone range) (overrides object)
@@ -110,13 +110,13 @@ with_instances object found = component (name_of object.tree) (record {
 -- The law. The given rows are some rows of the object in their order; each that overlaps the range of expand or limit-recurrence-set is among them, and for limit-recurrence-set each dated row of an override.
 abbrev pub AreEnough : Object → ZoneTable → (Row → Bool) → List Row → Recur → Type 0
 AreEnough object zone keep all Whole = Unit {0}
-AreEnough object zone keep all (Expand range) = Keeps keep all (row_overlaps object zone range)
-AreEnough object zone keep all (Limit range) = Keeps keep all (row_overlaps object zone range) × Keeps keep all (λ row. is_of_override object row && is_dated row)
+AreEnough object zone keep all (Expand range) = Keeps keep all (row_in_range object zone range)
+AreEnough object zone keep all (Limit range) = Keeps keep all (row_in_range object zone range) × Keeps keep all (λ row. is_of_override object row && is_dated row)
 
 recurrence_same : (object : Object) (zone : ZoneTable) (keep : Row → Bool) (all : List Row) (recur : Recur) → AreEnough object zone keep all recur
     → recurrence_shown object (filter keep all) zone recur ≡ recurrence_shown object all zone recur
 recurrence_same object zone keep all Whole e = refl
-recurrence_same object zone keep all (Expand range) e = ap (with_instances object) (filter_kept keep (row_overlaps object zone range) all e)
+recurrence_same object zone keep all (Expand range) e = ap (with_instances object) (filter_kept keep (row_in_range object zone range) all e)
 recurrence_same object zone keep all (Limit range) e = ap (without object) (left_out_same object zone range keep all e.0 e.1)
 
 pub shown-enough_rows : (octets : List ℕ) (object : Object) (select : Selection) (zone : ZoneTable) (keep : Row → Bool) (all : List Row) → AreEnough object zone keep all select.recur

@@ -14,7 +14,8 @@ use Rattle.cal_model.specs.declared.filter.CompFilter.TheFolds.{fold-roll-CompFi
 use Rattle.cal_model.specs.declared.row.Range.{Range}
 use Rattle.cal_model.specs.Expansion.{plain, plain_step}
 use Rattle.cal_model.specs.LimitedSets.{busy_limited, busy_step}
-use Rattle.cal_model.specs.Matching.{Matched, Site, comp_filter_holds, comp_step}
+use Rattle.cal_model.specs.ComponentRanges.{Matched, Site}
+use Rattle.cal_model.specs.Matching.{comp_filter_holds, comp_step}
 use Rattle.cal_model.specs.NamedRanges.{ranges_of_filter, ranges_step}
 use Rattle.cal_model.specs.Picks.{Picked, picked, pick_step}
 

@@ -28,11 +28,11 @@ use Rattle.cal_model.specs.declared.object.Related.TheVariants as related
 use Rattle.cal_model.specs.declared.object.Trigger.TheVariants as trigger
 use Rattle.cal_model.specs.declared.row.Range.{Range}
 use Rattle.cal_model.specs.declared.row.Row.{Row}
-use Rattle.cal_model.specs.declared.row.RowKind.TheVariants.{Instant}
-use Rattle.cal_model.specs.Alignment.{no_zone}
+use Rattle.cal_model.specs.declared.row.RowKind.TheVariants.{Instant, Undated}
+use Rattle.cal_model.specs.Alignment.{utc_zone}
 use Rattle.cal_model.specs.Matching.{matches}
 use Rattle.cal_model.specs.Numbers.{counted_from}
-use Rattle.cal_model.specs.Rows.{row_of, undated_row}
+use Rattle.cal_model.specs.Rows.{row_of}
 use Rattle.cal_model.specs.StampTexts.{stamps_in_grammar, trigger_of}
 use Rattle.cal_model.specs.TextTests.{text_passes, param_filter_holds}
 use Rattle.cal_model.specs.ValueTexts.{date_of, time_of, date_time_of, count_of, integer_of, length_of}
@@ -139,13 +139,13 @@ prop name test params = record { name = name; test = test; params = params }
 
 -- whether the event matches what is asked within VCALENDAR
 abbrev pub finds : ℕ → CompFilter → Bool
-finds repeat inner = matches (record { top = comp (codes "VCALENDAR") None [] (inner ∷ []) }) (object repeat) (meeting_row ∷ []) no_zone
+finds repeat inner = matches (record { top = comp (codes "VCALENDAR") None [] (inner ∷ []) }) (object repeat) (meeting_row ∷ []) utc_zone
 
 abbrev pub event_asks : Option Range → List PropFilter → List CompFilter → CompFilter
 event_asks = comp (codes "VEVENT")
 
 -- another name at the top, and a component that is and is not there
-other_top : matches (record { top = comp (codes "VTODO") None [] [] }) (object 0) (meeting_row ∷ []) no_zone ≡ false
+other_top : matches (record { top = comp (codes "VTODO") None [] [] }) (object 0) (meeting_row ∷ []) utc_zone ≡ false
 unfolding N.out-Node N.roll-Node B.shown-the_row-Node-0 B.hidden-the_row-Node-0 B.shape-the_row-Node-0 H.out H.roll H.shown H.hidden
 other_top = simp (comp_filter_holds_roll) refl
 
@@ -178,7 +178,7 @@ unfolding N.out-Node N.roll-Node B.shown-the_row-Node-0 B.hidden-the_row-Node-0 
 each_by_itself = simp (comp_filter_holds_roll) (refl, refl)
 
 -- without a row the alarm has no moment
-without_rows : matches (record { top = comp (codes "VCALENDAR") None [] (event_asks None [] (alarm_in (minutes 45 46) ∷ []) ∷ []) }) (object 0) [] no_zone ≡ false
+without_rows : matches (record { top = comp (codes "VCALENDAR") None [] (event_asks None [] (alarm_in (minutes 45 46) ∷ []) ∷ []) }) (object 0) [] utc_zone ≡ false
 unfolding N.out-Node N.roll-Node B.shown-the_row-Node-0 B.hidden-the_row-Node-0 B.shape-the_row-Node-0 H.out H.roll H.shown H.hidden counted_from
 without_rows = simp (comp_filter_holds_roll) refl
 
@@ -188,14 +188,14 @@ lone name value = record (object 0) {
   tree = node (codes "VCALENDAR") [] (node (codes "VEVENT") event_lines [] ∷ node (codes "VALARM") (record { name = codes "TRIGGER"; params = record { name = codes "VALUE"; values = name ∷ [] } ∷ []; value = value; raw = [] } ∷ []) [] ∷ []);
 }
 
-lone_alarm : (matches (record { top = comp (codes "VCALENDAR") None [] (alarm_in (minutes 45 46) ∷ []) }) (lone (codes "DATE-TIME") (codes "20250310T084500Z")) (meeting_row ∷ []) no_zone ≡ true)
-    × (matches (record { top = comp (codes "VCALENDAR") None [] (alarm_in (minutes 45 46) ∷ []) }) (lone (codes "DURATION") (codes "-PT15M")) (meeting_row ∷ []) no_zone ≡ false)
+lone_alarm : (matches (record { top = comp (codes "VCALENDAR") None [] (alarm_in (minutes 45 46) ∷ []) }) (lone (codes "DATE-TIME") (codes "20250310T084500Z")) (meeting_row ∷ []) utc_zone ≡ true)
+    × (matches (record { top = comp (codes "VCALENDAR") None [] (alarm_in (minutes 45 46) ∷ []) }) (lone (codes "DURATION") (codes "-PT15M")) (meeting_row ∷ []) utc_zone ≡ false)
 unfolding N.out-Node N.roll-Node B.shown-the_row-Node-0 B.hidden-the_row-Node-0 B.shape-the_row-Node-0 H.out H.roll H.shown H.hidden counted_from trigger_of date_time_of date_of time_of length_of count_of integer_of
 lone_alarm = simp (comp_filter_holds_roll) (refl, refl)
 
 -- a VEVENT that is no child of the outermost component has no row
 nested_event : matches (record { top = comp (codes "VCALENDAR") None [] (comp (codes "X-BOX") None [] (event_asks (Some (minutes 60 120)) [] [] ∷ []) ∷ []) })
-    (record (object 0) { tree = node (codes "VCALENDAR") [] (node (codes "X-BOX") [] (node (codes "VEVENT") event_lines [] ∷ []) ∷ []) }) (meeting_row ∷ []) no_zone ≡ false
+    (record (object 0) { tree = node (codes "VCALENDAR") [] (node (codes "X-BOX") [] (node (codes "VEVENT") event_lines [] ∷ []) ∷ []) }) (meeting_row ∷ []) utc_zone ≡ false
 unfolding N.out-Node N.roll-Node B.shown-the_row-Node-0 B.hidden-the_row-Node-0 B.shape-the_row-Node-0 H.out H.roll H.shown H.hidden
 nested_event = simp (comp_filter_holds_roll) refl
 
@@ -238,7 +238,7 @@ within name = record (object 0) { tree = node (codes "VCALENDAR") [] (node name 
 
 abbrev pub starts_within : List ℕ → Bool
 starts_within name = matches (record { top = comp (codes "VCALENDAR") None [] (comp name None [] (comp (codes "DAYLIGHT") None (prop (codes "DTSTART") (Time (minutes 60 61)) [] ∷ []) [] ∷ []) ∷ []) })
-    (within name) [] no_zone
+    (within name) [] utc_zone
 
 unknown_zone : (starts_within (codes "X-BOX") ≡ false) × (starts_within (codes "VTIMEZONE") ≡ true)
 unfolding N.out-Node N.roll-Node B.shown-the_row-Node-0 B.hidden-the_row-Node-0 B.shape-the_row-Node-0 H.out H.roll H.shown H.hidden stamps_in_grammar date_time_of date_of time_of length_of count_of instant_of offset_at
@@ -253,12 +253,12 @@ abbrev pub to_do_asks : Range → CompFilter
 to_do_asks range = comp (codes "VCALENDAR") None [] (comp (codes "VTODO") (Some range) [] [] ∷ [])
 
 -- with DUE at 9 o'clock alone a range that ends there matches, and one that begins there does not
-due_alone : (matches (record { top = to_do_asks (minutes 0 60) }) (to_do (event None (extent.Due (Utc (record { 0 = pos nine }))))) (row_of (pos nine) (pos nine) (pos nine) 0 Instant Instant ∷ []) no_zone ≡ true)
-    × (matches (record { top = to_do_asks (minutes 60 120) }) (to_do (event None (extent.Due (Utc (record { 0 = pos nine }))))) (row_of (pos nine) (pos nine) (pos nine) 0 Instant Instant ∷ []) no_zone ≡ false)
+due_alone : (matches (record { top = to_do_asks (minutes 0 60) }) (to_do (event None (extent.Due (Utc (record { 0 = pos nine }))))) (row_of (pos nine) (pos nine) (pos nine) 0 Instant Instant ∷ []) utc_zone ≡ true)
+    × (matches (record { top = to_do_asks (minutes 60 120) }) (to_do (event None (extent.Due (Utc (record { 0 = pos nine }))))) (row_of (pos nine) (pos nine) (pos nine) 0 Instant Instant ∷ []) utc_zone ≡ false)
 unfolding N.out-Node N.roll-Node B.shown-the_row-Node-0 B.hidden-the_row-Node-0 B.shape-the_row-Node-0 H.out H.roll H.shown H.hidden
 due_alone = simp (comp_filter_holds_roll) (refl, refl)
 
 -- without a date it matches every range
-without_dates : matches (record { top = to_do_asks (minutes 0 1) }) (to_do (event None extent.None)) (undated_row 0 ∷ []) no_zone ≡ true
+without_dates : matches (record { top = to_do_asks (minutes 0 1) }) (to_do (event None extent.None)) (row_of (pos 0) (pos 0) (pos 0) 0 Undated Undated ∷ []) utc_zone ≡ true
 unfolding N.out-Node N.roll-Node B.shown-the_row-Node-0 B.hidden-the_row-Node-0 B.shape-the_row-Node-0 H.out H.roll H.shown H.hidden
 without_dates = simp (comp_filter_holds_roll) refl

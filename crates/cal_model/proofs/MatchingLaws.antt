@@ -1,6 +1,6 @@
 -- Whether an object matches a filter depends on no other rows than those that can meet a range of the filter.
 use Rattle.std.proofs.Common.{◌≡◌, ℕ, ◌+◌, Bool, true, false, cond, not, ◌&&◌, ◌||◌, List, [], ◌∷◌, ◌++◌, map, length, Option, Some, None, refl, sym, ap, ◌∙◌, subst, append_assoc, get_or, arith}
-use Rattle.std.specs.Prelude.{◌==◌, flat_map, filter, option_to_list, slice_get, codes}
+use Rattle.std.specs.Prelude.{◌==◌, flat_map, filter, option_to_list, slice_get}
 use Rattle.std.specs.List.{list_any, list_all, Contains, AllByRecursion}
 use Rattle.std.proofs.lemmas.Bool.{false≢true, eqb-true, and_parts}
 use Rattle.std.proofs.lemmas.List.Elements.{Contains-get_or, recursion_from_All}
@@ -20,12 +20,13 @@ use Rattle.cal_model.specs.declared.row.Fixed.{Fixed}
 use Rattle.cal_model.specs.declared.row.Range.{Range}
 use Rattle.cal_model.specs.declared.row.Row.{Row}
 use Rattle.cal_model.specs.declared.zone.ZoneTable.{ZoneTable}
-use Rattle.cal_model.specs.ComponentLines.{is_named}
-use Rattle.cal_model.specs.Matching.{Matched, Site, matches, matches_object, comp_filter_holds, prop_filter_holds, comp_step, passes_all, has_filter_name, time_passes, range_passes, component_passes, valarm_passes, alarm_passes, alarm_at, alarms_before, has_trigger, component_of, component_at, holder_of, sites_in, whole_site}
+use Rattle.cal_model.specs.ComponentRanges.{Matched, Site, time_passes, range_passes, component_passes, valarm_passes, alarm_passes, alarm_at, alarms_before, has_trigger, component_of, component_at, holder_of, sites_in, whole_site}
+use Rattle.cal_model.specs.ComponentReading.{is_alarm}
+use Rattle.cal_model.specs.Matching.{matches, matches_object, comp_filter_holds, prop_filter_holds, comp_step, passes_all, has_filter_name}
 use Rattle.cal_model.specs.NamedRanges.{ranges_of_filter, ranges_of_test, ranges_step}
-use Rattle.cal_model.specs.Overlap.{overlaps, alarm_overlaps, fixed}
-use Rattle.cal_model.specs.RowRanges.{component_of_row, row_meets, row_overlaps, row_alarms, moment_of_row}
-use Rattle.cal_model.specs.Rows.{Numbered, numbered_from, is_dated, rows}
+use Rattle.cal_model.specs.Overlap.{row_overlaps, alarm_overlaps, dated_fixed}
+use Rattle.cal_model.specs.RowRanges.{component_of_row, row_meets, row_in_range, row_alarm_in_range}
+use Rattle.cal_model.specs.Rows.{Numbered, numbered_from, rows}
 use Rattle.cal_model.proofs.FilterLemmas.{comp_filter_holds_roll, ranges_of_filter_roll}
 
 -- Tests of lists
@@ -135,16 +136,16 @@ component_of_row_is : (object : Object) (row : Row) (n : Numbered) → IsNumbere
 component_of_row_is object row n is e = ap option_to_list (ap (slice_get object.components) (eqb-true row.component n.number e) ∙ is)
 
 overlap_meets : (object : Object) (zone : ZoneTable) (range : Range) (n : Numbered) → IsNumbered object.components n → (row : Row)
-    → ((row.component == n.number) && overlaps n.component (fixed row zone) range) ≡ true → row_meets object zone range row ≡ true
+    → ((row.component == n.number) && row_overlaps n.component row range zone) ≡ true → row_meets object zone range row ≡ true
 overlap_meets object zone range n is row e =
-    let both = and_parts (row.component == n.number) (overlaps n.component (fixed row zone) range) e in
-    or_left (row_overlaps object zone range row) (row_alarms object zone range row)
-    (ap (list_any (λ c. overlaps c (fixed row zone) range)) (component_of_row_is object row n is both.0) ∙ or_left (overlaps n.component (fixed row zone) range) false both.1)
+    let both = and_parts (row.component == n.number) (row_overlaps n.component row range zone) e in
+    or_left (row_in_range object zone range row) (row_alarm_in_range object zone range row)
+    (ap (list_any (λ c. row_overlaps c row range zone)) (component_of_row_is object row n is both.0) ∙ or_left (row_overlaps n.component row range zone) false both.1)
 
 component_passes_same : (object : Object) (zone : ZoneTable) (range : Range) (some all : List Row) → AreEnough object zone range some all → (n : Numbered) → IsNumbered object.components n
     → component_passes (with_rows object zone some) range n ≡ component_passes (with_rows object zone all) range n
 component_passes_same object zone range some all enough n is =
-    let p : Row → Bool = λ row. overlaps n.component (fixed row zone) range in
+    let p : Row → Bool = λ row. row_overlaps n.component row range zone in
     let q : Row → Bool = λ row. row.component == n.number in
     any_filter p q some ∙ any_same (λ row. q row && p row) some all enough.rows_of (λ row c e. enough.meeting row c (overlap_meets object zone range n is row e)) ∙ sym (any_filter p q all)
 
@@ -162,33 +163,28 @@ alarm_at_is object (a ∷ []) n = tt
 alarm_at_is object (place ∷ child ∷ []) n = some_at n (alarms_before object place child) (slice_get n.component.alarms (alarms_before object place child)) refl
 alarm_at_is object (a ∷ b ∷ c ∷ path) n = tt
 
-moment_is : (zone : ZoneTable) (row : Row) → is_dated row ≡ true → moment_of_row zone row ≡ Some (fixed row zone)
-moment_is zone row e = rw e refl
-
 alarm_meets : (object : Object) (zone : ZoneTable) (range : Range) (n : Numbered) → IsNumbered object.components n → (alarm : Alarm) → IsAlarm n alarm → (row : Row)
-    → ((row.component == n.number) && (is_dated row && alarm_overlaps alarm n.component (Some (fixed row zone)) range)) ≡ true → row_meets object zone range row ≡ true
+    → ((row.component == n.number) && alarm_overlaps alarm n.component (dated_fixed row zone) range) ≡ true → row_meets object zone range row ≡ true
 alarm_meets object zone range n is alarm its row e =
-    let both = and_parts (row.component == n.number) (is_dated row && alarm_overlaps alarm n.component (Some (fixed row zone)) range) e in
-    let dated = and_parts (is_dated row) (alarm_overlaps alarm n.component (Some (fixed row zone)) range) both.1 in
-    let test : Alarm → Bool = λ a. alarm_overlaps a n.component (moment_of_row zone row) range in
-    let found : list_any test n.component.alarms ≡ true = any_at test n.component.alarms its.0 alarm its.1 (ap (λ at. alarm_overlaps alarm n.component at range) (moment_is zone row dated.0) ∙ dated.1) in
-    or_right (row_overlaps object zone range row) (row_alarms object zone range row)
-    (ap (list_any (λ (c : Component). list_any (λ a. alarm_overlaps a c (moment_of_row zone row) range) c.alarms)) (component_of_row_is object row n is both.0) ∙ or_left (list_any test n.component.alarms) false found)
+    let both = and_parts (row.component == n.number) (alarm_overlaps alarm n.component (dated_fixed row zone) range) e in
+    let test : Alarm → Bool = λ a. alarm_overlaps a n.component (dated_fixed row zone) range in
+    let found : list_any test n.component.alarms ≡ true = any_at test n.component.alarms its.0 alarm its.1 both.1 in
+    or_right (row_in_range object zone range row) (row_alarm_in_range object zone range row)
+    (ap (list_any (λ (c : Component). list_any (λ a. alarm_overlaps a c (dated_fixed row zone) range) c.alarms)) (component_of_row_is object row n is both.0) ∙ or_left (list_any test n.component.alarms) false found)
 
 alarm_form : (g : Option Fixed → Bool) (zone : ZoneTable) (number : ℕ) (rows : List Row)
-    → list_any g (map (λ row. Some (fixed row zone)) (filter is_dated (filter (λ (row : Row). row.component == number) rows)))
-    ≡ list_any (λ (row : Row). (row.component == number) && (is_dated row && g (Some (fixed row zone)))) rows
+    → list_any g (map (λ row. dated_fixed row zone) (filter (λ (row : Row). row.component == number) rows))
+    ≡ list_any (λ (row : Row). (row.component == number) && g (dated_fixed row zone)) rows
 alarm_form g zone number rows =
     let q : Row → Bool = λ row. row.component == number in
-    any_map g (λ row. Some (fixed row zone)) (filter is_dated (filter q rows)) ∙ any_filter (λ row. g (Some (fixed row zone))) is_dated (filter q rows)
-    ∙ any_filter (λ row. is_dated row && g (Some (fixed row zone))) q rows
+    any_map g (λ row. dated_fixed row zone) (filter q rows) ∙ any_filter (λ row. g (dated_fixed row zone)) q rows
 
 alarm_passes_same : (object : Object) (zone : ZoneTable) (range : Range) (some all : List Row) → AreEnough object zone range some all → (n : Numbered) → IsNumbered object.components n → (alarm : Alarm) → IsAlarm n alarm
     → alarm_passes (with_rows object zone some) range n alarm ≡ alarm_passes (with_rows object zone all) range n alarm
 alarm_passes_same object zone range some all enough n is alarm its =
     let g : Option Fixed → Bool = λ at. alarm_overlaps alarm n.component at range in
     ap (λ t. g None || t) (alarm_form g zone n.number some
-    ∙ any_same (λ row. (row.component == n.number) && (is_dated row && g (Some (fixed row zone)))) some all enough.rows_of (λ row c e. enough.meeting row c (alarm_meets object zone range n is alarm its row e))
+    ∙ any_same (λ row. (row.component == n.number) && g (dated_fixed row zone)) some all enough.rows_of (λ row c e. enough.meeting row c (alarm_meets object zone range n is alarm its row e))
     ∙ sym (alarm_form g zone n.number all))
 
 valarm_passes_same : (object : Object) (zone : ZoneTable) (range : Range) (some all : List Row) → AreEnough object zone range some all → (site : Site) (holders : List Numbered) → AllByRecursion (IsNumbered object.components) holders
@@ -204,7 +200,7 @@ cond_same test s s' t t' e f = λ i. cond test (e i) (f i)
 range_passes_same : (object : Object) (zone : ZoneTable) (range : Range) (some all : List Row) → AreEnough object zone range some all → (site : Site)
     → range_passes (with_rows object zone some) range site ≡ range_passes (with_rows object zone all) range site
 range_passes_same object zone range some all enough site =
-    cond_same (is_named (codes "VALARM") site.node)
+    cond_same (is_alarm site.node)
     (valarm_passes (with_rows object zone some) range site (holder_of object site.path)) (valarm_passes (with_rows object zone all) range site (holder_of object site.path))
     (list_any (component_passes (with_rows object zone some) range) (component_of object site.path)) (list_any (component_passes (with_rows object zone all) range) (component_of object site.path))
     (valarm_passes_same object zone range some all enough site (holder_of object site.path) (holder_of_is object site.path))

@@ -11,9 +11,9 @@ use Rattle.cal_moment.specs.declared.stamp.Stamp.{Stamp}
 use Rattle.cal_moment.specs.declared.stamp.Stamp.TheVariants.{Floating}
 use Rattle.cal_moment.specs.Texts.{local_of_seconds}
 use Rattle.cal_model.specs.declared.zone.ZoneTable.{ZoneTable}
-use Rattle.cal_model.specs.Alignment.{written_value, value_of, reading_of, kind_of, plus_length}
+use Rattle.cal_model.specs.Alignment.{written_value}
 use Rattle.cal_model.specs.ComponentLines.{has_name, all_of, one_of, lines_of, is_named}
-use Rattle.cal_model.specs.Overlap.{date_in, in_zone}
+use Rattle.cal_model.specs.Overlap.{date_in, effective_end}
 use Rattle.cal_model.specs.StampTexts.{stamps_in_grammar, stamps_of}
 use Rattle.cal_model.specs.ValueTexts.{length_of}
 
@@ -68,7 +68,7 @@ length_in lines = option_and_then (λ (line : Line). length_of line.value) (one_
 -- the end of what starts at a stamp and lasts a length, as a line without parameters
 abbrev pub end_after : DateReading → Length → Stamp → DatedLine
 end_after reading length start = record {
-  moment = in_zone (kind_of start) reading.floating (plus_length (reading_of reading.zones start) (value_of reading.zones start) length);
+  moment = effective_end reading.zones reading.floating start length;
   params = [];
 }
 
@@ -77,17 +77,17 @@ abbrev pub end_name : Node → List ℕ
 end_name node = if is_named (codes "VTODO") node then codes "DUE" else codes "DTEND"
 
 -- The effective end: where DURATION stands beside DTSTART, it is as if the end were written.
-abbrev pub effective_end : DateReading → Bool → Node → Option DatedLine
-effective_end reading in_timezone node =
+abbrev pub effective_line : DateReading → Bool → Node → Option DatedLine
+effective_line reading in_timezone node =
     option_and_then (λ length. option_map (end_after reading length) (start_in reading in_timezone (lines_of node))) (length_in (lines_of node))
 
-abbrev pub effective_ends_named : DateReading → Bool → Node → List ℕ → List DatedLine
-effective_ends_named reading in_timezone node name =
-    if bytes_eq name (end_name node) then option_to_list (effective_end reading in_timezone node) else []
+abbrev pub effective_lines_named : DateReading → Bool → Node → List ℕ → List DatedLine
+effective_lines_named reading in_timezone node name =
+    if bytes_eq name (end_name node) then option_to_list (effective_line reading in_timezone node) else []
 
 -- the dates of that name which a component has; a name that is none of the date properties has none
 abbrev pub dates_named : DateReading → Bool → Node → List ℕ → List DatedLine
 dates_named reading in_timezone node name =
     if is_date_name name
-    then filter_map (date_of_line reading in_timezone) (all_of name (lines_of node)) ++ effective_ends_named reading in_timezone node name
+    then filter_map (date_of_line reading in_timezone) (all_of name (lines_of node)) ++ effective_lines_named reading in_timezone node name
     else []

@@ -1,30 +1,23 @@
 -- A recurring object as single instances, the option `expand` of calendar data (RFC 4791, 9.6.5): a transformation of the tree by the rows that overlap the range.
 -- Rows, overlap and picks stand elsewhere; nothing here says how rows are found.
-use Rattle.std.specs.Prelude.{ℕ, ◌-◌, Bool, true, false, not, ◌&&◌, ◌||◌, if◌then◌else◌, List, [], ◌∷◌, ◌++◌, length, take, drop, filter, flat_map, option_to_list, slice_get, bytes_eq, codes, is_some, is_none, ℤ, Some, None}
-use Rattle.std.specs.List.{list_any, join_with_byte, position_or_len}
+use Rattle.std.specs.Prelude.{ℕ, Bool, not, ◌&&◌, ◌||◌, if◌then◌else◌, List, [], ◌∷◌, ◌++◌, take, drop, filter, flat_map, option_to_list, slice_get, bytes_eq, codes, is_some, is_none}
+use Rattle.std.specs.List.{list_any, position_or_len}
 use Rattle.cal_base.specs.declared.line.Line.{Line}
 use Rattle.cal_base.specs.declared.line.Node.{Node}
 use Rattle.cal_base.specs.declared.line.Node.TheOpen.{Node-F}
 use Rattle.cal_base.specs.declared.line.Node.TheFolds.{fold-Node}
-use Rattle.cal_base.specs.declared.line.Param.{Param}
-use Rattle.cal_base.specs.ComponentTrees.{first, component}
-use Rattle.cal_base.specs.ContentLines.{unquoted_pieces, param_of}
-use Rattle.cal_base.specs.Octets.{semicolon}
-use Rattle.cal_base.specs.Text.{raised_all}
-use Rattle.cal_moment.specs.Calendar.{day_of_moment, moment_of_seconds}
-use Rattle.cal_moment.specs.Texts.{written_date, written_local}
+use Rattle.cal_base.specs.ComponentTrees.{component}
 use Rattle.cal_model.specs.declared.object.Component.{Component}
 use Rattle.cal_model.specs.declared.object.Kind.{Kind}
 use Rattle.cal_model.specs.declared.object.Kind.TheVariants.{Todo}
 use Rattle.cal_model.specs.declared.object.Object.{Object}
 use Rattle.cal_model.specs.declared.row.Range.{Range}
 use Rattle.cal_model.specs.declared.row.Row.{Row}
-use Rattle.cal_model.specs.declared.row.RowKind.{RowKind}
-use Rattle.cal_model.specs.declared.row.RowKind.TheVariants.{Date, Floating}
 use Rattle.cal_model.specs.declared.zone.ZoneTable.{ZoneTable}
 use Rattle.cal_model.specs.ComponentLines.{has, lines_of, name_of, children_of, kind_of}
 use Rattle.cal_model.specs.Numbers.{is_empty, same_int}
-use Rattle.cal_model.specs.RowRanges.{row_overlaps, component_of_row}
+use Rattle.cal_model.specs.RowRanges.{row_in_range, component_of_row}
+use Rattle.cal_model.specs.RowLines.{rewritten, text_line, new_line}
 use Rattle.cal_model.specs.Rows.{end_from, is_dated}
 
 -- What goes at every depth: VTIMEZONEs, and the lines of recurrence
@@ -46,69 +39,6 @@ plain_step node =
 
 abbrev pub plain : Node → List Node
 plain = fold-Node (List Node) plain_step
-
--- The text of a row's value: an instant in UTC, others by their local digits
-
-abbrev pub value_text : RowKind → ℤ → List ℕ
-value_text Date seconds = written_date (day_of_moment (moment_of_seconds seconds))
-value_text Floating seconds = written_local (moment_of_seconds seconds)
-value_text other seconds = written_local (moment_of_seconds seconds) ++ codes "Z"
-
-abbrev pub is_date_kind : RowKind → Bool
-is_date_kind Date = true
-is_date_kind other = false
-
--- A line with a new value
-
--- the parameters that go from each line with a new value; with RANGE=THISANDFUTURE also RANGE goes
-abbrev pub dropped_names : List (List ℕ)
-dropped_names = codes "TZID" ∷ []
-
--- the first value of a parameter is this word, without ASCII case
-abbrev pub says : List ℕ → Param → Bool
-says word param = list_any (λ value. bytes_eq (raised_all value) word) (option_to_list (first param.values))
-
--- a parameter stays, but for those and for VALUE=DATE beside a new value that is no date
-abbrev pub stays : RowKind → Param → Bool
-stays kind param =
-    not (list_any (bytes_eq param.name) dropped_names)
-    && not (bytes_eq param.name (codes "VALUE") && says (codes "DATE") param && not (is_date_kind kind))
-
-abbrev pub text_stays : RowKind → List ℕ → Bool
-text_stays kind text = elim (param_of text) [ None ↦ true | Some param ↦ stays kind param ]
-
--- the text of a line's name and parameters, without those that go
-abbrev pub kept_pieces : RowKind → List (List ℕ) → List (List ℕ)
-kept_pieces kind [] = []
-kept_pieces kind (name ∷ params) = name ∷ filter (text_stays kind) params
-
-abbrev pub kept_header : RowKind → Line → List ℕ
-kept_header kind line =
-    join_with_byte semicolon (kept_pieces kind (unquoted_pieces semicolon false (take (length line.raw - length line.value - 1) line.raw)))
-
--- the line with the text of a row's value: up to the colon it stays as it was written, but for the parameters that go
-abbrev pub rewritten : RowKind → ℤ → Line → Line
-rewritten kind seconds line = record line {
-  params = filter (stays kind) line.params;
-  value = value_text kind seconds;
-  raw = kept_header kind line ++ (codes ":" ++ value_text kind seconds);
-}
-
--- a line of its own, with VALUE=DATE for a date
-abbrev pub text_line : List ℕ → List ℕ → Line
-text_line name value = record { name = name; params = []; value = value; raw = name ++ (codes ":" ++ value) }
-
-abbrev pub date_line : List ℕ → List ℕ → Line
-date_line name value = record {
-  name = name;
-  params = record { name = codes "VALUE"; values = codes "DATE" ∷ [] } ∷ [];
-  value = value;
-  raw = name ++ (codes ";VALUE=DATE:" ++ value);
-}
-
-abbrev pub new_line : List ℕ → RowKind → ℤ → Line
-new_line name kind seconds =
-    if is_date_kind kind then date_line name (value_text kind seconds) else text_line name (value_text kind seconds)
 
 -- One instance
 
@@ -180,7 +110,7 @@ instances_of_row object row =
 
 -- the rows that overlap the range, in their order
 abbrev pub overlapping : Object → List Row → ZoneTable → Range → List Row
-overlapping object rows zone range = filter (row_overlaps object zone range) rows
+overlapping object rows zone range = filter (row_in_range object zone range) rows
 
 abbrev pub is_of_four_kinds : Node → Bool
 is_of_four_kinds node = is_some (kind_of node)

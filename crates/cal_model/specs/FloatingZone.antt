@@ -1,11 +1,8 @@
 -- The zone in which floating times and dates are read (RFC 4791, 5.2.2, 7.3 and 9.8).
-use Rattle.std.specs.Prelude.{[], pos, codes, Option, unwrap_or}
+use Rattle.std.specs.Prelude.{Option, unwrap_or}
 use Rattle.cal_base.specs.ComponentTrees.{or_else}
 use Rattle.cal_model.specs.declared.zone.ZoneTable.{ZoneTable}
-
--- UTC as a zone
-abbrev pub utc_zone : ZoneTable
-utc_zone = record { name = codes "UTC"; before = pos 0; onsets = [] }
+use Rattle.cal_model.specs.Alignment.{utc_zone}
 
 -- The report's own timezone, else the calendar's, else UTC. A calendar-multiget and a query for busy times have no timezone of their own.
 abbrev pub floating_zone : Option ZoneTable → Option ZoneTable → ZoneTable

@@ -41,10 +41,12 @@ pub mod Nearness
 pub mod ComponentLines
 pub mod TextTests
 pub mod DateProperties
+pub mod ComponentRanges
 pub mod Matching
 pub mod RowRanges
 pub mod NamedRanges
 pub mod Picks
+pub mod RowLines
 pub mod Expansion
 pub mod LimitedSets
 pub mod CalendarData

@@ -19,7 +19,7 @@ use Rattle.cal_model.specs.ComponentLines.{lines_of, name_of, children_of}
 use Rattle.cal_model.specs.Numbers.{is_empty}
 use Rattle.cal_model.specs.Overlap.{stored_period, some_meets}
 use Rattle.cal_model.specs.Picks.{header}
-use Rattle.cal_model.specs.RowRanges.{row_overlaps}
+use Rattle.cal_model.specs.RowRanges.{row_in_range}
 use Rattle.cal_model.specs.Rows.{Numbered, overrides, masters, ids_start, named_by, id_of_override, end_from, is_dated, row_of}
 use Rattle.cal_model.specs.StampTexts.{period_with, utc_stamp}
 
@@ -51,7 +51,7 @@ rows_to_test object rows n =
 
 -- an override goes where none of these overlaps the range
 abbrev pub is_left_out : Object → List Row → ZoneTable → Range → Numbered → Bool
-is_left_out object rows zone range n = not (list_any (row_overlaps object zone range) (rows_to_test object rows n))
+is_left_out object rows zone range n = not (list_any (row_in_range object zone range) (rows_to_test object rows n))
 
 abbrev pub left_out : Object → List Row → ZoneTable → Range → List ℕ
 left_out object rows zone range =
