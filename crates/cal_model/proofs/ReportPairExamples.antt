@@ -45,7 +45,7 @@ override_start = (refl, refl, refl, refl)
 beyond : is_needed hundred_days (FreeBusy (record { start = record { 0 = written 2100 12 31 0 0 0 }; end = record { 0 = written 2100 12 31 1 0 0 } })) (pos 748) ≡ false
 beyond = refl
 
--- the ranges of a query: those of its filter at every depth, of components and of properties, and those of what it selects
+-- the ranges of a query: those of what it selects, and those of its filter at every depth, a component's own before those of its properties
 named : ranges_named (Query NoProps (record { comp = None; recur = Limit hour; busy = Some years_later }) (record { top = comp (codes "VCALENDAR") None [] (event_asks (Some (minutes 0 1)) (prop (codes "DTSTAMP") (Time (minutes 1 2)) [] ∷ []) (comp (codes "VALARM") (Some (minutes 2 3)) [] [] ∷ []) ∷ []) }) None)
-    ≡ minutes 0 1 ∷ minutes 1 2 ∷ minutes 2 3 ∷ hour ∷ years_later ∷ []
+    ≡ hour ∷ years_later ∷ minutes 0 1 ∷ minutes 1 2 ∷ minutes 2 3 ∷ []
 named = simp (ranges_of_filter_roll) refl

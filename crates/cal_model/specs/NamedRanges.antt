@@ -34,8 +34,8 @@ ranges_of_recur (Limit range) = range ∷ []
 abbrev pub ranges_of_selection : Selection → List Range
 ranges_of_selection select = ranges_of_recur select.recur ++ option_to_list select.busy
 
--- the ranges that a report names
+-- the ranges that a report names, in the order in which its dates are looked at: those of what it selects, then those of its filter
 abbrev pub ranges_named : ReportRequest → List Range
-ranges_named (Query props select filter timezone) = ranges_of_filter filter.top ++ ranges_of_selection select
+ranges_named (Query props select filter timezone) = ranges_of_selection select ++ ranges_of_filter filter.top
 ranges_named (Multiget props select hrefs) = ranges_of_selection select
 ranges_named (FreeBusy range) = range ∷ []
