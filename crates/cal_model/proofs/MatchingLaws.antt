@@ -2,7 +2,7 @@
 use Rattle.std.proofs.Common.{◌≡◌, ℕ, ◌+◌, Bool, true, false, cond, not, ◌&&◌, ◌||◌, List, [], ◌∷◌, ◌++◌, map, length, Option, Some, None, refl, sym, ap, ◌∙◌, subst, append_assoc, get_or, arith}
 use Rattle.std.specs.Prelude.{◌==◌, flat_map, filter, option_to_list, slice_get}
 use Rattle.std.specs.List.{list_any, list_all, Contains, AllByRecursion}
-use Rattle.std.proofs.lemmas.Bool.{false≢true, eqb-true, and_parts}
+use Rattle.std.proofs.lemmas.Bool.{false≢true, eqb-true, and_parts, and_from}
 use Rattle.std.proofs.lemmas.List.Elements.{Contains-get_or, recursion_from_All}
 use Rattle.std.proofs.lemmas.Option.{slice_get_within, get_or_from_slice_get}
 use Rattle.std.proofs.lemmas.Grind.{common_steps}
@@ -15,7 +15,10 @@ use Rattle.cal_model.specs.declared.filter.Filter.{Filter}
 use Rattle.cal_model.specs.declared.filter.PropFilter.{PropFilter}
 use Rattle.cal_model.specs.declared.object.Alarm.{Alarm}
 use Rattle.cal_model.specs.declared.object.Component.{Component}
+use Rattle.cal_moment.specs.declared.stamp.Utc.{Utc}
 use Rattle.cal_model.specs.declared.object.Object.{Object}
+use Rattle.cal_model.specs.declared.object.Trigger.{Trigger}
+use Rattle.cal_model.specs.declared.object.Trigger.TheVariants.{At, From}
 use Rattle.cal_model.specs.declared.row.Fixed.{Fixed}
 use Rattle.cal_model.specs.declared.row.Range.{Range}
 use Rattle.cal_model.specs.declared.row.Row.{Row}
@@ -24,8 +27,8 @@ use Rattle.cal_model.specs.ComponentRanges.{Matched, Site, time_passes, range_pa
 use Rattle.cal_model.specs.ComponentReading.{is_alarm}
 use Rattle.cal_model.specs.Matching.{matches, matches_object, comp_filter_holds, prop_filter_holds, comp_step, passes_all, has_filter_name}
 use Rattle.cal_model.specs.NamedRanges.{ranges_of_filter, ranges_of_test, ranges_step}
-use Rattle.cal_model.specs.Overlap.{row_overlaps, alarm_overlaps, dated_fixed}
-use Rattle.cal_model.specs.RowRanges.{component_of_row, row_meets, row_in_range, row_alarm_in_range}
+use Rattle.cal_model.specs.Overlap.{row_overlaps, alarm_overlaps, some_trigger, first_trigger, dated_fixed}
+use Rattle.cal_model.specs.RowRanges.{is_relative, alarm_in_range, component_of_row, row_meets, row_in_range, row_alarm_in_range}
 use Rattle.cal_model.specs.Rows.{Numbered, numbered_from, rows}
 use Rattle.cal_model.proofs.FilterLemmas.{comp_filter_holds_roll, ranges_of_filter_roll}
 
@@ -163,14 +166,14 @@ alarm_at_is object (a ∷ []) n = tt
 alarm_at_is object (place ∷ child ∷ []) n = some_at n (alarms_before object place child) (slice_get n.component.alarms (alarms_before object place child)) refl
 alarm_at_is object (a ∷ b ∷ c ∷ path) n = tt
 
-alarm_meets : (object : Object) (zone : ZoneTable) (range : Range) (n : Numbered) → IsNumbered object.components n → (alarm : Alarm) → IsAlarm n alarm → (row : Row)
+alarm_meets : (object : Object) (zone : ZoneTable) (range : Range) (n : Numbered) → IsNumbered object.components n → (alarm : Alarm) → IsAlarm n alarm → is_relative alarm.trigger ≡ true → (row : Row)
     → ((row.component == n.number) && alarm_overlaps alarm n.component (dated_fixed row zone) range) ≡ true → row_meets object zone range row ≡ true
-alarm_meets object zone range n is alarm its row e =
+alarm_meets object zone range n is alarm its relative row e =
     let both = and_parts (row.component == n.number) (alarm_overlaps alarm n.component (dated_fixed row zone) range) e in
-    let test : Alarm → Bool = λ a. alarm_overlaps a n.component (dated_fixed row zone) range in
-    let found : list_any test n.component.alarms ≡ true = any_at test n.component.alarms its.0 alarm its.1 both.1 in
+    let test : Alarm → Bool = alarm_in_range zone range row n.component in
+    let found : list_any test n.component.alarms ≡ true = any_at test n.component.alarms its.0 alarm its.1 (and_from (is_relative alarm.trigger) (alarm_overlaps alarm n.component (dated_fixed row zone) range) relative both.1) in
     or_right (row_in_range object zone range row) (row_alarm_in_range object zone range row)
-    (ap (list_any (λ (c : Component). list_any (λ a. alarm_overlaps a c (dated_fixed row zone) range) c.alarms)) (component_of_row_is object row n is both.0) ∙ or_left (list_any test n.component.alarms) false found)
+      (ap (list_any (λ (c : Component). list_any (alarm_in_range zone range row c) c.alarms)) (component_of_row_is object row n is both.0) ∙ or_left (list_any test n.component.alarms) false found)
 
 alarm_form : (g : Option Fixed → Bool) (zone : ZoneTable) (number : ℕ) (rows : List Row)
     → list_any g (map (λ row. dated_fixed row zone) (filter (λ (row : Row). row.component == number) rows))
@@ -179,13 +182,32 @@ alarm_form g zone number rows =
     let q : Row → Bool = λ row. row.component == number in
     any_map g (λ row. dated_fixed row zone) (filter q rows) ∙ any_filter (λ row. g (dated_fixed row zone)) q rows
 
-alarm_passes_same : (object : Object) (zone : ZoneTable) (range : Range) (some all : List Row) → AreEnough object zone range some all → (n : Numbered) → IsNumbered object.components n → (alarm : Alarm) → IsAlarm n alarm
+-- an alarm with an absolute trigger, whatever the rows are
+absolute_is : (alarm : Alarm) (c : Component) (range : Range) (u : Utc) (at : Option Fixed) → alarm.trigger ≡ At u → alarm_overlaps alarm c at range ≡ alarm_overlaps alarm c None range
+absolute_is alarm c range u at e =
+    ap (λ t. list_any (some_trigger alarm range) (option_to_list (first_trigger t c at))) e ∙ sym (ap (λ t. list_any (some_trigger alarm range) (option_to_list (first_trigger t c None))) e)
+
+any_constant : {X : Type 0} (p : X → Bool) (b : Bool) → ((x : X) → p x ≡ b) → (xs : List X) → (b || list_any p xs) ≡ b
+any_constant p true f xs = refl
+any_constant p false f [] = refl
+any_constant p false f (x ∷ xs) = rw (f x) (any_constant p false f xs)
+
+by_trigger : (object : Object) (zone : ZoneTable) (range : Range) (some all : List Row) → AreEnough object zone range some all → (n : Numbered) → IsNumbered object.components n → (alarm : Alarm) → IsAlarm n alarm → (trigger : Trigger) → alarm.trigger ≡ trigger
     → alarm_passes (with_rows object zone some) range n alarm ≡ alarm_passes (with_rows object zone all) range n alarm
-alarm_passes_same object zone range some all enough n is alarm its =
+by_trigger object zone range some all enough n is alarm its (At u) e =
+    let g : Option Fixed → Bool = λ at. alarm_overlaps alarm n.component at range in
+    let same : (rows : List Row) → alarm_passes (with_rows object zone rows) range n alarm ≡ g None =
+        λ rows. any_constant g (g None) (λ at. absolute_is alarm n.component range u at e) (map (λ row. dated_fixed row zone) (filter (λ (row : Row). row.component == n.number) rows)) in
+    same some ∙ sym (same all)
+by_trigger object zone range some all enough n is alarm its (From related length) e =
     let g : Option Fixed → Bool = λ at. alarm_overlaps alarm n.component at range in
     ap (λ t. g None || t) (alarm_form g zone n.number some
-    ∙ any_same (λ row. (row.component == n.number) && g (dated_fixed row zone)) some all enough.rows_of (λ row c e. enough.meeting row c (alarm_meets object zone range n is alarm its row e))
-    ∙ sym (alarm_form g zone n.number all))
+      ∙ any_same (λ row. (row.component == n.number) && g (dated_fixed row zone)) some all enough.rows_of (λ row c m. enough.meeting row c (alarm_meets object zone range n is alarm its (ap is_relative e) row m))
+      ∙ sym (alarm_form g zone n.number all))
+
+alarm_passes_same : (object : Object) (zone : ZoneTable) (range : Range) (some all : List Row) → AreEnough object zone range some all → (n : Numbered) → IsNumbered object.components n → (alarm : Alarm) → IsAlarm n alarm
+    → alarm_passes (with_rows object zone some) range n alarm ≡ alarm_passes (with_rows object zone all) range n alarm
+alarm_passes_same object zone range some all enough n is alarm its = by_trigger object zone range some all enough n is alarm its alarm.trigger refl
 
 valarm_passes_same : (object : Object) (zone : ZoneTable) (range : Range) (some all : List Row) → AreEnough object zone range some all → (site : Site) (holders : List Numbered) → AllByRecursion (IsNumbered object.components) holders
     → valarm_passes (with_rows object zone some) range site holders ≡ valarm_passes (with_rows object zone all) range site holders
