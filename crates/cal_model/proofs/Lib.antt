@@ -42,3 +42,4 @@ pub mod MatchingLaws
 pub mod CalendarDataLaws
 mod ReportPairExamples
 mod ObjectExamples
+pub mod ReportLaws
