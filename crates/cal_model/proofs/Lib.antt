@@ -43,3 +43,4 @@ pub mod CalendarDataLaws
 mod ReportPairExamples
 mod ObjectExamples
 pub mod ReportLaws
+pub mod OverrideWindows

@@ -75,7 +75,7 @@ all_cond : {X : Type 0} (Q : X → Type 0) (test : Bool) (x : X) (xs : List X) �
 all_cond Q true x xs q a = (q, a)
 all_cond Q false x xs q a = a
 
-all_filter : {X : Type 0} (Q : X → Type 0) (p : X → Bool) (xs : List X) → AllByRecursion Q xs → AllByRecursion Q (filter p xs)
+pub all_filter : {X : Type 0} (Q : X → Type 0) (p : X → Bool) (xs : List X) → AllByRecursion Q xs → AllByRecursion Q (filter p xs)
 all_filter Q p [] a = tt
 all_filter Q p (x ∷ xs) a = all_cond Q (p x) x (filter p xs) a.0 (all_filter Q p xs a.1)
 
@@ -96,7 +96,7 @@ at_end_of_front : (front : List Component) (c : Component) (cs : List Component)
 at_end_of_front [] c cs = refl
 at_end_of_front (d ∷ front) c cs = at_end_of_front front c cs
 
-numbered_is : (cs front : List Component) → AllByRecursion (IsNumbered (front ++ cs)) (numbered_from (length front) cs)
+pub numbered_is : (cs front : List Component) → AllByRecursion (IsNumbered (front ++ cs)) (numbered_from (length front) cs)
 numbered_is [] front = tt
 numbered_is (c ∷ cs) front =
     let joined : (front ++ (c ∷ [])) ++ cs ≡ front ++ c ∷ cs = append_assoc front (c ∷ []) cs in
