@@ -15,22 +15,27 @@ use Rattle.cal_model.specs.declared.object.Related.{Related}
 use Rattle.cal_model.specs.declared.object.Trigger.{Trigger}
 use Rattle.cal_model.specs.declared.object.Trigger.TheVariants.{At, From}
 use Rattle.cal_model.specs.declared.property.Props.{Props}
+use Rattle.cal_model.specs.declared.selection.Recur.{Recur}
+use Rattle.cal_model.specs.declared.selection.Recur.TheVariants.{Whole, Expand, Limit}
 use Rattle.cal_model.specs.declared.selection.Selection.{Selection}
+use Rattle.cal_model.specs.CalendarData.{shown, shown_of_object}
 use Rattle.cal_model.specs.declared.report.ReportRequest.{ReportRequest}
-use Rattle.cal_model.specs.declared.report.ReportRequest.TheVariants.{Query}
+use Rattle.cal_model.specs.declared.report.ReportRequest.TheVariants.{Query, Multiget}
 use Rattle.cal_model.specs.declared.row.Range.{Range}
 use Rattle.cal_model.specs.declared.row.Row.{Row}
 use Rattle.cal_model.specs.declared.zone.ZoneTable.{ZoneTable}
 use Rattle.cal_model.specs.Cost.{margin, window_meets}
 use Rattle.cal_model.specs.Nearness.{HasNearRows, HasShortOffsets}
 use Rattle.cal_model.specs.Matching.{matches, matches_object}
-use Rattle.cal_model.specs.NamedRanges.{ranges_named, ranges_of_filter, ranges_of_selection}
+use Rattle.cal_model.specs.NamedRanges.{ranges_named, ranges_of_filter, ranges_of_recur, ranges_of_selection}
 use Rattle.cal_model.specs.Numbers.{is_empty, same_int}
 use Rattle.cal_model.specs.Overlap.{row_overlaps, alarm_overlaps, dated_fixed}
 use Rattle.cal_model.specs.RecurrenceSet.{every_moment}
 use Rattle.cal_model.specs.ReportPairs.{is_stated, meets_some, counts, is_needed, override_windows}
 use Rattle.cal_model.specs.RowRanges.{row_meets, row_in_range, row_alarm_in_range, alarm_in_range, is_relative}
 use Rattle.cal_model.specs.Rows.{rows, is_dated, window_of}
+use Rattle.cal_model.proofs.CalendarDataLaws.{AreEnough, Keeps, is_of_override, shown-enough_rows}
+use Rattle.cal_model.proofs.OverrideWindows.{IsInWindow, override_rows-in_windows}
 use Rattle.cal_model.proofs.MatchingLaws.{any_from, matches-enough_rows_of_object}
 use Rattle.cal_model.proofs.NearRanges.{rows-near, alarms-near}
 use Rattle.cal_model.proofs.WindowLaws.{Contains-filter, Contains-unfilter}
@@ -108,3 +113,52 @@ matches-looked_at props select filter timezone object zone near short stated =
       (λ row c. (Contains-unfilter (is_looked_at object report) row (rows object) c).1)
       (λ range named row c e. Contains-filter (is_looked_at object report) row (rows object)
         (looked_at object zone report near short stated range (Contains-append_right (ranges_of_selection select) (ranges_of_filter filter.top) range named) row c e) c)
+
+-- The same of calendar data
+
+or_second : (s t : Bool) → t ≡ true → (s || t) ≡ true
+or_second true t e = refl
+or_second false t e = e
+
+-- a dated row of an override is looked at, where some range is named
+override_looked_at : (object : Object) (report : ReportRequest) → ((row : Row) → Contains (rows object) row → is_dated row ≡ true → is_stated (window_of object row) ≡ true)
+    → (range : Range) → Contains (ranges_named report) range → (row : Row) → Contains (rows object) row → (is_of_override object row && is_dated row) ≡ true → is_looked_at object report row ≡ true
+override_looked_at object report stated range named row among e =
+    let both = and_parts (is_of_override object row) (is_dated row) e in
+    or_second (not (is_dated row)) (is_needed object report (window_of object row))
+      (and_from (is_stated (window_of object row)) (counts object (ranges_named report) (window_of object row)) (stated row among both.1)
+        (and_from (not (is_empty (ranges_named report))) (meets_some object (ranges_named report) (window_of object row) || list_any (same_int (window_of object row)) (override_windows object))
+          (not_empty (ranges_named report) range named)
+          (or_second (meets_some object (ranges_named report) (window_of object row)) (list_any (same_int (window_of object row)) (override_windows object))
+            (All-contains (IsInWindow object) (rows object) row (override_rows-in_windows object) among both.0 both.1))))
+
+overlapping_looked_at : (object : Object) (zone : ZoneTable) (report : ReportRequest) → HasNearRows object → HasShortOffsets zone → ((row : Row) → Contains (rows object) row → is_dated row ≡ true → is_stated (window_of object row) ≡ true)
+    → (range : Range) → Contains (ranges_named report) range → Keeps (is_looked_at object report) (rows object) (row_in_range object zone range)
+overlapping_looked_at object zone report near short stated range named row among e =
+    looked_at object zone report near short stated range named row among (or_first (row_in_range object zone range row) (row_alarm_in_range object zone range row) e)
+
+here : (range : Range) → Contains (range ∷ []) range
+here range = (0, omega arith, refl)
+
+recur_enough : (object : Object) (zone : ZoneTable) (report : ReportRequest) → HasNearRows object → HasShortOffsets zone → ((row : Row) → Contains (rows object) row → is_dated row ≡ true → is_stated (window_of object row) ≡ true)
+    → (recur : Recur) → ((range : Range) → Contains (ranges_of_recur recur) range → Contains (ranges_named report) range) → AreEnough object zone (is_looked_at object report) (rows object) recur
+recur_enough object zone report near short stated Whole named = tt
+recur_enough object zone report near short stated (Expand range) named = overlapping_looked_at object zone report near short stated range (named range (here range))
+recur_enough object zone report near short stated (Limit range) named =
+    (overlapping_looked_at object zone report near short stated range (named range (here range)), override_looked_at object report stated range (named range (here range)))
+
+-- The law of a query and of a multiget: over the rows that it looks at an object is shown as over all of its rows.
+pub shown-looked_at : (report : ReportRequest) (select : Selection) → ((range : Range) → Contains (ranges_of_recur select.recur) range → Contains (ranges_named report) range)
+    → (octets : List ℕ) (object : Object) (zone : ZoneTable) → HasNearRows object → HasShortOffsets zone
+    → ((row : Row) → Contains (rows object) row → is_dated row ≡ true → is_stated (window_of object row) ≡ true)
+    → shown octets object (filter_rows (is_looked_at object report) (rows object)) select zone ≡ shown_of_object octets object select zone
+shown-looked_at report select named octets object zone near short stated =
+    shown-enough_rows octets object select zone (is_looked_at object report) (rows object) (recur_enough object zone report near short stated select.recur named)
+
+-- both reports name the ranges of what they select
+pub names-query : (props : Props) (select : Selection) (filter : Filter) (timezone : Option (List ℕ)) (range : Range) → Contains (ranges_of_recur select.recur) range → Contains (ranges_named (Query props select filter timezone)) range
+names-query props select filter timezone range c =
+    Contains-append_left (ranges_of_selection select) (ranges_of_filter filter.top) range (Contains-append_left (ranges_of_recur select.recur) (option_to_list select.busy) range c)
+
+pub names-multiget : (props : Props) (select : Selection) (hrefs : List (List ℕ)) (range : Range) → Contains (ranges_of_recur select.recur) range → Contains (ranges_named (Multiget props select hrefs)) range
+names-multiget props select hrefs range c = Contains-append_left (ranges_of_recur select.recur) (option_to_list select.busy) range c
