@@ -22,39 +22,9 @@ use Rattle.cal_model.specs.Rows.{Numbered, overrides, masters, named_by, id_of_o
 use Rattle.cal_model.specs.ComponentLines.{name_of, lines_of, children_of}
 use Rattle.cal_base.specs.ComponentTrees.{component}
 use Rattle.std.proofs.lemmas.List.Folds.{list_any-append}
-use Rattle.cal_model.proofs.MatchingLaws.{any_from, any_agree, any_filter}
+use Rattle.cal_model.proofs.ListTests.{any_from, any_filter, filter-filter, filter_agreed, each, Keeps, filter_kept, any_kept}
 
 -- Filters
-
-filter_cond : {X : Type 0} (p : X → Bool) (test : Bool) (x : X) (xs : List X) → filter p (cond test (x ∷ xs) xs) ≡ cond (test && p x) (x ∷ filter p xs) (filter p xs)
-filter_cond p true x xs = refl
-filter_cond p false x xs = refl
-
-filter-filter : {X : Type 0} (p q : X → Bool) (xs : List X) → filter p (filter q xs) ≡ filter (λ x. q x && p x) xs
-filter-filter p q [] = refl
-filter-filter p q (x ∷ xs) = filter_cond p (q x) x (filter q xs) ∙ ap (λ ys. cond (q x && p x) (x ∷ ys) ys) (filter-filter p q xs)
-
-filter_agreed : {X : Type 0} (p q : X → Bool) (xs : List X) → AllByRecursion (λ x. p x ≡ q x) xs → filter p xs ≡ filter q xs
-filter_agreed p q [] a = refl
-filter_agreed p q (x ∷ xs) a = λ i. cond (a.0 i) (x ∷ filter_agreed p q xs a.1 i) (filter_agreed p q xs a.1 i)
-
-each : {X : Type 0} (Q : X → Type 0) (xs : List X) → ((x : X) → Contains xs x → Q x) → AllByRecursion Q xs
-each Q xs f = recursion_from_All Q xs (λ k d l. f (get_or xs k d) (Contains-get_or xs k d l))
-
--- a test that passes only what is kept
-and_kept : (k t : Bool) → (t ≡ true → k ≡ true) → (k && t) ≡ t
-and_kept true t f = refl
-and_kept false true f = f refl
-and_kept false false f = refl
-
-abbrev pub Keeps : (Row → Bool) → List Row → (Row → Bool) → Type 0
-Keeps keep all p = (row : Row) → Contains all row → p row ≡ true → keep row ≡ true
-
-filter_kept : (keep p : Row → Bool) (all : List Row) → Keeps keep all p → filter p (filter keep all) ≡ filter p all
-filter_kept keep p all f = filter-filter p keep all ∙ filter_agreed (λ row. keep row && p row) p all (each (λ row. (keep row && p row) ≡ p row) all (λ row c. and_kept (keep row) (p row) (f row c)))
-
-any_kept : (keep p : Row → Bool) (all : List Row) → Keeps keep all p → list_any p (filter keep all) ≡ list_any p all
-any_kept keep p all f = any_filter p keep all ∙ any_agree (λ row. keep row && p row) p (λ row. (keep row && p row) ≡ p row) (λ row e. e) all (each (λ row. (keep row && p row) ≡ p row) all (λ row c. and_kept (keep row) (p row) (f row c)))
 
 -- Limited overrides
 

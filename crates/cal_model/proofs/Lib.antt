@@ -32,6 +32,7 @@ mod BusyTimeExamples
 mod CostExamples
 mod RuleTextExamples
 mod ValueExamples
+pub mod ListTests
 pub mod FilterLemmas
 mod MatchingExamples
 mod CalendarDataExamples

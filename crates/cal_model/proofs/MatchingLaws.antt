@@ -30,62 +30,10 @@ use Rattle.cal_model.specs.NamedRanges.{ranges_of_filter, ranges_of_test, ranges
 use Rattle.cal_model.specs.Overlap.{row_overlaps, alarm_overlaps, some_trigger, first_trigger, dated_fixed}
 use Rattle.cal_model.specs.RowRanges.{is_relative, alarm_in_range, component_of_row, row_meets, row_in_range, row_alarm_in_range}
 use Rattle.cal_model.specs.Rows.{Numbered, numbered_from, rows}
+use Rattle.cal_model.proofs.ListTests.{any_at, any_same, any_agree, any_agree_all, any_filter, any_map, any_constant, all_filter, all_front, all_back, or_left, or_right, cond_same}
 use Rattle.cal_model.proofs.FilterLemmas.{comp_filter_holds_roll, ranges_of_filter_roll}
 
 -- Tests of lists
-
-pub same_bool : (s t : Bool) → (s ≡ true → t ≡ true) → (t ≡ true → s ≡ true) → s ≡ t
-same_bool true t f g = sym (f refl)
-same_bool false true f g = g refl
-same_bool false false f g = refl
-
-pub any_from : {X : Type 0} (p : X → Bool) (xs : List X) (x : X) → Contains xs x → p x ≡ true → list_any p xs ≡ true
-any_from p xs x c e = list_any_at p xs c.0 x c.1 (ap p c.2 ∙ e)
-
--- a test that finds nothing beyond some elements finds in all what it finds in those
-any_same : {X : Type 0} (p : X → Bool) (some all : List X) → ((x : X) → Contains some x → Contains all x) → ((x : X) → Contains all x → p x ≡ true → Contains some x) → list_any p some ≡ list_any p all
-any_same p some all sub enough = same_bool (list_any p some) (list_any p all)
-    (λ e. let found = Any-from_list_any p some e in any_from p all found.1 (sub found.1 (found.0, found.2, found.3)) found.4)
-    (λ e. let found = Any-from_list_any p all e in any_from p some found.1 (enough found.1 (found.0, found.2, found.3) found.4) found.4)
-
-pub any_agree : {X : Type 0} (p q : X → Bool) (Q : X → Type 0) → ((x : X) → Q x → p x ≡ q x) → (xs : List X) → AllByRecursion Q xs → list_any p xs ≡ list_any q xs
-any_agree p q Q f [] a = refl
-any_agree p q Q f (x ∷ xs) a = rw (f x a.0) (ap (λ t. q x || t) (any_agree p q Q f xs a.1))
-
-any_agree_all : {X : Type 0} (p q : X → Bool) → ((x : X) → p x ≡ q x) → (xs : List X) → list_any p xs ≡ list_any q xs
-any_agree_all p q f [] = refl
-any_agree_all p q f (x ∷ xs) = rw (f x) (ap (λ t. q x || t) (any_agree_all p q f xs))
-
-any_cond : {X : Type 0} (p : X → Bool) (test : Bool) (x : X) (xs : List X) → list_any p (cond test (x ∷ xs) xs) ≡ ((test && p x) || list_any p xs)
-any_cond p true x xs = refl
-any_cond p false x xs = refl
-
-pub any_filter : {X : Type 0} (p q : X → Bool) (xs : List X) → list_any p (filter q xs) ≡ list_any (λ x. q x && p x) xs
-any_filter p q [] = refl
-any_filter p q (x ∷ xs) = any_cond p (q x) x (filter q xs) ∙ ap (λ t. (q x && p x) || t) (any_filter p q xs)
-
-any_map : {X Y : Type 0} (p : Y → Bool) (f : X → Y) (xs : List X) → list_any p (map f xs) ≡ list_any (λ x. p (f x)) xs
-any_map p f [] = refl
-any_map p f (x ∷ xs) = ap (λ t. p (f x) || t) (any_map p f xs)
-
-any_at : {X : Type 0} (p : X → Bool) (xs : List X) (k : ℕ) (x : X) → slice_get xs k ≡ Some x → p x ≡ true → list_any p xs ≡ true
-any_at p xs k x e h = any_from p xs x (k, slice_get_within xs k x e, get_or_from_slice_get xs k x x e) h
-
-all_cond : {X : Type 0} (Q : X → Type 0) (test : Bool) (x : X) (xs : List X) → Q x → AllByRecursion Q xs → AllByRecursion Q (cond test (x ∷ xs) xs)
-all_cond Q true x xs q a = (q, a)
-all_cond Q false x xs q a = a
-
-pub all_filter : {X : Type 0} (Q : X → Type 0) (p : X → Bool) (xs : List X) → AllByRecursion Q xs → AllByRecursion Q (filter p xs)
-all_filter Q p [] a = tt
-all_filter Q p (x ∷ xs) a = all_cond Q (p x) x (filter p xs) a.0 (all_filter Q p xs a.1)
-
-all_front : {X : Type 0} (Q : X → Type 0) (xs ys : List X) → AllByRecursion Q (xs ++ ys) → AllByRecursion Q xs
-all_front Q [] ys a = tt
-all_front Q (x ∷ xs) ys a = (a.0, all_front Q xs ys a.1)
-
-all_back : {X : Type 0} (Q : X → Type 0) (xs ys : List X) → AllByRecursion Q (xs ++ ys) → AllByRecursion Q ys
-all_back Q [] ys a = a
-all_back Q (x ∷ xs) ys a = all_back Q xs ys a.1
 
 -- Numbers of components
 
@@ -127,14 +75,6 @@ pub record AreEnough (object : Object) (zone : ZoneTable) (range : Range) (some 
 abbrev with_rows : Object → ZoneTable → List Row → Matched
 with_rows object zone rows = record { object = object; rows = rows; zone = zone }
 
-or_right : (s t : Bool) → t ≡ true → (s || t) ≡ true
-or_right true t e = refl
-or_right false t e = e
-
-or_left : (s t : Bool) → s ≡ true → (s || t) ≡ true
-or_left true t e = refl
-or_left false t e = absurd (false≢true e)
-
 component_of_row_is : (object : Object) (row : Row) (n : Numbered) → IsNumbered object.components n → (row.component == n.number) ≡ true → component_of_row object row ≡ n.component ∷ []
 component_of_row_is object row n is e = ap option_to_list (ap (slice_get object.components) (eqb-true row.component n.number e) ∙ is)
 
@@ -173,7 +113,7 @@ alarm_meets object zone range n is alarm its relative row e =
     let test : Alarm → Bool = alarm_in_range zone range row n.component in
     let found : list_any test n.component.alarms ≡ true = any_at test n.component.alarms its.0 alarm its.1 (and_from (is_relative alarm.trigger) (alarm_overlaps alarm n.component (dated_fixed row zone) range) relative both.1) in
     or_right (row_in_range object zone range row) (row_alarm_in_range object zone range row)
-      (ap (list_any (λ (c : Component). list_any (alarm_in_range zone range row c) c.alarms)) (component_of_row_is object row n is both.0) ∙ or_left (list_any test n.component.alarms) false found)
+    (ap (list_any (λ (c : Component). list_any (alarm_in_range zone range row c) c.alarms)) (component_of_row_is object row n is both.0) ∙ or_left (list_any test n.component.alarms) false found)
 
 alarm_form : (g : Option Fixed → Bool) (zone : ZoneTable) (number : ℕ) (rows : List Row)
     → list_any g (map (λ row. dated_fixed row zone) (filter (λ (row : Row). row.component == number) rows))
@@ -187,23 +127,18 @@ absolute_is : (alarm : Alarm) (c : Component) (range : Range) (u : Utc) (at : Op
 absolute_is alarm c range u at e =
     ap (λ t. list_any (some_trigger alarm range) (option_to_list (first_trigger t c at))) e ∙ sym (ap (λ t. list_any (some_trigger alarm range) (option_to_list (first_trigger t c None))) e)
 
-any_constant : {X : Type 0} (p : X → Bool) (b : Bool) → ((x : X) → p x ≡ b) → (xs : List X) → (b || list_any p xs) ≡ b
-any_constant p true f xs = refl
-any_constant p false f [] = refl
-any_constant p false f (x ∷ xs) = rw (f x) (any_constant p false f xs)
-
 by_trigger : (object : Object) (zone : ZoneTable) (range : Range) (some all : List Row) → AreEnough object zone range some all → (n : Numbered) → IsNumbered object.components n → (alarm : Alarm) → IsAlarm n alarm → (trigger : Trigger) → alarm.trigger ≡ trigger
     → alarm_passes (with_rows object zone some) range n alarm ≡ alarm_passes (with_rows object zone all) range n alarm
 by_trigger object zone range some all enough n is alarm its (At u) e =
     let g : Option Fixed → Bool = λ at. alarm_overlaps alarm n.component at range in
     let same : (rows : List Row) → alarm_passes (with_rows object zone rows) range n alarm ≡ g None =
-        λ rows. any_constant g (g None) (λ at. absolute_is alarm n.component range u at e) (map (λ row. dated_fixed row zone) (filter (λ (row : Row). row.component == n.number) rows)) in
+    λ rows. any_constant g (g None) (λ at. absolute_is alarm n.component range u at e) (map (λ row. dated_fixed row zone) (filter (λ (row : Row). row.component == n.number) rows)) in
     same some ∙ sym (same all)
 by_trigger object zone range some all enough n is alarm its (From related length) e =
     let g : Option Fixed → Bool = λ at. alarm_overlaps alarm n.component at range in
     ap (λ t. g None || t) (alarm_form g zone n.number some
-      ∙ any_same (λ row. (row.component == n.number) && g (dated_fixed row zone)) some all enough.rows_of (λ row c m. enough.meeting row c (alarm_meets object zone range n is alarm its (ap is_relative e) row m))
-      ∙ sym (alarm_form g zone n.number all))
+    ∙ any_same (λ row. (row.component == n.number) && g (dated_fixed row zone)) some all enough.rows_of (λ row c m. enough.meeting row c (alarm_meets object zone range n is alarm its (ap is_relative e) row m))
+    ∙ sym (alarm_form g zone n.number all))
 
 alarm_passes_same : (object : Object) (zone : ZoneTable) (range : Range) (some all : List Row) → AreEnough object zone range some all → (n : Numbered) → IsNumbered object.components n → (alarm : Alarm) → IsAlarm n alarm
     → alarm_passes (with_rows object zone some) range n alarm ≡ alarm_passes (with_rows object zone all) range n alarm
@@ -215,9 +150,6 @@ valarm_passes_same object zone range some all enough site [] is = refl
 valarm_passes_same object zone range some all enough site (n ∷ more) is =
     ap (λ t. has_trigger site.node && t) (any_agree (alarm_passes (with_rows object zone some) range n) (alarm_passes (with_rows object zone all) range n) (IsAlarm n)
     (λ alarm its. alarm_passes_same object zone range some all enough n is.0 alarm its) (option_to_list (alarm_at object site.path n)) (alarm_at_is object site.path n))
-
-cond_same : (test : Bool) (s s' t t' : Bool) → s ≡ s' → t ≡ t' → cond test s t ≡ cond test s' t'
-cond_same test s s' t t' e f = λ i. cond test (e i) (f i)
 
 range_passes_same : (object : Object) (zone : ZoneTable) (range : Range) (some all : List Row) → AreEnough object zone range some all → (site : Site)
     → range_passes (with_rows object zone some) range site ≡ range_passes (with_rows object zone all) range site

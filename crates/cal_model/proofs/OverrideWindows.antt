@@ -18,7 +18,8 @@ use Rattle.cal_model.specs.Rows.{Numbered, numbered, has_id, masters, overrides,
 use Rattle.cal_model.specs.Starts.{own_start, end_from, end_of_instance}
 use Rattle.cal_model.proofs.CalendarDataLaws.{is_of_override}
 use Rattle.cal_model.proofs.Everywhere.{All-everywhere, All-flat_map, All-option, All-in_order, same_int-self}
-use Rattle.cal_model.proofs.MatchingLaws.{IsNumbered, numbered_is, any_from}
+use Rattle.cal_model.proofs.MatchingLaws.{IsNumbered, numbered_is}
+use Rattle.cal_model.proofs.ListTests.{any_from, any_filter_map, each_of}
 
 -- what is shown of each row
 abbrev pub IsInWindow : Object → Row → Type 0
@@ -29,14 +30,16 @@ all_numbered object = All-from_recursion (IsNumbered object.components) (numbere
 
 -- the components of an object by what they are
 of_overrides : (object : Object) (n : Numbered) → Contains (overrides object) n → IsNumbered object.components n × (has_id n ≡ true)
-of_overrides object n c =
-    (All-contains (IsNumbered object.components) (overrides object) n (All-filter has_id (IsNumbered object.components) (numbered object) (all_numbered object)) c,
-      All-contains (λ m. has_id m ≡ true) (overrides object) n (filter_passes has_id (numbered object)) c)
+of_overrides object n c = (
+  All-contains (IsNumbered object.components) (overrides object) n (All-filter has_id (IsNumbered object.components) (numbered object) (all_numbered object)) c,
+  All-contains (λ m. has_id m ≡ true) (overrides object) n (filter_passes has_id (numbered object)) c,
+)
 
 of_masters : (object : Object) (n : Numbered) → Contains (masters object) n → IsNumbered object.components n × (has_id n ≡ false)
-of_masters object n c =
-    (All-contains (IsNumbered object.components) (masters object) n (All-filter (λ m. not (has_id m)) (IsNumbered object.components) (numbered object) (all_numbered object)) c,
-      not-true (has_id n) (All-contains (λ m. not (has_id m) ≡ true) (masters object) n (filter_passes (λ m. not (has_id m)) (numbered object)) c))
+of_masters object n c = (
+  All-contains (IsNumbered object.components) (masters object) n (All-filter (λ m. not (has_id m)) (IsNumbered object.components) (numbered object) (all_numbered object)) c,
+  not-true (has_id n) (All-contains (λ m. not (has_id m) ≡ true) (masters object) n (filter_passes (λ m. not (has_id m)) (numbered object)) c),
+)
 
 some_or : Component → Option Component → Component
 some_or c None = c
@@ -51,23 +54,11 @@ not_both object m n c d e =
     let same : Some m.component ≡ Some n.component = sym master.0 ∙ ap (slice_get object.components) (eqb-true m.number n.number e) ∙ override.0 in
     false≢true (sym master.1 ∙ ap (λ o. is_some (some_or m.component o).recurrence_id) same ∙ override.1)
 
-any_option : {Y : Type 0} (p : Y → Bool) (o : Option Y) (ys : List Y) → list_any p (cons_option o ys) ≡ (list_any p (option_to_list o) || list_any p ys)
-any_option p None ys = refl
-any_option p (Some y) ys = either (p y) (list_any p ys)
-  where
-    either : (s t : Bool) → (s || t) ≡ ((s || false) || t)
-    either true t = refl
-    either false t = refl
-
-any_filter_map : {X Y : Type 0} (p : Y → Bool) (f : X → Option Y) (xs : List X) → list_any p (filter_map f xs) ≡ list_any (λ x. list_any p (option_to_list (f x))) xs
-any_filter_map p f [] = refl
-any_filter_map p f (x ∷ xs) = any_option p (f x) (filter_map f xs) ∙ ap (λ t. list_any p (option_to_list (f x)) || t) (any_filter_map p f xs)
-
 -- the row of an override
 override_in_window : (object : Object) (ids : Stamp) (all : List ℤ) (n : Numbered) → Contains (overrides object) n → All (IsInWindow object) (override_row object ids all n)
 override_in_window object ids all n c =
     All-flat_map (IsInWindow object) (λ s. override_row_from object ids all n s (value_of object.zones s)) (option_to_list (own_start n.component))
-      (All-option (λ s. All (IsInWindow object) (override_row_from object ids all n s (value_of object.zones s))) (own_start n.component) from)
+    (All-option (λ s. All (IsInWindow object) (override_row_from object ids all n s (value_of object.zones s))) (own_start n.component) from)
   where
     row : Stamp → Aligned → Row
     row s x = row_of (id_of_override object ids all x) (value_of object.zones s) (end_from object.zones n.component (value_of object.zones s)) n.number (kind_of ids) (kind_of s)
@@ -81,9 +72,9 @@ override_in_window object ids all n c =
     at_each s own x of dated =
         any_filter_map (same_int (window_of object (row s x))) (window_of_override object) (overrides object)
         ∙ any_from (λ m. list_any (same_int (window_of object (row s x))) (option_to_list (window_of_override object m))) (overrides object) n c
-          (ap (λ o. list_any (same_int (window_of object (row s x))) (option_to_list (option_map (start_window object) o))) own
-          ∙ ap (λ w. same_int w (start_window object s) || false) (window s own x)
-          ∙ ap (λ t. t || false) (same_int-self (start_window object s)))
+        (ap (λ o. list_any (same_int (window_of object (row s x))) (option_to_list (option_map (start_window object) o))) own
+        ∙ ap (λ w. same_int w (start_window object s) || false) (window s own x)
+        ∙ ap (λ t. t || false) (same_int-self (start_window object s)))
 
     from : (s : Stamp) → own_start n.component ≡ Some s → All (IsInWindow object) (override_row_from object ids all n s (value_of object.zones s))
     from s own = All-map (IsInWindow object) (row s) (named_by object.zones ids n) (All-everywhere (λ x. IsInWindow object (row s x)) (at_each s own) (named_by object.zones ids n))
@@ -101,9 +92,6 @@ master_no_override object ids r n c =
         let found = Any-from_list_any (λ (m : Numbered). n.number == m.number) (overrides object) of in
         absurd (not_both object n found.1 c (found.0, found.2, found.3) found.4)
 
-each_of : {X : Type 0} (Q : X → Type 0) (xs : List X) → ((x : X) → Contains xs x → Q x) → All Q xs
-each_of Q xs f = λ k d l. f (get_or xs k d) (Contains-get_or xs k d l)
-
 pub override_rows-in_windows : (object : Object) → All (IsInWindow object) (rows object)
 override_rows-in_windows object =
     All-append (IsInWindow object) (undated_rows object) (flat_map (dated_rows (row_at every_moment object) every_moment object) (option_to_list (ids_start object)))
@@ -117,10 +105,10 @@ override_rows-in_windows object =
     dated_ones ids =
         All-in_order (IsInWindow object) _
         (All-append (IsInWindow object) (flat_map (override_row object ids (starts every_moment object)) (overrides object)) _
-          (All-flat_map (IsInWindow object) (override_row object ids (starts every_moment object)) (overrides object)
-            (each_of (λ n. All (IsInWindow object) (override_row object ids (starts every_moment object) n)) (overrides object) (override_in_window object ids (starts every_moment object))))
-          (All-filter (λ (r : Row). not (is_named object ids r.id)) (IsInWindow object) (flat_map (instances ids) (starts every_moment object))
-            (All-flat_map (IsInWindow object) (instances ids) (starts every_moment object)
-              (All-everywhere (λ r. All (IsInWindow object) (instances ids r))
-                (λ r. All-flat_map (IsInWindow object) (master_row every_moment object ids r) (masters object) (each_of (λ n. All (IsInWindow object) (master_row every_moment object ids r n)) (masters object) (master_no_override object ids r)))
-                (starts every_moment object)))))
+        (All-flat_map (IsInWindow object) (override_row object ids (starts every_moment object)) (overrides object)
+        (each_of (λ n. All (IsInWindow object) (override_row object ids (starts every_moment object) n)) (overrides object) (override_in_window object ids (starts every_moment object))))
+        (All-filter (λ (r : Row). not (is_named object ids r.id)) (IsInWindow object) (flat_map (instances ids) (starts every_moment object))
+        (All-flat_map (IsInWindow object) (instances ids) (starts every_moment object)
+        (All-everywhere (λ r. All (IsInWindow object) (instances ids r))
+        (λ r. All-flat_map (IsInWindow object) (master_row every_moment object ids r) (masters object) (each_of (λ n. All (IsInWindow object) (master_row every_moment object ids r n)) (masters object) (master_no_override object ids r)))
+        (starts every_moment object)))))

@@ -34,9 +34,10 @@ use Rattle.cal_model.specs.RecurrenceSet.{every_moment}
 use Rattle.cal_model.specs.ReportPairs.{is_stated, meets_some, counts, is_needed, override_windows}
 use Rattle.cal_model.specs.RowRanges.{row_meets, row_in_range, row_alarm_in_range, alarm_in_range, is_relative}
 use Rattle.cal_model.specs.Rows.{rows, is_dated, window_of}
-use Rattle.cal_model.proofs.CalendarDataLaws.{AreEnough, Keeps, is_of_override, shown-enough_rows}
+use Rattle.cal_model.proofs.ListTests.{any_from, or_left, or_right, not_empty, Keeps}
+use Rattle.cal_model.proofs.CalendarDataLaws.{AreEnough, is_of_override, shown-enough_rows}
 use Rattle.cal_model.proofs.OverrideWindows.{IsInWindow, override_rows-in_windows}
-use Rattle.cal_model.proofs.MatchingLaws.{any_from, matches-enough_rows_of_object}
+use Rattle.cal_model.proofs.MatchingLaws.{matches-enough_rows_of_object}
 use Rattle.cal_model.proofs.NearRanges.{rows-near, alarms-near}
 use Rattle.cal_model.proofs.WindowLaws.{Contains-filter, Contains-unfilter}
 
@@ -53,7 +54,7 @@ by_own_time : (object : Object) (zone : ZoneTable) (range : Range) → HasNearRo
 by_own_time object zone range near short row among dated e =
     let found = of_found (λ c. row_overlaps c row range zone) (slice_get object.components row.component) e in
     All-contains (λ (r : Row). (c : Component) → slice_get object.components r.component ≡ Some c → is_dated r ≡ true → row_overlaps c r range zone ≡ true → window_meets (margin object) range (window_of object r) ≡ true)
-      (rows object) row (rows-near every_moment object zone range near short) among found.0 found.1 dated found.2
+    (rows object) row (rows-near every_moment object zone range near short) among found.0 found.1 dated found.2
 
 -- a trigger that counts from a row
 of_relative : (trigger : Trigger) → is_relative trigger ≡ true → (r : Related) × (length : Length) × (trigger ≡ From r length)
@@ -67,28 +68,20 @@ by_alarm object zone range near short row among e =
     let both = and_parts (is_relative alarm.1.trigger) (alarm_overlaps alarm.1 found.0 (dated_fixed row zone) range) alarm.4 in
     let from = of_relative alarm.1.trigger both.0 in
     All-contains (λ (r : Row). (c : Component) (k : ℕ) (a : Alarm) (related : Related) (length : Length) → slice_get object.components r.component ≡ Some c → slice_get c.alarms k ≡ Some a → a.trigger ≡ From related length → alarm_overlaps a c (dated_fixed r zone) range ≡ true → window_meets (margin object) range (window_of object r) ≡ true)
-      (rows object) row (alarms-near every_moment object zone range near short) among found.0 alarm.0 alarm.1 from.0 from.1 found.1 (slice_get_read found.0.alarms (length found.0.alarms) alarm.0 alarm.1 refl alarm.2 (sym alarm.3)) from.2 both.1
+    (rows object) row (alarms-near every_moment object zone range near short) among found.0 alarm.0 alarm.1 from.0 from.1 found.1 (slice_get_read found.0.alarms (length found.0.alarms) alarm.0 alarm.1 refl alarm.2 (sym alarm.3)) from.2 both.1
 
 row_near : (object : Object) (zone : ZoneTable) (range : Range) → HasNearRows object → HasShortOffsets zone → (row : Row) → Contains (rows object) row → is_dated row ≡ true → row_meets object zone range row ≡ true → Meets object range row
 row_near object zone range near short row among dated e =
     ⊎_elim (by_own_time object zone range near short row among dated) (by_alarm object zone range near short row among) (or_cases (row_in_range object zone range row) (row_alarm_in_range object zone range row) e)
-
-not_empty : {X : Type 0} (xs : List X) (x : X) → Contains xs x → not (is_empty xs) ≡ true
-not_empty [] x c = absurd (omega (arith, c.1))
-not_empty (y ∷ xs) x c = ap not (ne_eqb (length (y ∷ xs)) 0 (λ e. omega (arith, e)))
-
-or_first : (s t : Bool) → s ≡ true → (s || t) ≡ true
-or_first true t e = refl
-or_first false t e = absurd (false≢true e)
 
 -- the window of a row that can meet one of some ranges counts for these
 pub counts-row_meets : (object : Object) (zone : ZoneTable) (ranges : List Range) → HasNearRows object → HasShortOffsets zone → (range : Range) → Contains ranges range → (row : Row) → Contains (rows object) row → is_dated row ≡ true
     → row_meets object zone range row ≡ true → counts object ranges (window_of object row) ≡ true
 counts-row_meets object zone ranges near short range named row among dated e =
     and_from (not (is_empty ranges)) (meets_some object ranges (window_of object row) || list_any (same_int (window_of object row)) (override_windows object))
-      (not_empty ranges range named)
-      (or_first (meets_some object ranges (window_of object row)) (list_any (same_int (window_of object row)) (override_windows object))
-        (any_from (λ r. window_meets (margin object) r (window_of object row)) ranges range named (row_near object zone range near short row among dated e)))
+    (not_empty ranges range named)
+    (or_left (meets_some object ranges (window_of object row)) (list_any (same_int (window_of object row)) (override_windows object))
+    (any_from (λ r. window_meets (margin object) r (window_of object row)) ranges range named (row_near object zone range near short row among dated e)))
 
 -- the rows that a report looks at: those without a date, and those of the windows that it may need
 abbrev pub is_looked_at : Object → ReportRequest → Row → Bool
@@ -110,32 +103,28 @@ pub matches-looked_at : (props : Props) (select : Selection) (filter : Filter) (
 matches-looked_at props select filter timezone object zone near short stated =
     let report : ReportRequest = Query props select filter timezone in
     matches-enough_rows_of_object filter object zone (filter_rows (is_looked_at object report) (rows object))
-      (λ row c. (Contains-unfilter (is_looked_at object report) row (rows object) c).1)
-      (λ range named row c e. Contains-filter (is_looked_at object report) row (rows object)
-        (looked_at object zone report near short stated range (Contains-append_right (ranges_of_selection select) (ranges_of_filter filter.top) range named) row c e) c)
+    (λ row c. (Contains-unfilter (is_looked_at object report) row (rows object) c).1)
+    (λ range named row c e. Contains-filter (is_looked_at object report) row (rows object)
+    (looked_at object zone report near short stated range (Contains-append_right (ranges_of_selection select) (ranges_of_filter filter.top) range named) row c e) c)
 
 -- The same of calendar data
-
-or_second : (s t : Bool) → t ≡ true → (s || t) ≡ true
-or_second true t e = refl
-or_second false t e = e
 
 -- a dated row of an override is looked at, where some range is named
 override_looked_at : (object : Object) (report : ReportRequest) → ((row : Row) → Contains (rows object) row → is_dated row ≡ true → is_stated (window_of object row) ≡ true)
     → (range : Range) → Contains (ranges_named report) range → (row : Row) → Contains (rows object) row → (is_of_override object row && is_dated row) ≡ true → is_looked_at object report row ≡ true
 override_looked_at object report stated range named row among e =
     let both = and_parts (is_of_override object row) (is_dated row) e in
-    or_second (not (is_dated row)) (is_needed object report (window_of object row))
-      (and_from (is_stated (window_of object row)) (counts object (ranges_named report) (window_of object row)) (stated row among both.1)
-        (and_from (not (is_empty (ranges_named report))) (meets_some object (ranges_named report) (window_of object row) || list_any (same_int (window_of object row)) (override_windows object))
-          (not_empty (ranges_named report) range named)
-          (or_second (meets_some object (ranges_named report) (window_of object row)) (list_any (same_int (window_of object row)) (override_windows object))
-            (All-contains (IsInWindow object) (rows object) row (override_rows-in_windows object) among both.0 both.1))))
+    or_right (not (is_dated row)) (is_needed object report (window_of object row))
+    (and_from (is_stated (window_of object row)) (counts object (ranges_named report) (window_of object row)) (stated row among both.1)
+    (and_from (not (is_empty (ranges_named report))) (meets_some object (ranges_named report) (window_of object row) || list_any (same_int (window_of object row)) (override_windows object))
+    (not_empty (ranges_named report) range named)
+    (or_right (meets_some object (ranges_named report) (window_of object row)) (list_any (same_int (window_of object row)) (override_windows object))
+    (All-contains (IsInWindow object) (rows object) row (override_rows-in_windows object) among both.0 both.1))))
 
 overlapping_looked_at : (object : Object) (zone : ZoneTable) (report : ReportRequest) → HasNearRows object → HasShortOffsets zone → ((row : Row) → Contains (rows object) row → is_dated row ≡ true → is_stated (window_of object row) ≡ true)
     → (range : Range) → Contains (ranges_named report) range → Keeps (is_looked_at object report) (rows object) (row_in_range object zone range)
 overlapping_looked_at object zone report near short stated range named row among e =
-    looked_at object zone report near short stated range named row among (or_first (row_in_range object zone range row) (row_alarm_in_range object zone range row) e)
+    looked_at object zone report near short stated range named row among (or_left (row_in_range object zone range row) (row_alarm_in_range object zone range row) e)
 
 here : (range : Range) → Contains (range ∷ []) range
 here range = (0, omega arith, refl)

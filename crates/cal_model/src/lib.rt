@@ -26,9 +26,7 @@ pub mod zone;
 pub use filter::{
     Collation, CompFilter, Filter, ParamFilter, ParamTest, PropFilter, PropTest, TextMatch,
 };
-pub use object::{
-    Alarm, Class, Component, Extent, Kind, NotResource, Object, Related, Trigger,
-};
+pub use object::{Alarm, Class, Component, Extent, Kind, NotResource, Object, Related, Trigger};
 pub use path::{ObjectPath, Path};
 pub use privilege::{Acl, Grant, PrivilegeSet, Who};
 pub use property::{PropName, PropSet, Props};
