@@ -1,17 +1,18 @@
 -- The runs of a range are right, and no other list is.
 use Rattle.std.proofs.Common.{◌≡◌, ◌≢◌, ℕ, zero, suc, Bool, true, false, cond, ◌&&◌, List, [], ◌∷◌, Option, Some, None, refl, sym, ap, ◌∙◌, ◌⊎◌, inl, inr, ⊎_elim, arith}
-use Rattle.std.specs.Prelude.{ℤ, pos, negsuc, ◌+ℤ◌, ◌-ℤ◌, ◌≤ℤ◌, ◌<ℤ◌, int_lt, nat_abs, All, AllPairs}
+use Rattle.std.specs.Prelude.{ℤ, pos, negsuc, ◌+ℤ◌, ◌-ℤ◌, ◌≤ℤ◌, ◌<ℤ◌, int_lt, nat_abs, filter, All, AllPairs}
 use Rattle.std.proofs.lemmas.Int.{ints, by_lt_z}
 use Rattle.std.proofs.lemmas.Bool.{false≢true, eqb-true, eq-eqb, and_parts, and_from}
 use Rattle.std.specs.Option.{is_some}
 use Rattle.std.proofs.lemmas.List.Elements.{All-head, All-tail, All-cons, All-nil}
 use Rattle.std.proofs.lemmas.List.Kept.{AllPairs-cons}
+use Rattle.cal_model.proofs.ListTests.{Keeps, filter_kept}
 use Rattle.cal_model.specs.declared.object.Class.{Class}
 use Rattle.cal_model.specs.declared.object.Class.TheVariants.{Busy, Unavailable, Tentative}
 use Rattle.cal_model.specs.declared.row.Range.{Range}
 use Rattle.cal_model.specs.BusyTimes.{BusyTime}
 use Rattle.cal_model.specs.Numbers.{same_int}
-use Rattle.cal_model.specs.BusyRuns.{holds, greater, class_at, runs, runs_from, with_second, with_class, one_second, same_class, size, AreRuns}
+use Rattle.cal_model.specs.BusyRuns.{holds, greatest_class, greater, class_at, runs, runs_from, with_second, with_class, one_second, same_class, size, AreRuns}
 
 holds_within : (t : ℤ) (r : BusyTime) → r.start ≤ℤ t → t <ℤ r.end → holds t r ≡ true
 holds_within t r a b = grind (arith, ints)
@@ -315,3 +316,22 @@ AreRuns-same times range xs ys f g =
 -- what is right is the runs
 pub runs-AreRuns : (times : List BusyTime) (range : Range) (found : List BusyTime) → AreRuns times range found → found ≡ runs times range
 runs-AreRuns times range found f = AreRuns-same times range found (runs times range) f (AreRuns-runs times range)
+
+-- Runs depend on the class of each second alone: two lists of times that give each second of a range the same class have the same runs.
+pub runs-same_classes : (xs ys : List BusyTime) (range : Range) → SameClasses range.start.0 range.end.0 xs ys → runs xs range ≡ runs ys range
+runs-same_classes xs ys range s =
+    let f = AreRuns-runs xs range in
+    AreRuns-same ys range (runs xs range) (runs ys range) (record { within = f.within; in_order = f.in_order; longest = f.longest; classes = λ t l m. f.classes t l m ∙ s t l m }) (AreRuns-runs ys range)
+
+-- a time that has some second of a range
+abbrev pub has_second_of : Range → BusyTime → Bool
+has_second_of range time = int_lt range.start.0 time.end && int_lt time.start range.end.0
+
+has_second : (range : Range) (time : BusyTime) (t : ℤ) → range.start.0 ≤ℤ t → t <ℤ range.end.0 → holds t time ≡ true → has_second_of range time ≡ true
+has_second range time t l m e = grind (arith, ints)
+
+-- Times that have no second of the range may be left out.
+pub runs-meeting : (range : Range) (keep : BusyTime → Bool) (times : List BusyTime) → Keeps keep times (has_second_of range) → runs (filter keep times) range ≡ runs times range
+runs-meeting range keep times kept =
+    runs-same_classes (filter keep times) times range
+      (λ t l m. ap greatest_class (filter_kept keep (holds t) times (λ time c e. kept time c (has_second range time t l m e))))

@@ -24,8 +24,6 @@ use Rattle.cal_base.specs.ComponentTrees.{component}
 use Rattle.std.proofs.lemmas.List.Folds.{list_any-append}
 use Rattle.cal_model.proofs.ListTests.{any_from, any_filter, filter-filter, filter_agreed, each, Keeps, filter_kept, any_kept}
 
--- Filters
-
 -- Limited overrides
 
 abbrev pub is_of_override : Object → Row → Bool

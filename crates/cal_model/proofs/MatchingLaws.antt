@@ -33,8 +33,6 @@ use Rattle.cal_model.specs.Rows.{Numbered, numbered_from, rows}
 use Rattle.cal_model.proofs.ListTests.{any_at, any_same, any_agree, any_agree_all, any_filter, any_map, any_constant, all_filter, all_front, all_back, or_left, or_right, cond_same}
 use Rattle.cal_model.proofs.FilterLemmas.{comp_filter_holds_roll, ranges_of_filter_roll}
 
--- Tests of lists
-
 -- Numbers of components
 
 abbrev pub IsNumbered : List Component → Numbered → Type 0
