@@ -334,4 +334,4 @@ has_second range time t l m e = grind (arith, ints)
 pub runs-meeting : (range : Range) (keep : BusyTime → Bool) (times : List BusyTime) → Keeps keep times (has_second_of range) → runs (filter keep times) range ≡ runs times range
 runs-meeting range keep times kept =
     runs-same_classes (filter keep times) times range
-      (λ t l m. ap greatest_class (filter_kept keep (holds t) times (λ time c e. kept time c (has_second range time t l m e))))
+    (λ t l m. ap greatest_class (filter_kept keep (holds t) times (λ time c e. kept time c (has_second range time t l m e))))

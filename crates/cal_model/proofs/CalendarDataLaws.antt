@@ -1,9 +1,8 @@
 -- What is shown of an object depends on no other rows than those that overlap the selection's range, and the overrides' own rows where overrides are limited.
-use Rattle.std.proofs.Common.{◌≡◌, ℕ, Bool, true, false, cond, not, ◌&&◌, ◌||◌, List, [], ◌∷◌, ◌++◌, map, get_or, refl, sym, ap, ◌∙◌}
+use Rattle.std.proofs.Common.{◌≡◌, ℕ, Bool, cond, not, ◌&&◌, ◌||◌, List, [], ◌++◌, map, refl, sym, ap, ◌∙◌}
 use Rattle.std.specs.Prelude.{◌==◌, flat_map, filter, take, option_to_list}
-use Rattle.std.specs.List.{list_any, enumerate_from, Contains, AllByRecursion}
+use Rattle.std.specs.List.{list_any, enumerate_from, Contains}
 use Rattle.std.proofs.lemmas.Bool.{and_parts, and_from}
-use Rattle.std.proofs.lemmas.List.Elements.{Contains-get_or, recursion_from_All}
 use Rattle.cal_moment.specs.declared.stamp.Stamp.{Stamp}
 use Rattle.cal_base.specs.declared.line.Node.{Node}
 use Rattle.cal_model.specs.declared.object.Object.{Object}

@@ -1,6 +1,6 @@
 -- Lists under tests: what `list_any`, `filter` and `AllByRecursion` say of one another.
-use Rattle.std.proofs.Common.{◌≡◌, ℕ, ◌+◌, ◌<◌, Bool, true, false, cond, not, ◌&&◌, ◌||◌, List, [], ◌∷◌, ◌++◌, map, length, get_or, Option, Some, None, refl, sym, ap, ◌∙◌, arith}
-use Rattle.std.specs.Prelude.{All, filter, filter_map, flat_map, option_to_list, slice_get}
+use Rattle.std.proofs.Common.{◌≡◌, ℕ, Bool, true, false, cond, not, ◌&&◌, ◌||◌, List, [], ◌∷◌, ◌++◌, map, length, get_or, Option, Some, None, refl, sym, ap, ◌∙◌, arith}
+use Rattle.std.specs.Prelude.{All, filter, filter_map, option_to_list, slice_get}
 use Rattle.std.specs.List.{list_any, cons_option, Contains, AllByRecursion}
 use Rattle.std.proofs.lemmas.Bool.{false≢true, ne_eqb}
 use Rattle.std.proofs.lemmas.List.Elements.{Contains-get_or, recursion_from_All}

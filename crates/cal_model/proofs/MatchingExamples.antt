@@ -1,5 +1,5 @@
 -- Examples of filters, after RFC 4791, 7.8 and 9.7: an event from 9 to 10 o'clock of 10 March 2025 with an alarm a quarter of an hour before.
-use Rattle.std.specs.Prelude.{◌≡◌, refl, ℕ, ◌+◌, ◌*◌, Bool, true, false, List, [], ◌∷◌, ◌++◌, codes, pos, neg_ℤ, Option, Some, None}
+use Rattle.std.specs.Prelude.{◌≡◌, refl, ℕ, ◌+◌, ◌*◌, Bool, true, false, List, [], ◌∷◌, ◌++◌, codes, pos, neg_ℤ, Option, Some, None, Ok, if◌then◌else◌}
 use denote.Hole.Carrier as H
 use Rattle.cal_base.specs.declared.line.Line.{Line}
 use Rattle.cal_base.specs.declared.line.Param.{Param}
@@ -31,12 +31,16 @@ use Rattle.cal_model.specs.declared.row.Row.{Row}
 use Rattle.cal_model.specs.declared.row.RowKind.TheVariants.{Instant, Undated}
 use Rattle.cal_model.specs.Alignment.{utc_zone}
 use Rattle.cal_model.specs.Matching.{matches}
+use Rattle.cal_model.specs.ObjectReading.{read_object}
+use Rattle.std.specs.Str.{is_utf8, chars}
+use lib.Utf8.{encode}
+use Rattle.cal_model.specs.declared.object.Class.TheVariants.{Busy}
 use Rattle.cal_model.specs.Numbers.{counted_from}
-use Rattle.cal_model.specs.Rows.{row_of}
+use Rattle.cal_model.specs.Rows.{rows_over, row_of}
 use Rattle.cal_model.specs.StampTexts.{stamps_in_grammar, trigger_of}
 use Rattle.cal_model.specs.TextTests.{text_passes, param_filter_holds}
 use Rattle.cal_model.specs.ValueTexts.{date_of, time_of, date_time_of, count_of, integer_of, length_of}
-use Rattle.cal_model.specs.Zones.{instant_of, offset_at}
+use Rattle.cal_model.specs.Zones.{exists_in, instant_of, offset_at}
 use Rattle.cal_model.proofs.FilterLemmas.{comp_filter_holds_roll}
 use Rattle.cal_model.proofs.RowExamples.{event, days_and_time}
 use Rattle.cal_model.proofs.Samples.{nine, ten}
@@ -99,30 +103,48 @@ node name lines children = component name (record { lines = lines; children = ch
 abbrev pub summary : Line
 summary = record { name = codes "SUMMARY"; params = language (codes "en") ∷ []; value = codes "Stand-up"; raw = codes "SUMMARY;LANGUAGE=en:Stand-up" }
 
+-- of an alarm that goes off once, or twice more
+abbrev pub alarm_lines : Bool → List Line
+alarm_lines again = line (codes "TRIGGER") (codes "-PT15M") ∷ (if again then line (codes "REPEAT") (codes "2") ∷ line (codes "DURATION") (codes "PT5M") ∷ [] else [])
+
 -- a VALARM without a TRIGGER stands first, and has no number
-abbrev pub alarms : List Node
-alarms = node (codes "VALARM") (line (codes "ACTION") (codes "NONE") ∷ []) [] ∷ node (codes "VALARM") (line (codes "TRIGGER") (codes "-PT15M") ∷ []) [] ∷ []
+abbrev pub alarms : Bool → List Node
+alarms again = node (codes "VALARM") (line (codes "ACTION") (codes "NONE") ∷ []) [] ∷ node (codes "VALARM") (alarm_lines again) [] ∷ []
 
 abbrev pub event_lines : List Line
-event_lines = line (codes "DTSTART") (codes "20250310T090000Z") ∷ line (codes "DURATION") (codes "PT1H") ∷ summary ∷ []
+event_lines = line (codes "UID") (codes "one") ∷ line (codes "DTSTART") (codes "20250310T090000Z") ∷ line (codes "DURATION") (codes "PT1H") ∷ summary ∷ []
 
-abbrev pub alarm : ℕ → Alarm
-alarm repeat = record { trigger = trigger.From related.Start (days_and_time (pos 0) (neg_ℤ (pos 900))); repeat = repeat; gap = days_and_time (pos 0) (pos 300) }
-
-abbrev pub meeting : ℕ → Component
-meeting repeat = record (event (Some (Utc (record { 0 = pos nine }))) (extent.Lasting (days_and_time (pos 0) (pos 3600)))) { alarms = alarm repeat ∷ [] }
-
-abbrev pub object : ℕ → Object
-object repeat = record {
-  kind = Event;
-  uid = codes "one";
-  tree = node (codes "VCALENDAR") [] (node (codes "VEVENT") event_lines alarms ∷ []);
-  zones = [];
-  components = meeting repeat ∷ [];
+abbrev pub alarm : Bool → Alarm
+alarm again = record {
+  trigger = trigger.From related.Start (days_and_time (pos 0) (neg_ℤ (pos 900)));
+  repeat = if again then 2 else 0;
+  gap = days_and_time (pos 0) (if again then pos 300 else pos 0);
 }
 
+abbrev pub meeting : Bool → Component
+meeting again = record (event (Some (Utc (record { 0 = pos nine }))) (extent.Lasting (days_and_time (pos 0) (pos 3600)))) { busy = Some Busy; alarms = alarm again ∷ [] }
+
+abbrev pub object : Bool → Object
+object again = record {
+  kind = Event;
+  uid = codes "one";
+  tree = node (codes "VCALENDAR") [] (node (codes "VEVENT") event_lines (alarms again) ∷ []);
+  zones = [];
+  components = meeting again ∷ [];
+}
+
+-- it is what is read of these octets
+as_read : read_object (codes "BEGIN:VCALENDAR\r\nBEGIN:VEVENT\r\nUID:one\r\nDTSTART:20250310T090000Z\r\nDURATION:PT1H\r\nSUMMARY;LANGUAGE=en:Stand-up\r\nBEGIN:VALARM\r\nACTION:NONE\r\nEND:VALARM\r\nBEGIN:VALARM\r\nTRIGGER:-PT15M\r\nREPEAT:2\r\nDURATION:PT5M\r\nEND:VALARM\r\nEND:VEVENT\r\nEND:VCALENDAR\r\n") ≡ Ok (object true)
+unfolding is_utf8 chars encode date_of time_of date_time_of length_of count_of integer_of stamps_in_grammar trigger_of N.out-Node N.roll-Node B.shown-the_row-Node-0 B.hidden-the_row-Node-0 B.shape-the_row-Node-0 H.out H.roll H.shown H.hidden
+as_read = refl
+
+-- and it has this one row
 abbrev pub meeting_row : Row
 meeting_row = row_of (pos nine) (pos nine) (pos ten) 0 Instant Instant
+
+its_rows : rows_over [] (object true) ≡ meeting_row ∷ []
+unfolding exists_in instant_of offset_at
+its_rows = refl
 
 -- minutes after 8 o'clock
 abbrev pub minutes : ℕ → ℕ → Range
@@ -138,53 +160,53 @@ abbrev pub prop : List ℕ → PropTest → List ParamFilter → PropFilter
 prop name test params = record { name = name; test = test; params = params }
 
 -- whether the event matches what is asked within VCALENDAR
-abbrev pub finds : ℕ → CompFilter → Bool
-finds repeat inner = matches (record { top = comp (codes "VCALENDAR") None [] (inner ∷ []) }) (object repeat) (meeting_row ∷ []) utc_zone
+abbrev pub finds : Bool → CompFilter → Bool
+finds again inner = matches (record { top = comp (codes "VCALENDAR") None [] (inner ∷ []) }) (object again) (meeting_row ∷ []) utc_zone
 
 abbrev pub event_asks : Option Range → List PropFilter → List CompFilter → CompFilter
 event_asks = comp (codes "VEVENT")
 
 -- another name at the top, and a component that is and is not there
-other_top : matches (record { top = comp (codes "VTODO") None [] [] }) (object 0) (meeting_row ∷ []) utc_zone ≡ false
+other_top : matches (record { top = comp (codes "VTODO") None [] [] }) (object false) (meeting_row ∷ []) utc_zone ≡ false
 unfolding N.out-Node N.roll-Node B.shown-the_row-Node-0 B.hidden-the_row-Node-0 B.shape-the_row-Node-0 H.out H.roll H.shown H.hidden
 other_top = simp (comp_filter_holds_roll) refl
 
-component_there : (finds 0 (event_asks None [] []) ≡ true) × (finds 0 (comp (codes "VTODO") None [] []) ≡ false)
-    × (finds 0 (no_comp (codes "VTODO")) ≡ true) × (finds 0 (no_comp (codes "VEVENT")) ≡ false)
+component_there : (finds false (event_asks None [] []) ≡ true) × (finds false (comp (codes "VTODO") None [] []) ≡ false)
+    × (finds false (no_comp (codes "VTODO")) ≡ true) × (finds false (no_comp (codes "VEVENT")) ≡ false)
 unfolding N.out-Node N.roll-Node B.shown-the_row-Node-0 B.hidden-the_row-Node-0 B.shape-the_row-Node-0 H.out H.roll H.shown H.hidden
 component_there = simp (comp_filter_holds_roll) (refl, refl, refl, refl)
 
 -- a range of the event; its alarm goes off at 8:45, before the event begins
-event_range : (finds 0 (event_asks (Some (minutes 60 120)) [] []) ≡ true) × (finds 0 (event_asks (Some (minutes 0 60)) [] []) ≡ false)
+event_range : (finds false (event_asks (Some (minutes 60 120)) [] []) ≡ true) × (finds false (event_asks (Some (minutes 0 60)) [] []) ≡ false)
 unfolding N.out-Node N.roll-Node B.shown-the_row-Node-0 B.hidden-the_row-Node-0 B.shape-the_row-Node-0 H.out H.roll H.shown H.hidden
 event_range = simp (comp_filter_holds_roll) (refl, refl)
 
 abbrev pub alarm_in : Range → CompFilter
 alarm_in range = comp (codes "VALARM") (Some range) [] []
 
-alarm_range : (finds 0 (event_asks None [] (alarm_in (minutes 45 46) ∷ [])) ≡ true) × (finds 0 (event_asks None [] (alarm_in (minutes 46 90) ∷ [])) ≡ false)
+alarm_range : (finds false (event_asks None [] (alarm_in (minutes 45 46) ∷ [])) ≡ true) × (finds false (event_asks None [] (alarm_in (minutes 46 90) ∷ [])) ≡ false)
 unfolding N.out-Node N.roll-Node B.shown-the_row-Node-0 B.hidden-the_row-Node-0 B.shape-the_row-Node-0 H.out H.roll H.shown H.hidden counted_from
 alarm_range = simp (comp_filter_holds_roll) (refl, refl)
 
 -- twice more, five minutes apart
-alarm_repeats : (finds 2 (event_asks None [] (alarm_in (minutes 50 51) ∷ [])) ≡ true) × (finds 2 (event_asks None [] (alarm_in (minutes 51 55) ∷ [])) ≡ false)
+alarm_repeats : (finds true (event_asks None [] (alarm_in (minutes 50 51) ∷ [])) ≡ true) × (finds true (event_asks None [] (alarm_in (minutes 51 55) ∷ [])) ≡ false)
 unfolding N.out-Node N.roll-Node B.shown-the_row-Node-0 B.hidden-the_row-Node-0 B.shape-the_row-Node-0 H.out H.roll H.shown H.hidden counted_from
 alarm_repeats = simp (comp_filter_holds_roll) (refl, refl)
 
 -- the two ranges are tested by themselves: the event overlaps the outer one, its alarm lies in the inner one
-each_by_itself : (finds 0 (event_asks (Some (minutes 60 120)) [] (alarm_in (minutes 45 46) ∷ [])) ≡ true)
-    × (finds 0 (event_asks (Some (minutes 40 50)) [] (alarm_in (minutes 45 46) ∷ [])) ≡ false)
+each_by_itself : (finds false (event_asks (Some (minutes 60 120)) [] (alarm_in (minutes 45 46) ∷ [])) ≡ true)
+    × (finds false (event_asks (Some (minutes 40 50)) [] (alarm_in (minutes 45 46) ∷ [])) ≡ false)
 unfolding N.out-Node N.roll-Node B.shown-the_row-Node-0 B.hidden-the_row-Node-0 B.shape-the_row-Node-0 H.out H.roll H.shown H.hidden counted_from
 each_by_itself = simp (comp_filter_holds_roll) (refl, refl)
 
 -- without a row the alarm has no moment
-without_rows : matches (record { top = comp (codes "VCALENDAR") None [] (event_asks None [] (alarm_in (minutes 45 46) ∷ []) ∷ []) }) (object 0) [] utc_zone ≡ false
+without_rows : matches (record { top = comp (codes "VCALENDAR") None [] (event_asks None [] (alarm_in (minutes 45 46) ∷ []) ∷ []) }) (object false) [] utc_zone ≡ false
 unfolding N.out-Node N.roll-Node B.shown-the_row-Node-0 B.hidden-the_row-Node-0 B.shape-the_row-Node-0 H.out H.roll H.shown H.hidden counted_from
 without_rows = simp (comp_filter_holds_roll) refl
 
 -- a VALARM outside the four kinds has its absolute trigger alone
 abbrev pub lone : List ℕ → List ℕ → Object
-lone name value = record (object 0) {
+lone name value = record (object false) {
   tree = node (codes "VCALENDAR") [] (node (codes "VEVENT") event_lines [] ∷ node (codes "VALARM") (record { name = codes "TRIGGER"; params = record { name = codes "VALUE"; values = name ∷ [] } ∷ []; value = value; raw = [] } ∷ []) [] ∷ []);
 }
 
@@ -195,21 +217,21 @@ lone_alarm = simp (comp_filter_holds_roll) (refl, refl)
 
 -- a VEVENT that is no child of the outermost component has no row
 nested_event : matches (record { top = comp (codes "VCALENDAR") None [] (comp (codes "X-BOX") None [] (event_asks (Some (minutes 60 120)) [] [] ∷ []) ∷ []) })
-    (record (object 0) { tree = node (codes "VCALENDAR") [] (node (codes "X-BOX") [] (node (codes "VEVENT") event_lines [] ∷ []) ∷ []) }) (meeting_row ∷ []) utc_zone ≡ false
+    (record (object false) { tree = node (codes "VCALENDAR") [] (node (codes "X-BOX") [] (node (codes "VEVENT") event_lines [] ∷ []) ∷ []) }) (meeting_row ∷ []) utc_zone ≡ false
 unfolding N.out-Node N.roll-Node B.shown-the_row-Node-0 B.hidden-the_row-Node-0 B.shape-the_row-Node-0 H.out H.roll H.shown H.hidden
 nested_event = simp (comp_filter_holds_roll) refl
 
 -- Properties
 
-prop_there : (finds 0 (event_asks None (prop (codes "SUMMARY") Defined [] ∷ []) []) ≡ true) × (finds 0 (event_asks None (prop (codes "SUMMARY") Absent [] ∷ []) []) ≡ false)
-    × (finds 0 (event_asks None (prop (codes "LOCATION") Defined [] ∷ []) []) ≡ false) × (finds 0 (event_asks None (prop (codes "LOCATION") Absent [] ∷ []) []) ≡ true)
+prop_there : (finds false (event_asks None (prop (codes "SUMMARY") Defined [] ∷ []) []) ≡ true) × (finds false (event_asks None (prop (codes "SUMMARY") Absent [] ∷ []) []) ≡ false)
+    × (finds false (event_asks None (prop (codes "LOCATION") Defined [] ∷ []) []) ≡ false) × (finds false (event_asks None (prop (codes "LOCATION") Absent [] ∷ []) []) ≡ true)
 unfolding N.out-Node N.roll-Node B.shown-the_row-Node-0 B.hidden-the_row-Node-0 B.shape-the_row-Node-0 H.out H.roll H.shown H.hidden
 prop_there = simp (comp_filter_holds_roll) (refl, refl, refl, refl)
 
 -- one line has to pass the text-match and all param-filters; a negated text-match is not passed by a property that is not there
-prop_text : (finds 0 (event_asks None (prop (codes "SUMMARY") (Text (match (codes "stand") AsciiCasemap false)) (asks param.Defined ∷ []) ∷ []) []) ≡ true)
-    × (finds 0 (event_asks None (prop (codes "SUMMARY") (Text (match (codes "stand") AsciiCasemap false)) (asks param.Absent ∷ []) ∷ []) []) ≡ false)
-    × (finds 0 (event_asks None (prop (codes "LOCATION") (Text (match (codes "stand") AsciiCasemap true)) [] ∷ []) []) ≡ false)
+prop_text : (finds false (event_asks None (prop (codes "SUMMARY") (Text (match (codes "stand") AsciiCasemap false)) (asks param.Defined ∷ []) ∷ []) []) ≡ true)
+    × (finds false (event_asks None (prop (codes "SUMMARY") (Text (match (codes "stand") AsciiCasemap false)) (asks param.Absent ∷ []) ∷ []) []) ≡ false)
+    × (finds false (event_asks None (prop (codes "LOCATION") (Text (match (codes "stand") AsciiCasemap true)) [] ∷ []) []) ≡ false)
 unfolding N.out-Node N.roll-Node B.shown-the_row-Node-0 B.hidden-the_row-Node-0 B.shape-the_row-Node-0 H.out H.roll H.shown H.hidden
 prop_text = simp (comp_filter_holds_roll) (refl, refl, refl)
 
@@ -217,15 +239,15 @@ prop_text = simp (comp_filter_holds_roll) (refl, refl, refl)
 abbrev pub end_in : Range → CompFilter
 end_in range = event_asks None (prop (codes "DTEND") (Time range) [] ∷ []) []
 
-effective_end : (finds 0 (end_in (minutes 120 121)) ≡ true) × (finds 0 (end_in (minutes 60 120)) ≡ false)
-    × (finds 0 (event_asks None (prop (codes "DUE") (Time (minutes 120 121)) [] ∷ []) []) ≡ false)
-    × (finds 0 (event_asks None (prop (codes "DTEND") Defined [] ∷ []) []) ≡ false)
+effective_end : (finds false (end_in (minutes 120 121)) ≡ true) × (finds false (end_in (minutes 60 120)) ≡ false)
+    × (finds false (event_asks None (prop (codes "DUE") (Time (minutes 120 121)) [] ∷ []) []) ≡ false)
+    × (finds false (event_asks None (prop (codes "DTEND") Defined [] ∷ []) []) ≡ false)
 unfolding N.out-Node N.roll-Node B.shown-the_row-Node-0 B.hidden-the_row-Node-0 B.shape-the_row-Node-0 H.out H.roll H.shown H.hidden stamps_in_grammar date_time_of date_of time_of length_of count_of
 effective_end = simp (comp_filter_holds_roll) (refl, refl, refl, refl)
 
 -- the written start
-start_in_range : (finds 0 (event_asks None (prop (codes "DTSTART") (Time (minutes 60 61)) [] ∷ []) []) ≡ true) × (finds 0 (event_asks None (prop (codes "DTSTART") (Time (minutes 61 120)) [] ∷ []) []) ≡ false)
-    × (finds 0 (event_asks None (prop (codes "DTSTART") (Time (minutes 60 61)) (asks param.Defined ∷ []) ∷ []) []) ≡ false)
+start_in_range : (finds false (event_asks None (prop (codes "DTSTART") (Time (minutes 60 61)) [] ∷ []) []) ≡ true) × (finds false (event_asks None (prop (codes "DTSTART") (Time (minutes 61 120)) [] ∷ []) []) ≡ false)
+    × (finds false (event_asks None (prop (codes "DTSTART") (Time (minutes 60 61)) (asks param.Defined ∷ []) ∷ []) []) ≡ false)
 unfolding N.out-Node N.roll-Node B.shown-the_row-Node-0 B.hidden-the_row-Node-0 B.shape-the_row-Node-0 H.out H.roll H.shown H.hidden stamps_in_grammar date_time_of date_of time_of length_of count_of
 start_in_range = simp (comp_filter_holds_roll) (refl, refl, refl)
 
@@ -234,7 +256,7 @@ abbrev pub zoned_line : Line
 zoned_line = record { name = codes "DTSTART"; params = record { name = codes "TZID"; values = codes "NY" ∷ [] } ∷ []; value = codes "20250310T090000"; raw = [] }
 
 abbrev pub within : List ℕ → Object
-within name = record (object 0) { tree = node (codes "VCALENDAR") [] (node name [] (node (codes "DAYLIGHT") (zoned_line ∷ []) [] ∷ []) ∷ []) }
+within name = record (object false) { tree = node (codes "VCALENDAR") [] (node name [] (node (codes "DAYLIGHT") (zoned_line ∷ []) [] ∷ []) ∷ []) }
 
 abbrev pub starts_within : List ℕ → Bool
 starts_within name = matches (record { top = comp (codes "VCALENDAR") None [] (comp name None [] (comp (codes "DAYLIGHT") None (prop (codes "DTSTART") (Time (minutes 60 61)) [] ∷ []) [] ∷ []) ∷ []) })

@@ -2,11 +2,9 @@
 use Rattle.std.proofs.Common.{◌≡◌, ℕ, ◌+◌, Bool, true, false, cond, not, ◌&&◌, ◌||◌, List, [], ◌∷◌, ◌++◌, map, length, Option, Some, None, refl, sym, ap, ◌∙◌, subst, append_assoc, get_or, arith}
 use Rattle.std.specs.Prelude.{◌==◌, flat_map, filter, option_to_list, slice_get}
 use Rattle.std.specs.List.{list_any, list_all, Contains, AllByRecursion}
-use Rattle.std.proofs.lemmas.Bool.{false≢true, eqb-true, and_parts, and_from}
+use Rattle.std.proofs.lemmas.Bool.{eqb-true, and_parts, and_from}
 use Rattle.std.proofs.lemmas.List.Elements.{Contains-get_or, recursion_from_All}
-use Rattle.std.proofs.lemmas.Option.{slice_get_within, get_or_from_slice_get}
 use Rattle.std.proofs.lemmas.Grind.{common_steps}
-use Rattle.std.proofs.lemmas.List.Folds.{list_any_at, Any-from_list_any}
 use Rattle.cal_model.specs.declared.filter.CompFilter.{CompFilter}
 use Rattle.cal_model.specs.declared.filter.CompFilter.TheOpen.{CompFilter-F}
 use Rattle.cal_model.specs.declared.filter.CompFilter.TheViews.{roll-CompFilter}

@@ -1,10 +1,10 @@
 -- Each dated row of an override lies in a window that holds the start of an override.
-use Rattle.std.proofs.Common.{◌≡◌, ℕ, Bool, true, false, not, ◌||◌, List, [], ◌∷◌, ◌++◌, get_or, Option, Some, None, refl, sym, ap, ◌∙◌, ℤ}
-use Rattle.std.specs.Prelude.{◌==◌, All, filter, filter_map, flat_map, map, option_to_list, option_and_then, option_map, slice_get, is_some, is_none}
+use Rattle.std.proofs.Common.{◌≡◌, true, false, not, ◌||◌, List, [], Option, Some, None, sym, ap, ◌∙◌, ℤ}
+use Rattle.std.specs.Prelude.{◌==◌, All, filter, flat_map, option_to_list, option_and_then, option_map, slice_get, is_some, is_none}
 use Rattle.std.specs.Int.{int_div_euclid}
-use Rattle.std.specs.List.{list_any, cons_option, Contains}
+use Rattle.std.specs.List.{list_any, Contains}
 use Rattle.std.proofs.lemmas.Bool.{false≢true, eqb-true, not-true}
-use Rattle.std.proofs.lemmas.List.Elements.{All-append, All-map, All-filter, All-contains, All-from_recursion, filter_passes, Contains-get_or}
+use Rattle.std.proofs.lemmas.List.Elements.{All-append, All-map, All-filter, All-contains, All-from_recursion, filter_passes}
 use Rattle.std.proofs.lemmas.List.Folds.{Any-from_list_any}
 use Rattle.cal_moment.specs.declared.stamp.Stamp.{Stamp}
 use Rattle.cal_model.specs.declared.object.Component.{Component}
