@@ -45,3 +45,4 @@ mod ReportPairExamples
 mod ObjectExamples
 pub mod ReportLaws
 pub mod OverrideWindows
+pub mod BusyWindows
