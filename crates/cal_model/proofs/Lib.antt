@@ -73,3 +73,18 @@ pub mod ComponentStamps
 pub mod ServedDates
 pub mod ShortLengths
 pub mod ZoneParts
+mod ValueExamples
+pub mod ListTests
+pub mod FilterLemmas
+mod MatchingExamples
+mod CalendarDataExamples
+mod BusyRunExamples
+pub mod BusyRunLaws
+pub mod PickLaws
+pub mod MatchingLaws
+pub mod CalendarDataLaws
+mod ReportPairExamples
+mod ObjectExamples
+pub mod ReportLaws
+pub mod OverrideWindows
+pub mod BusyWindows
