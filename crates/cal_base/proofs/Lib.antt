@@ -3,3 +3,4 @@ mod MemoryExamples
 pub mod NameMapLemmas
 pub mod Taking
 mod TreeExamples
+mod XmlFaultExamples

@@ -10,4 +10,9 @@ pub mod Outside
 pub mod Reserved
 pub mod Text
 pub mod WrittenLines
+pub mod XmlBodies
+pub mod XmlFaults
+pub mod XmlMarkup
+pub mod XmlNames
+pub mod XmlScopes
 pub mod formers
