@@ -1,4 +1,5 @@
 pub mod Adapter
+pub mod CanonicalXml
 pub mod ComponentTrees
 pub mod ContentLines
 pub mod LineGrammar
