@@ -1,5 +1,5 @@
 -- The canonical text of an element, one level at a time.
-use Rattle.std.specs.Prelude.{◌≡◌, ℕ, List, map}
+use Rattle.std.specs.Prelude.{◌≡◌, ℕ, List, [], map}
 use Rattle.std.proofs.Common.{ap, sym, ◌∙◌}
 use denote.Hole.Carrier as H
 use Rattle.cal_base.specs.declared.element.Element.{Element}
