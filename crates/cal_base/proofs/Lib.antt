@@ -7,3 +7,4 @@ pub mod Taking
 mod TreeExamples
 mod XmlExamples
 mod XmlFaultExamples
+pub mod XmlMarkupLemmas

@@ -1,0 +1,84 @@
+-- The cut of a text into markups: nothing is lost, and each markup is cut off whatever stands behind it.
+use Rattle.std.specs.Prelude.{◌≡◌, ℕ, zero, suc, ◌+◌, ◌-◌, ◌≤◌, ◌<◌, Bool, true, false, if◌then◌else◌, List, [], ◌∷◌, ◌++◌, length, take, drop, codes, Option, Some, None, nat_eq}
+use Rattle.std.specs.List.{concat}
+use Rattle.std.proofs.Common.{arith, refl, sym, ap, subst, ◌∙◌}
+use Rattle.std.proofs.lemmas.List.{append_assoc, append-nil, length-append, length-drop, take-append-drop, take_at, drop_at, take-append-le, drop-append-le}
+use Rattle.cal_base.specs.XmlMarkup.{begins, ends, size_through, tag_size, quote_after, is_quote, character_size, markup_size, cut, markups}
+
+-- Sizes
+
+at_least_one : (test : Bool) (x y : ℕ) → 1 ≤ x → 1 ≤ y → 1 ≤ (if test then x else y)
+at_least_one true x y h k = h
+at_least_one false x y h k = k
+
+size_through-positive : (end : List ℕ) (octet : ℕ) (text : List ℕ) → 1 ≤ length end → 1 ≤ size_through end (octet ∷ text)
+size_through-positive end octet text h = elim (begins (octet ∷ text) end) as (λ test. 1 ≤ elim test [ true ↦ length end | false ↦ suc (size_through end text) ]) [
+  | true ↦ h
+  | false ↦ omega arith
+]
+
+-- a markup has at least one octet
+pub markup_size-positive : (octet : ℕ) (text : List ℕ) → 1 ≤ markup_size (octet ∷ text)
+markup_size-positive octet text =
+    let whole = octet ∷ text in
+    let comment : 1 ≤ 4 + size_through (codes "-->") (drop 4 whole) = omega arith in
+    let section : 1 ≤ 9 + size_through (codes "]]>") (drop 9 whole) = omega arith in
+    let instruction : 1 ≤ 2 + size_through (codes "?>") (drop 2 whole) = omega arith in
+    let tag : 1 ≤ 1 + tag_size None (drop 1 whole) = omega arith in
+    let semicolon : 1 ≤ length (codes ";") = omega arith in
+    let reference : 1 ≤ size_through (codes ";") whole = size_through-positive (codes ";") octet text semicolon in
+    let three : 1 ≤ 3 = omega arith in
+    let two : 1 ≤ 2 = omega arith in
+    let one : 1 ≤ character_size whole = omega arith in
+    at_least_one _ _ _ comment (at_least_one _ _ _ section (at_least_one _ _ _ instruction (at_least_one _ _ _ tag
+      (at_least_one _ _ _ reference (at_least_one _ _ _ three (at_least_one _ _ _ two one))))))
+
+-- The cut
+
+-- the count is no part of it, once it is enough
+cut-enough : (count other : ℕ) (text : List ℕ) → length text ≤ count → length text ≤ other → cut count text ≡ cut other text
+cut-enough zero zero text h k = refl
+cut-enough zero (suc other) [] h k = refl
+cut-enough zero (suc other) (octet ∷ text) h k = absurd (omega arith)
+cut-enough (suc count) zero [] h k = refl
+cut-enough (suc count) zero (octet ∷ text) h k = absurd (omega arith)
+cut-enough (suc count) (suc other) [] h k = refl
+cut-enough (suc count) (suc other) (octet ∷ text) h k =
+    let size = markup_size (octet ∷ text) in
+    let rest = drop size (octet ∷ text) in
+    let fewer : length rest ≡ suc (length text) - size = length-drop size (octet ∷ text) in
+    let one : 1 ≤ size = markup_size-positive octet text in
+    ap (λ more. take size (octet ∷ text) ∷ more) (cut-enough count other rest (omega arith) (omega arith))
+
+-- the first markup, and those behind it
+pub markups-cons : (octet : ℕ) (text : List ℕ) →
+    let size = markup_size (octet ∷ text) in markups (octet ∷ text) ≡ take size (octet ∷ text) ∷ markups (drop size (octet ∷ text))
+markups-cons octet text =
+    let size = markup_size (octet ∷ text) in
+    let rest = drop size (octet ∷ text) in
+    let fewer : length rest ≡ suc (length text) - size = length-drop size (octet ∷ text) in
+    let one : 1 ≤ size = markup_size-positive octet text in
+    ap (λ more. take size (octet ∷ text) ∷ more) (cut-enough (length text) (length rest) rest (omega arith) (omega arith))
+
+-- nothing is lost
+concat-cut : (count : ℕ) (text : List ℕ) → length text ≤ count → concat (cut count text) ≡ text
+concat-cut zero [] h = refl
+concat-cut zero (octet ∷ text) h = absurd (omega arith)
+concat-cut (suc count) [] h = refl
+concat-cut (suc count) (octet ∷ text) h =
+    let size = markup_size (octet ∷ text) in
+    let rest = drop size (octet ∷ text) in
+    let fewer : length rest ≡ suc (length text) - size = length-drop size (octet ∷ text) in
+    let one : 1 ≤ size = markup_size-positive octet text in
+    ap (λ more. take size (octet ∷ text) ++ more) (concat-cut count rest (omega arith)) ∙ take-append-drop size (octet ∷ text)
+
+pub concat-markups : (text : List ℕ) → concat (markups text) ≡ text
+concat-markups text = concat-cut (length text) text (omega arith)
+
+-- a markup of its size is cut off
+pub markups-append : (octet : ℕ) (text rest : List ℕ) → markup_size ((octet ∷ text) ++ rest) ≡ length (octet ∷ text) → markups ((octet ∷ text) ++ rest) ≡ (octet ∷ text) ∷ markups rest
+markups-append octet text rest e =
+    markups-cons octet (text ++ rest)
+    ∙ ap (λ size. take size ((octet ∷ text) ++ rest) ∷ markups (drop size ((octet ∷ text) ++ rest))) e
+    ∙ ap (λ first. first ∷ markups (drop (length (octet ∷ text)) ((octet ∷ text) ++ rest))) (take_at (octet ∷ text) rest (length (octet ∷ text)) refl)
+    ∙ ap (λ behind. (octet ∷ text) ∷ markups behind) (drop_at (octet ∷ text) rest (length (octet ∷ text)) refl)
