@@ -1,7 +1,10 @@
 -- The cut of a text into markups: nothing is lost, and each markup is cut off whatever stands behind it.
-use Rattle.std.specs.Prelude.{◌≡◌, ℕ, zero, suc, ◌+◌, ◌-◌, ◌≤◌, ◌<◌, Bool, true, false, if◌then◌else◌, List, [], ◌∷◌, ◌++◌, length, take, drop, codes, Option, Some, None, nat_eq}
+use Rattle.std.specs.Prelude.{◌≡◌, ℕ, zero, suc, ◌+◌, ◌-◌, ◌≤◌, ◌<◌, Bool, true, false, if◌then◌else◌, List, [], ◌∷◌, ◌++◌, length, take, drop, codes, Option, Some, None, nat_eq, ◌⊎◌}
 use Rattle.std.specs.List.{concat}
-use Rattle.std.proofs.Common.{arith, refl, sym, ap, subst, ◌∙◌}
+use Rattle.std.specs.Cmp.Lexicographic.{pointwise}
+use Rattle.std.proofs.lemmas.Slice.Eq.{starts_is}
+use Rattle.std.proofs.lemmas.Bool.Decides.{Decides-eqb}
+use Rattle.std.proofs.Common.{inl, inr, arith, refl, sym, ap, subst, ◌∙◌}
 use Rattle.std.proofs.lemmas.List.{append_assoc, append-nil, length-append, length-drop, take-append-drop, take_at, drop_at, take-append-le, drop-append-le}
 use Rattle.cal_base.specs.XmlMarkup.{begins, ends, size_through, tag_size, quote_after, is_quote, character_size, markup_size, cut, markups}
 
@@ -82,3 +85,39 @@ markups-append octet text rest e =
     ∙ ap (λ size. take size ((octet ∷ text) ++ rest) ∷ markups (drop size ((octet ∷ text) ++ rest))) e
     ∙ ap (λ first. first ∷ markups (drop (length (octet ∷ text)) ((octet ∷ text) ++ rest))) (take_at (octet ∷ text) rest (length (octet ∷ text)) refl)
     ∙ ap (λ behind. (octet ∷ text) ∷ markups behind) (drop_at (octet ∷ text) rest (length (octet ∷ text)) refl)
+
+-- What stands behind an end
+
+begins-append : (text front rest : List ℕ) → length front ≤ length text → begins (text ++ rest) front ≡ begins text front
+begins-append text front rest h = ap (λ (first : List ℕ). pointwise nat_eq front first) (take-append-le (length front) text rest h)
+
+begins-self : (front rest : List ℕ) → begins (front ++ rest) front ≡ true
+begins-self front rest = (starts_is Decides-eqb (front ++ rest) front (begins (front ++ rest) front) refl).1 rest refl
+
+-- where an end begins, and where it does not
+size_through-here : (end : List ℕ) (octet : ℕ) (text : List ℕ) → begins (octet ∷ text) end ≡ true → size_through end (octet ∷ text) ≡ length end
+size_through-here end octet text e = ap (λ test. elim test [ true ↦ length end | false ↦ suc (size_through end text) ]) e
+
+size_through-later : (end : List ℕ) (octet : ℕ) (text : List ℕ) → begins (octet ∷ text) end ≡ false → size_through end (octet ∷ text) ≡ suc (size_through end text)
+size_through-later end octet text e = ap (λ test. elim test [ true ↦ length end | false ↦ suc (size_through end text) ]) e
+
+bool_cases : (test : Bool) → (test ≡ true) ⊎ (test ≡ false)
+bool_cases true = inl refl
+bool_cases false = inr refl
+
+-- a text that has its first end at its end has it there whatever stands behind it
+size_through-append : (end front rest : List ℕ) → 1 ≤ length end → size_through end (front ++ end) ≡ length (front ++ end) → size_through end ((front ++ end) ++ rest) ≡ length (front ++ end)
+size_through-append [] front rest h e = absurd (omega arith)
+size_through-append (first ∷ more) [] rest h e = size_through-here (first ∷ more) first (more ++ rest) (begins-self (first ∷ more) rest)
+size_through-append (first ∷ more) (octet ∷ front) rest h e =
+    let end = first ∷ more in
+    let text = octet ∷ (front ++ end) in
+    let longer : length end ≤ length text = omega (arith, length-append front end) in
+    let same : begins (text ++ rest) end ≡ begins text end = begins-append text end rest longer in
+    elim (bool_cases (begins text end)) [
+    | inl here ↦ absurd (omega (arith, length-append front end, sym (size_through-here end octet (front ++ end) here) ∙ e))
+    | inr later ↦
+        let shorter : suc (size_through end (front ++ end)) ≡ suc (length (front ++ end)) = sym (size_through-later end octet (front ++ end) later) ∙ e in
+        size_through-later end octet ((front ++ end) ++ rest) (same ∙ later)
+        ∙ ap (λ (size : ℕ). suc size) (size_through-append end front rest h (omega arith))
+    ]
