@@ -5,6 +5,7 @@ mod MemoryExamples
 pub mod NameMapLemmas
 pub mod Taking
 mod TreeExamples
+pub mod XmlBodyLaws
 mod XmlExamples
 mod XmlFaultExamples
 pub mod XmlMarkupLemmas
