@@ -9,3 +9,4 @@ pub mod XmlBodyLaws
 mod XmlExamples
 mod XmlFaultExamples
 pub mod XmlMarkupLemmas
+pub mod XmlNameLemmas
