@@ -10,3 +10,4 @@ mod XmlExamples
 mod XmlFaultExamples
 pub mod XmlMarkupLemmas
 pub mod XmlNameLemmas
+pub mod XmlTagLemmas

@@ -106,7 +106,7 @@ bool_cases true = inl refl
 bool_cases false = inr refl
 
 -- a text that has its first end at its end has it there whatever stands behind it
-size_through-append : (end front rest : List ℕ) → 1 ≤ length end → size_through end (front ++ end) ≡ length (front ++ end) → size_through end ((front ++ end) ++ rest) ≡ length (front ++ end)
+pub size_through-append : (end front rest : List ℕ) → 1 ≤ length end → size_through end (front ++ end) ≡ length (front ++ end) → size_through end ((front ++ end) ++ rest) ≡ length (front ++ end)
 size_through-append [] front rest h e = absurd (omega arith)
 size_through-append (first ∷ more) [] rest h e = size_through-here (first ∷ more) first (more ++ rest) (begins-self (first ∷ more) rest)
 size_through-append (first ∷ more) (octet ∷ front) rest h e =
