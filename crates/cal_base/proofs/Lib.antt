@@ -10,4 +10,5 @@ mod XmlExamples
 mod XmlFaultExamples
 pub mod XmlMarkupLemmas
 pub mod XmlNameLemmas
+pub mod XmlSizeLemmas
 pub mod XmlTagLemmas

@@ -4,6 +4,7 @@ use Rattle.std.specs.List.{list_any, list_all, take_while, prefix_len}
 use Rattle.std.specs.Cmp.Lexicographic.{pointwise, same_text}
 use Rattle.std.proofs.Common.{inl, inr, arith, refl, sym, ap, subst, ◌∙◌}
 use Rattle.std.proofs.lemmas.Bool.{eqb-true, eqb-false, leb-true}
+use Rattle.std.proofs.lemmas.Option.{same_Some}
 use Rattle.std.proofs.lemmas.List.{append_assoc, length-append, length-drop, take-append-drop, drop-drop}
 use Rattle.std.proofs.lemmas.List.Folds.{list_any-append}
 use Rattle.cal_base.specs.ContentLines.{onto_first}
@@ -112,20 +113,20 @@ closed_outside text e = closed_behind None text e
 
 -- What stands between a front and an end
 
-pick : {X : Type 0} (test : Bool) (x y : X) → test ≡ true → (if test then x else y) ≡ x
+pub pick : {X : Type 0} (test : Bool) (x y : X) → test ≡ true → (if test then x else y) ≡ x
 pick true x y e = refl
 pick false x y e = absurd cc
 
-skip : {X : Type 0} (test : Bool) (x y : X) → test ≡ false → (if test then x else y) ≡ y
+pub skip : {X : Type 0} (test : Bool) (x y : X) → test ≡ false → (if test then x else y) ≡ y
 skip false x y e = refl
 skip true x y e = absurd cc
 
 -- a text that is there has its test
-given : {X : Type 0} (test : Bool) (x y : X) → (if test then Some x else None) ≡ Some y → (test ≡ true) × (x ≡ y)
+pub given : {X : Type 0} (test : Bool) (x y : X) → (if test then Some x else None) ≡ Some y → (test ≡ true) × (x ≡ y)
 given true x y e = (refl, cc)
 given false x y e = absurd cc
 
-inside_is : (start : ℕ) (end text found : List ℕ) → inside start end text ≡ Some found → text ≡ take start text ++ (found ++ end)
+pub inside_is : (start : ℕ) (end text found : List ℕ) → inside start end text ≡ Some found → text ≡ take start text ++ (found ++ end)
 inside_is start end text found e =
     let size = start + length end in
     let (test, same) = given _ _ found e in
@@ -136,7 +137,7 @@ inside_is start end text found e =
     let rest : drop (length text - size) (drop start text) ≡ end = drop-drop (length text - size) start text ∙ ap (λ n. drop n text) place ∙ sym last in
     sym (ap (λ front. take start text ++ front) (ap (λ middle. middle ++ end) (sym same) ∙ ap (λ behind. take (length text - size) (drop start text) ++ behind) (sym rest) ∙ take-append-drop (length text - size) (drop start text)) ∙ take-append-drop start text)
 
-begins_is : (front text : List ℕ) → begins text front ≡ true → front ≡ take (length front) text
+pub begins_is : (front text : List ℕ) → begins text front ≡ true → front ≡ take (length front) text
 begins_is front text e = same_text front (take (length front) text) (sym e)
 
 -- Tags
@@ -223,19 +224,19 @@ last_blanks_unquoted (octet ∷ text) e = unquoted_before octet text (are_blanks
 
 -- What made an answer
 
-bind_is : {X Y : Type 0} (next : X → Option Y) (found : Option X) (answer : Y) → option_and_then next found ≡ Some answer → (x : X) × (found ≡ Some x) × (next x ≡ Some answer)
+pub bind_is : {X Y : Type 0} (next : X → Option Y) (found : Option X) (answer : Y) → option_and_then next found ≡ Some answer → (x : X) × (found ≡ Some x) × (next x ≡ Some answer)
 bind_is next None answer e = absurd cc
 bind_is next (Some x) answer e = (x, refl, e)
 
-map_is : {X Y : Type 0} (change : X → Y) (found : Option X) (answer : Y) → option_map change found ≡ Some answer → (x : X) × (found ≡ Some x)
+pub map_is : {X Y : Type 0} (change : X → Y) (found : Option X) (answer : Y) → option_map change found ≡ Some answer → (x : X) × (found ≡ Some x) × (change x ≡ answer)
 map_is change None answer e = absurd cc
-map_is change (Some x) answer e = (x, refl)
+map_is change (Some x) answer e = (x, refl, same_Some (change x) answer e)
 
 closing_text : (text : List ℕ) (markup : Markup) → begins text (codes "</") ≡ true → closing_of text ≡ Some markup → TagText text
 unfolding quote_behind
 closing_text text markup b e =
     let (name, found, next) = bind_is _ (inside 2 (codes ">") text) markup e in
-    let (qname, named) = map_is closing (qname_of (without_last_blanks name)) markup next in
+    let (qname, named, same) = map_is closing (qname_of (without_last_blanks name)) markup next in
     let front : codes "</" ≡ take 2 text = begins_is (codes "</") text b in
     record {
       first = 47;
@@ -245,7 +246,7 @@ closing_text text markup b e =
       closed = unquoted name (last_blanks_unquoted name (marks_quotes (without_last_blanks name) (name_marks (without_last_blanks name) qname named)));
     }
 
-take_drop_length : (count : ℕ) (text : List ℕ) → take count text ++ drop (length (take count text)) text ≡ text
+pub take_drop_length : (count : ℕ) (text : List ℕ) → take count text ++ drop (length (take count text)) text ≡ text
 take_drop_length zero text = refl
 take_drop_length (suc count) [] = refl
 take_drop_length (suc count) (octet ∷ text) = ap (λ more. octet ∷ more) (take_drop_length count text)
@@ -277,7 +278,7 @@ tag_inside : (is_empty : Bool) (text : List ℕ) (markup : Markup) → tag_of is
 tag_inside is_empty text markup e =
     let name = take_while is_not_blank text in
     let (qname, named, next) = bind_is _ (qname_of name) markup e in
-    let (attributes, found) = map_is _ (attributes_of (quoted_pieces None (drop (length name) text))) markup next in
+    let (attributes, found, same) = map_is _ (attributes_of (quoted_pieces None (drop (length name) text))) markup next in
     named_inside name (drop (length name) text) text qname attributes (take_drop_length (prefix_len is_not_blank text) text) named found
 
 opening_text : (text : List ℕ) (markup : Markup) → begins text (codes "<") ≡ true → opening_of text ≡ Some markup → TagText text
@@ -318,7 +319,7 @@ abbrev FindsEnd : List ℕ → List ℕ → Type 0
 FindsEnd text rest = markup_size text ≡ length text → markup_size (text ++ rest) ≡ length text
 
 -- the text of a front, some octets and an end
-shape : (front end text found : List ℕ) → begins text front ≡ true → inside (length front) end text ≡ Some found → text ≡ front ++ (found ++ end)
+pub shape : (front end text found : List ℕ) → begins text front ≡ true → inside (length front) end text ≡ Some found → text ≡ front ++ (found ++ end)
 shape front end text found b e = inside_is (length front) end text found e ∙ ap (λ (start : List ℕ). start ++ (found ++ end)) (sym (begins_is front text b))
 
 comment_cut : (found rest : List ℕ) → FindsEnd (codes "<!--" ++ (found ++ codes "-->")) rest
@@ -352,7 +353,7 @@ cut_comment text rest markup b e =
 
 cut_section : (text rest : List ℕ) (markup : Markup) → begins text (codes "<![CDATA[") ≡ true → section_of text ≡ Some markup → FindsEnd text rest
 cut_section text rest markup b e =
-    let (found, there) = map_is _ (inside 9 (codes "]]>") text) markup e in
+    let (found, there, same) = map_is _ (inside 9 (codes "]]>") text) markup e in
     moved text _ rest (shape (codes "<![CDATA[") (codes "]]>") text found b there) (section_cut found rest)
 
 cut_instruction : (text rest : List ℕ) (markup : Markup) → begins text (codes "<?") ≡ true → instruction_of text ≡ Some markup → FindsEnd text rest

@@ -16,4 +16,5 @@ pub mod XmlFaults
 pub mod XmlMarkup
 pub mod XmlNames
 pub mod XmlScopes
+pub mod XmlSizes
 pub mod formers
