@@ -1,10 +1,10 @@
 -- An element that a body spells holds no more than the body has octets.
 use Rattle.std.specs.Prelude.{◌≡◌, ℕ, zero, suc, ◌+◌, ◌-◌, ◌≤◌, Bool, true, false, not, ◌==◌, if◌then◌else◌, List, [], ◌∷◌, ◌++◌, length, take, drop, map, sum_by, filter, filter_map, flat_map, find, codes, encode_utf8, Option, Some, None, option_map, option_and_then, unwrap_or, ◌⊎◌}
-use Rattle.std.specs.List.{concat, list_all, take_while, prefix_len}
+use Rattle.std.specs.List.{concat, list_all, take_while, prefix_len, cons_option}
 use Rattle.std.specs.Str.{bytes_eq}
 use Rattle.std.proofs.Common.{inl, inr, arith, refl, sym, ap, subst, ◌∙◌}
 use Rattle.std.proofs.lemmas.Bool.{eqb-true}
-use Rattle.std.proofs.lemmas.List.{length-append, take-append-drop}
+use Rattle.std.proofs.lemmas.List.{length-append, length-drop}
 use Rattle.std.proofs.lemmas.List.Sums.{sum-map, sum_by-cons, sum_by-append}
 use Rattle.std.proofs.lemmas.Str.{length-encode, len_utf8_bounds}
 use denote.Hole.Carrier as H
@@ -14,15 +14,19 @@ use Rattle.cal_base.specs.declared.element.Item.{Item, Item-F}
 use Rattle.cal_base.specs.declared.element.Item as I
 use Rattle.cal_base.specs.declared.element.Item.TheFolds.{fold-Item, fold-roll-Item, fold_out-Element, fold_out-Item}
 use Rattle.cal_base.specs.declared.element.Item.TheVariants.{Element as Inner, Text, rolls-Element}
+use Rattle.cal_base.specs.Octets.{line_feed, carriage_return}
 use Rattle.cal_base.specs.ContentLines.{onto_first}
-use Rattle.cal_base.specs.XmlNames.{QName, qname_of, are_blanks, is_xml_text}
-use Rattle.cal_base.specs.XmlMarkup.{Tag, WrittenAttribute, Markup, opening, closing, character, section, reference, skipped, is_quote, quoted_pieces, attribute_of, attributes_of, attribute_name, holds, begins, ends, inside, tag_of, opening_of, closing_of, comment_of, section_of, instruction_of, reference_of, markup_of, is_target, is_reference, is_not_blank, without_last_blanks}
+use Rattle.cal_base.specs.XmlNames.{QName, qname_of, are_blanks, is_xml_text, is_xml_character}
+use Rattle.cal_base.specs.XmlMarkup.{Tag, WrittenAttribute, Markup, opening, closing, character, section, reference, skipped, is_quote, quoted_pieces, attribute_of, attributes_of, attribute_name, holds, begins, ends, inside, tag_of, opening_of, closing_of, comment_of, section_of, instruction_of, reference_of, markup_of, is_target, is_reference, is_not_blank, without_last_blanks, number_of_digits, referenced_number, entities, entity_octets, character_octets, referenced, markups}
+use Rattle.cal_base.specs.XmlScopes.{Scope, outer_scope, piece_octets, value_octets, attribute_space, attribute_in, attributes_in, declarations, is_no_declaration}
 use Rattle.std.proofs.lemmas.Option.{same_Some}
-use Rattle.cal_base.specs.XmlBodies.{Part, said, held, text_items, items_behind}
+use Rattle.cal_base.specs.XmlFaults.{is_declaration, mark_size}
+use Rattle.cal_base.specs.XmlBodies.{Part, said, held, text_items, items_behind, with_line_feeds, Level, element_of_tag, with_part, with_opening, with_tag, levels_before, first_element, outermost, without_declaration, body_element, IsBody}
 use Rattle.cal_base.specs.XmlSizes.{value_size, item_size_step, element_size_step, element_size}
 
-use Rattle.cal_base.proofs.XmlNameLemmas.{bool_cases, qname_of-nil}
+use Rattle.cal_base.proofs.XmlNameLemmas.{bool_cases, both_true, qname_of-nil}
 use Rattle.cal_base.proofs.XmlTagLemmas.{pick, skip, given, bind_is, map_is, take_drop_length, shape}
+use Rattle.cal_base.proofs.XmlMarkupLemmas.{concat-markups}
 
 -- One level at a time
 
@@ -253,3 +257,227 @@ markup-weight text markup e = elim (bool_cases (is_xml_text text)) [
       ]
     ]
 ]
+
+-- Values
+
+number_of_digits-length : (base : ℕ) (digits : List ℕ) (number : ℕ) → number_of_digits base digits ≡ Some number → 1 ≤ length digits
+number_of_digits-length base [] number e = absurd cc
+number_of_digits-length base (digit ∷ digits) number e = omega arith
+
+referenced_number-length : (name : List ℕ) (number : ℕ) → referenced_number name ≡ Some number → 2 ≤ length name
+referenced_number-length name number e = elim (bool_cases (begins name (codes "#x"))) [
+  | inl hexadecimal ↦ omega (arith, length-drop 2 name, number_of_digits-length 16 (drop 2 name) number (sym (pick _ _ _ hexadecimal) ∙ e))
+  | inr other ↦
+    let e1 = sym (skip _ _ _ other) ∙ e in
+    elim (bool_cases (begins name (codes "#"))) [
+    | inl decimal ↦ omega (arith, length-drop 1 name, number_of_digits-length 10 (drop 1 name) number (sym (pick _ _ _ decimal) ∙ e1))
+    | inr none ↦ let no : None ≡ Some number = sym (skip _ _ _ none) ∙ e1 in absurd cc
+    ]
+]
+
+find_passes : {X : Type 0} (test other : X → Bool) (xs : List X) (x : X) → list_all other xs ≡ true → find test xs ≡ Some x → other x ≡ true
+find_passes test other [] x h e = absurd cc
+find_passes test other (first ∷ xs) x h e =
+    let each = both_true (other first) _ h in
+    elim (bool_cases (test first)) [
+    | inl here ↦ let same : first ≡ x = same_Some first x (sym (pick _ _ _ here) ∙ e) in subst (λ those. other those ≡ true) same each.0
+    | inr later ↦ find_passes test other xs x each.1 (sym (skip _ _ _ later) ∙ e)
+    ]
+
+is_one_octet : List ℕ × List ℕ → Bool
+is_one_octet entity = length entity.1 == 1
+
+entity_octets-length : (name octets : List ℕ) → entity_octets name ≡ Some octets → length octets ≡ 1
+unfolding is_one_octet
+entity_octets-length name octets e =
+    let (entity, found, same) = map_is _ (find (λ (entity : List ℕ × List ℕ). bytes_eq entity.0 name) entities) octets e in
+    let single : is_one_octet entity ≡ true = find_passes (λ (entry : List ℕ × List ℕ). bytes_eq entry.0 name) is_one_octet entities entity refl found in
+    ap (λ (text : List ℕ). length text) (sym same) ∙ eqb-true (length entity.1) 1 single
+
+referenced-length : (name octets : List ℕ) → referenced name ≡ Some octets → length octets ≤ length name + 2
+referenced-length name octets e = by_number (referenced_number name) refl e
+  where
+    by_number : (number : Option ℕ) → referenced_number name ≡ number → elim number [ None ↦ entity_octets name | Some found ↦ character_octets found ] ≡ Some octets → length octets ≤ length name + 2
+    by_number None n h = omega (arith, entity_octets-length name octets h)
+    by_number (Some number) n h =
+        let (test, same) = given (is_xml_character number) (encode_utf8 number) octets h in
+        let size : length octets ≡ length (encode_utf8 number) = ap (λ (text : List ℕ). length text) (sym same) in
+        omega (arith, size, length-encode number, (len_utf8_bounds number).1, referenced_number-length name number n)
+
+unwrapped-length : (found : Option (List ℕ)) (other : List ℕ) (size : ℕ) → ((octets : List ℕ) → found ≡ Some octets → length octets ≤ size) → length other ≤ size → length (unwrap_or found other) ≤ size
+unwrapped-length None other size h k = k
+unwrapped-length (Some octets) other size h k = h octets refl
+
+piece_octets-length : (piece : List ℕ) → length (piece_octets piece) ≤ length piece
+unfolding markup_weight
+piece_octets-length piece = by_markup (markup_of piece) refl
+  where
+    weight : (markup : Markup) → markup_of piece ≡ Some markup → markup_weight markup ≤ length piece
+    weight markup e = markup-weight piece markup e
+
+    by_markup : (found : Option Markup) → markup_of piece ≡ found → length {A = ℕ} (elim found [
+      | None ↦ piece
+      | Some (opening tag) ↦ piece
+      | Some (closing name) ↦ piece
+      | Some (character text) ↦ piece
+      | Some (section text) ↦ piece
+      | Some (reference name) ↦ unwrap_or (referenced name) piece
+      | Some skipped ↦ piece
+    ]) ≤ length piece
+    by_markup None e = omega arith
+    by_markup (Some (opening tag)) e = omega arith
+    by_markup (Some (closing name)) e = omega arith
+    by_markup (Some (character text)) e = omega arith
+    by_markup (Some (section text)) e = omega arith
+    by_markup (Some (reference name)) e =
+        let size : length name + 2 ≤ length piece = weight (reference name) e in
+        unwrapped-length (referenced name) piece (length piece) (λ octets h. omega (arith, size, referenced-length name octets h)) (omega arith)
+    by_markup (Some skipped) e = omega arith
+
+pieces_octets-length : (pieces : List (List ℕ)) → length (flat_map piece_octets pieces) ≤ length (concat pieces)
+pieces_octets-length [] = omega arith
+pieces_octets-length (piece ∷ pieces) =
+    omega (arith, length-append (piece_octets piece) (flat_map piece_octets pieces), length-append piece (concat pieces), piece_octets-length piece, pieces_octets-length pieces)
+
+value_octets-length : (value : List ℕ) → length (value_octets value) ≤ length value
+value_octets-length value = omega (arith, pieces_octets-length (markups value), ap (λ (octets : List ℕ). length octets) (concat-markups value))
+
+filtered-size : (test : WrittenAttribute → Bool) (attributes : List WrittenAttribute) → sum_by written_size (filter test attributes) ≤ sum_by written_size attributes
+filtered-size test [] = omega arith
+filtered-size test (attribute ∷ attributes) = elim (bool_cases (test attribute)) [
+  | inl kept ↦ rw (pick (test attribute) (attribute ∷ filter test attributes) (filter test attributes) kept)
+      (omega (arith, sum_by-cons written_size attribute (filter test attributes), sum_by-cons written_size attribute attributes, filtered-size test attributes))
+  | inr left ↦ rw (skip (test attribute) (attribute ∷ filter test attributes) (filter test attributes) left)
+      (omega (arith, sum_by-cons written_size attribute attributes, filtered-size test attributes))
+]
+
+resolved_one : (scope : Scope) (attribute : WrittenAttribute) (attributes : List WrittenAttribute) → sum_by value_size (filter_map (attribute_in scope) attributes) ≤ sum_by written_size attributes → (space : Option (List ℕ)) →
+    sum_by value_size (cons_option (option_map (λ found. record { space = found; name = attribute.name.local; value = value_octets attribute.value }) space) (filter_map (attribute_in scope) attributes)) ≤ sum_by written_size (attribute ∷ attributes)
+unfolding written_size
+resolved_one scope attribute attributes more None = omega (arith, sum_by-cons written_size attribute attributes, more)
+resolved_one scope attribute attributes more (Some space) = omega (arith, sum_by-cons written_size attribute attributes, more, value_octets-length attribute.value,
+    sum_by-cons value_size (record { space = space; name = attribute.name.local; value = value_octets attribute.value }) (filter_map (attribute_in scope) attributes))
+
+resolved-size : (scope : Scope) (attributes : List WrittenAttribute) → sum_by value_size (filter_map (attribute_in scope) attributes) ≤ sum_by written_size attributes
+resolved-size scope [] = omega arith
+resolved-size scope (attribute ∷ attributes) = resolved_one scope attribute attributes (resolved-size scope attributes) (attribute_space scope attribute.name)
+
+-- Levels
+
+with_line_feeds-length : (text : List ℕ) → length (with_line_feeds text) ≤ length text
+with_line_feeds-length [] = omega arith
+with_line_feeds-length (octet ∷ []) = elim (octet == carriage_return) as (λ test. length (if test then line_feed ∷ [] else octet ∷ []) ≤ 1) [
+  | true ↦ omega arith
+  | false ↦ omega arith
+]
+with_line_feeds-length (octet ∷ next ∷ text) =
+    let one : length (if octet == carriage_return then (if next == line_feed then [] else line_feed ∷ []) else octet ∷ []) ≤ 1 = by_tests (octet == carriage_return) (next == line_feed) in
+    omega (arith, length-append (if octet == carriage_return then (if next == line_feed then [] else line_feed ∷ []) else octet ∷ []) (with_line_feeds (next ∷ text)), one, with_line_feeds-length (next ∷ text))
+  where
+    by_tests : (returns feeds : Bool) → length (if returns then (if feeds then [] else line_feed ∷ []) else octet ∷ []) ≤ 1
+    by_tests true true = omega arith
+    by_tests true false = omega arith
+    by_tests false feeds = omega arith
+
+-- whatever the scopes, the levels hold no more than so many, with four for each
+Fits : List Level → ℕ → Type 0
+Fits [] size = Unit {0}
+Fits (level ∷ levels) size = (own rest : ℕ) × ((scope : Scope) → parts_size (level scope) ≤ own) × (4 + own + rest ≤ size) × Fits levels rest
+
+Fits-more : (levels : List Level) (size more : ℕ) → size ≤ more → Fits levels size → Fits levels more
+unfolding Fits
+Fits-more [] size more h f = tt
+Fits-more (level ∷ levels) size more h (own, rest, held_in, fits, behind) = (own, rest, held_in, omega (arith, h, fits), behind)
+
+Fits-with_part : (part : Scope → Part) (levels : List Level) (size more : ℕ) → ((scope : Scope) → part_size (part scope) ≤ more) → Fits levels size → Fits (with_part part levels) (more + size)
+unfolding Fits parts_size
+Fits-with_part part [] size more h f = tt
+Fits-with_part part (level ∷ levels) size more h (own, rest, held_in, fits, behind) =
+    (more + own, rest, (λ scope. omega (arith, h scope, held_in scope)), omega (arith, fits), behind)
+
+-- an element holds what its tag brings, what its level holds, and four
+element_of_tag-size : (tag : Tag) (level : Level) (around : Scope) (own : ℕ) → ((scope : Scope) → parts_size (level scope) ≤ own) → element_size (element_of_tag tag level around) ≤ 4 + (sum_by written_size tag.attributes + own)
+element_of_tag-size tag level around own h =
+    let scope = declarations tag ++ around in
+    omega (arith, element_size-out (element_of_tag tag level around), items_behind-size [] (level scope), h scope,
+      resolved-size scope (filter is_no_declaration tag.attributes), filtered-size is_no_declaration tag.attributes)
+
+-- the weights of some markup
+weights : List Markup → ℕ
+weights [] = 0
+weights (markup ∷ more) = markup_weight markup + weights more
+
+opened : (tag : Tag) (levels : List Level) (size : ℕ) → Fits levels size → Fits (with_tag tag levels) (markup_weight (opening tag) + size)
+unfolding Fits markup_weight parts_size part_size
+opened tag levels size f = by_test tag.is_empty levels f
+  where
+    around_tag : (level : Level) (own : ℕ) → ((scope : Scope) → parts_size (level scope) ≤ own) → (scope : Scope) → element_size (element_of_tag tag level scope) ≤ 4 + (sum_by written_size tag.attributes + own)
+    around_tag level own h scope = element_of_tag-size tag level scope own h
+
+    by_test : (empty : Bool) (those : List Level) → Fits those size → Fits (with_opening tag (if empty then (λ scope. []) ∷ those else those)) (sum_by written_size tag.attributes + (if empty then 4 else 0) + size)
+    by_test true those g =
+        Fits-more (with_opening tag ((λ scope. []) ∷ those)) (4 + (sum_by written_size tag.attributes + 0) + size) _ (omega arith)
+          (Fits-with_part (λ scope. held (element_of_tag tag (λ inner. []) scope)) those size (4 + (sum_by written_size tag.attributes + 0)) (around_tag (λ inner. []) 0 (λ scope. omega arith)) g)
+    by_test false [] g = tt
+    by_test false (level ∷ those) (own, rest, held_in, fits, behind) =
+        Fits-more (with_opening tag (level ∷ those)) (4 + (sum_by written_size tag.attributes + own) + rest) _ (omega (arith, fits))
+          (Fits-with_part (λ scope. held (element_of_tag tag level scope)) those rest (4 + (sum_by written_size tag.attributes + own)) (around_tag level own held_in) behind)
+
+fits_markup : (markup : Markup) (more : List Markup) (size : ℕ) → Fits (levels_before more) size → ((name : List ℕ) → markup ≡ reference name → length (unwrap_or (referenced name) []) ≤ length name + 2) → Fits (levels_before (markup ∷ more)) (markup_weight markup + size)
+unfolding Fits markup_weight parts_size part_size
+fits_markup (opening tag) more size f r = opened tag (levels_before more) size f
+fits_markup (closing name) more size f r = (0, size, (λ scope. omega arith), omega arith, f)
+fits_markup (character text) more size f r = Fits-with_part (λ scope. said (with_line_feeds text)) (levels_before more) size (length text) (λ scope. with_line_feeds-length text) f
+fits_markup (section text) more size f r = Fits-with_part (λ scope. said (with_line_feeds text)) (levels_before more) size (length text) (λ scope. with_line_feeds-length text) f
+fits_markup (reference name) more size f r = Fits-with_part (λ scope. said (unwrap_or (referenced name) [])) (levels_before more) size (length name + 2) (λ scope. r name refl) f
+fits_markup skipped more size f r = Fits-more (levels_before more) size (0 + size) (omega arith) f
+
+fits_all : (markup : List Markup) → Fits (levels_before markup) (weights markup + 4)
+unfolding weights Fits parts_size
+fits_all [] = (0, 0, (λ scope. omega arith), omega arith, tt)
+fits_all (first ∷ more) =
+    Fits-more (levels_before (first ∷ more)) (markup_weight first + (weights more + 4)) _ (omega arith)
+      (fits_markup first more (weights more + 4) (fits_all more) (λ name e. unwrapped-length (referenced name) [] (length name + 2) (referenced-length name) (omega arith)))
+
+first_element-size : (parts : List Part) (element : Element) → first_element parts ≡ Some element → element_size element ≤ parts_size parts
+unfolding parts_size part_size
+first_element-size [] element e = absurd cc
+first_element-size (said text ∷ parts) element e = omega (arith, first_element-size parts element e)
+first_element-size (held first ∷ parts) element e = subst (λ (those : Element). element_size those ≤ element_size first + parts_size parts) (same_Some first element e) (omega arith)
+
+outermost-size : (levels : List Level) (size : ℕ) (element : Element) → Fits levels (size + 4) → outermost levels ≡ Some element → element_size element ≤ size
+unfolding Fits
+outermost-size [] size element f e = absurd cc
+outermost-size (level ∷ levels) size element (own, rest, held_in, fits, behind) e =
+    omega (arith, first_element-size (level outer_scope) element e, held_in outer_scope, fits)
+
+-- what the markups bring, they have in octets
+
+one_more_text : (text : List ℕ) (texts : List (List ℕ)) (found : Option Markup) → markup_of text ≡ found → weights (filter_map markup_of texts) ≤ length (concat texts) →
+    weights (cons_option found (filter_map markup_of texts)) ≤ length (text ++ concat texts)
+unfolding weights
+one_more_text text texts None e h = omega (arith, h, length-append text (concat texts))
+one_more_text text texts (Some markup) e h = omega (arith, h, length-append text (concat texts), markup-weight text markup e)
+
+weights-length : (texts : List (List ℕ)) → weights (filter_map markup_of texts) ≤ length (concat texts)
+unfolding weights
+weights-length [] = omega arith
+weights-length (text ∷ texts) = one_more_text text texts (markup_of text) refl (weights-length texts)
+
+without_declaration-length : (texts : List (List ℕ)) → length (concat (without_declaration texts)) ≤ length (concat texts)
+without_declaration-length [] = omega arith
+without_declaration-length (text ∷ texts) = by_test (is_declaration text)
+  where
+    by_test : (test : Bool) → length (concat (if test then texts else text ∷ texts)) ≤ length (text ++ concat texts)
+    by_test true = omega (arith, length-append text (concat texts))
+    by_test false = omega arith
+
+-- four for each element, the octets of text and those of values of attributes come to at most the octets of the body
+pub IsBody-size : (octets : List ℕ) (element : Element) → IsBody octets element → element_size element ≤ length octets
+IsBody-size octets element body =
+    let rest = drop (mark_size octets) octets in
+    let texts = without_declaration (markups rest) in
+    let holds_all : element_size element ≤ weights (filter_map markup_of texts) =
+          outermost-size (levels_before (filter_map markup_of texts)) (weights (filter_map markup_of texts)) element (fits_all (filter_map markup_of texts)) body.spelled in
+    let whole : length (concat (markups rest)) ≡ length rest = ap (λ (those : List ℕ). length those) (concat-markups rest) in
+    omega (arith, holds_all, weights-length texts, without_declaration-length (markups rest), whole, length-drop (mark_size octets) octets)
