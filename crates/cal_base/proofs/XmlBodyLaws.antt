@@ -1,5 +1,5 @@
 -- Each text is a body with one element, or has one first fault, and not both.
-use Rattle.std.specs.Prelude.{◌≡◌, ℕ, zero, suc, ◌+◌, Bool, true, false, not, ◌&&◌, if◌then◌else◌, List, [], ◌∷◌, length, drop, filter_map, Option, Some, None, ◌⊎◌}
+use Rattle.std.specs.Prelude.{◌≡◌, ℕ, suc, ◌+◌, Bool, true, false, not, ◌&&◌, if◌then◌else◌, List, [], ◌∷◌, length, drop, filter_map, Option, Some, None, ◌⊎◌}
 use Rattle.std.proofs.Common.{inl, inr, arith, refl, sym, ap, subst, ◌∙◌}
 use Rattle.std.proofs.lemmas.Option.{same_Some}
 use Rattle.std.proofs.lemmas.Bool.{ltb-false}
@@ -8,7 +8,7 @@ use Rattle.cal_base.specs.ComponentTrees.{or_else}
 use Rattle.cal_base.specs.XmlMarkup.{Tag, Markup, opening, closing, character, section, reference, skipped, markups, markup_of}
 use Rattle.cal_base.specs.XmlScopes.{Scope}
 use Rattle.cal_base.specs.XmlFaults.{Why, Fault, syntax, cut_short, fault_at, open_tags, has_root, is_within, can_stand, closes_innermost, own_fault, markup_fault, references_fault, no_markup_fault, end_fault, first_fault, is_declaration, declaration_fault, fault_behind, mark_size, body_fault}
-use Rattle.cal_base.specs.XmlBodies.{Part, held, said, Level, with_part, with_opening, with_tag, levels_before, first_element, outermost, without_declaration, body_element, IsBody, IsBodyFault}
+use Rattle.cal_base.specs.XmlBodies.{Part, said, Level, with_part, with_tag, levels_before, outermost, without_declaration, IsBody, IsBodyFault}
 
 -- Not both
 
@@ -53,10 +53,10 @@ goes_behind end before place text texts markup (Some why) f e h = absurd cc
 
 goes_of : (end : ℕ) (before : List Markup) (place : ℕ) (text : List ℕ) (texts : List (List ℕ)) (found : Option Markup) → markup_of text ≡ found →
     ◌≡◌ {A = Option Fault} (elim found [
-    | None ↦ Some (no_markup_fault end place text)
-    | Some markup ↦ elim (markup_fault before markup) [
-      | Some why ↦ Some (fault_at place why)
-      | None ↦ or_else (references_fault place text) (first_fault end (markup ∷ before) (place + length text) texts)
+      | None ↦ Some (no_markup_fault end place text)
+      | Some markup ↦ elim (markup_fault before markup) [
+        | Some why ↦ Some (fault_at place why)
+        | None ↦ or_else (references_fault place text) (first_fault end (markup ∷ before) (place + length text) texts)
       ]
     ]) None → Goes end before place text texts
 goes_of end before place text texts None e h = absurd cc
@@ -137,7 +137,7 @@ root_comes : (end : ℕ) (before : List Markup) (place : ℕ) (markup : Markup) 
     IsRooted (levels_before (markup ∷ filter_map markup_of texts))
 root_comes end before place (opening tag) texts r o s h more =
     rooted_tag tag tag.is_empty (levels_before (filter_map markup_of texts)) refl
-      (levels-length end (opening tag ∷ before) place texts h ∙ rw o refl)
+    (levels-length end (opening tag ∷ before) place texts h ∙ rw o refl)
 root_comes end before place (closing name) texts r o s h more =
     let outside : closes_innermost name [] ≡ true = subst (λ around. closes_innermost name around ≡ true) o s in absurd cc
 root_comes end before place (character text) texts r o s h more = rooted_text _ (levels_before (filter_map markup_of texts)) (more r o)
@@ -151,8 +151,8 @@ levels_rooted end before place [] r o h = let both = end_closed end before h in 
 levels_rooted end before place (text ∷ texts) r o h =
     let first = goes end before place text texts h in
     rw (filter_map-Some text texts first.markup first.is)
-      (root_comes end before (place + length text) first.markup texts r o first.stands first.on
-        (λ root around. levels_rooted end (first.markup ∷ before) (place + length text) texts root around first.on))
+    (root_comes end before (place + length text) first.markup texts r o first.stands first.on
+    (λ root around. levels_rooted end (first.markup ∷ before) (place + length text) texts root around first.on))
 
 -- the same behind a mark and a declaration
 behind_rooted : (end place : ℕ) (texts : List (List ℕ)) → fault_behind end place texts ≡ None → IsRooted (levels_before (filter_map markup_of (without_declaration texts)))

@@ -1,12 +1,12 @@
 -- Worked examples of the elements that bodies spell. What each spells is what XML 1.0 and Namespaces in XML 1.0 say of it.
-use Rattle.std.specs.Prelude.{◌≡◌, refl, ℕ, List, [], ◌∷◌, ◌++◌, length, Option, Some, None, codes}
+use Rattle.std.specs.Prelude.{◌≡◌, refl, ℕ, List, [], ◌∷◌, ◌++◌, length, codes}
 use Rattle.std.specs.Str.{is_utf8, chars}
 use lib.Utf8.{encode}
 use Rattle.cal_base.specs.declared.element.Attr.{Attr}
 use Rattle.cal_base.specs.declared.element.Element.{Element}
 use Rattle.cal_base.specs.declared.element.Item.{Item}
 use Rattle.cal_base.specs.declared.element.Item.TheVariants.{Element as Inner, Text}
-use Rattle.cal_base.specs.XmlBodies.{IsBody, body_element}
+use Rattle.cal_base.specs.XmlBodies.{IsBody}
 
 abbrev element : List ℕ → List ℕ → List Attr → List Item → Element
 element space name attrs items = record { space = space; name = name; attrs = attrs; items = items }
@@ -38,16 +38,16 @@ query_size = refl
 abbrev query_element : Element
 query_element = element caldav (codes "calendar-query") [] (
     Inner (element (codes "DAV:") (codes "prop") [] (
-      Inner (element (codes "DAV:") (codes "getetag") [] [])
-      ∷ Inner (element caldav (codes "calendar-data") [] [])
-      ∷ []))
+    Inner (element (codes "DAV:") (codes "getetag") [] [])
+    ∷ Inner (element caldav (codes "calendar-data") [] [])
+    ∷ []))
     ∷ Inner (element caldav (codes "filter") [] (
-      Inner (element caldav (codes "comp-filter") (plain (codes "name") (codes "VCALENDAR") ∷ []) (
-        Inner (element caldav (codes "comp-filter") (plain (codes "name") (codes "VEVENT") ∷ []) (
-          Inner (element caldav (codes "time-range") (plain (codes "start") (codes "20060102T000000Z") ∷ plain (codes "end") (codes "20060103T000000Z") ∷ []) [])
-          ∷ []))
-        ∷ []))
-      ∷ []))
+    Inner (element caldav (codes "comp-filter") (plain (codes "name") (codes "VCALENDAR") ∷ []) (
+    Inner (element caldav (codes "comp-filter") (plain (codes "name") (codes "VEVENT") ∷ []) (
+    Inner (element caldav (codes "time-range") (plain (codes "start") (codes "20060102T000000Z") ∷ plain (codes "end") (codes "20060103T000000Z") ∷ []) [])
+    ∷ []))
+    ∷ []))
+    ∷ []))
     ∷ [])
 
 query_spells : IsBody query query_element

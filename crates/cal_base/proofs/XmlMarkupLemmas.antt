@@ -1,12 +1,12 @@
 -- The cut of a text into markups: nothing is lost, and each markup is cut off whatever stands behind it.
-use Rattle.std.specs.Prelude.{◌≡◌, ℕ, zero, suc, ◌+◌, ◌-◌, ◌≤◌, ◌<◌, Bool, true, false, if◌then◌else◌, List, [], ◌∷◌, ◌++◌, length, take, drop, codes, Option, Some, None, nat_eq, ◌⊎◌}
+use Rattle.std.specs.Prelude.{◌≡◌, ℕ, zero, suc, ◌+◌, ◌-◌, ◌≤◌, Bool, true, false, if◌then◌else◌, List, [], ◌∷◌, ◌++◌, length, take, drop, codes, None, nat_eq, ◌⊎◌}
 use Rattle.std.specs.List.{concat}
 use Rattle.std.specs.Cmp.Lexicographic.{pointwise}
 use Rattle.std.proofs.lemmas.Slice.Eq.{starts_is}
 use Rattle.std.proofs.lemmas.Bool.Decides.{Decides-eqb}
-use Rattle.std.proofs.Common.{inl, inr, arith, refl, sym, ap, subst, ◌∙◌}
-use Rattle.std.proofs.lemmas.List.{append_assoc, append-nil, length-append, length-drop, take-append-drop, take_at, drop_at, take-append-le, drop-append-le}
-use Rattle.cal_base.specs.XmlMarkup.{begins, ends, size_through, tag_size, quote_after, is_quote, character_size, markup_size, cut, markups}
+use Rattle.std.proofs.Common.{inl, inr, arith, refl, sym, ap, ◌∙◌}
+use Rattle.std.proofs.lemmas.List.{length-append, length-drop, take-append-drop, take_at, drop_at, take-append-le}
+use Rattle.cal_base.specs.XmlMarkup.{begins, size_through, tag_size, character_size, markup_size, cut, markups}
 
 -- Sizes
 
@@ -34,7 +34,7 @@ markup_size-positive octet text =
     let two : 1 ≤ 2 = omega arith in
     let one : 1 ≤ character_size whole = omega arith in
     at_least_one _ _ _ comment (at_least_one _ _ _ section (at_least_one _ _ _ instruction (at_least_one _ _ _ tag
-      (at_least_one _ _ _ reference (at_least_one _ _ _ three (at_least_one _ _ _ two one))))))
+    (at_least_one _ _ _ reference (at_least_one _ _ _ three (at_least_one _ _ _ two one))))))
 
 -- The cut
 
@@ -115,9 +115,9 @@ size_through-append (first ∷ more) (octet ∷ front) rest h e =
     let longer : length end ≤ length text = omega (arith, length-append front end) in
     let same : begins (text ++ rest) end ≡ begins text end = begins-append text end rest longer in
     elim (bool_cases (begins text end)) [
-    | inl here ↦ absurd (omega (arith, length-append front end, sym (size_through-here end octet (front ++ end) here) ∙ e))
-    | inr later ↦
-        let shorter : suc (size_through end (front ++ end)) ≡ suc (length (front ++ end)) = sym (size_through-later end octet (front ++ end) later) ∙ e in
-        size_through-later end octet ((front ++ end) ++ rest) (same ∙ later)
-        ∙ ap (λ (size : ℕ). suc size) (size_through-append end front rest h (omega arith))
+      | inl here ↦ absurd (omega (arith, length-append front end, sym (size_through-here end octet (front ++ end) here) ∙ e))
+      | inr later ↦
+          let shorter : suc (size_through end (front ++ end)) ≡ suc (length (front ++ end)) = sym (size_through-later end octet (front ++ end) later) ∙ e in
+          size_through-later end octet ((front ++ end) ++ rest) (same ∙ later)
+          ∙ ap (λ (size : ℕ). suc size) (size_through-append end front rest h (omega arith))
     ]

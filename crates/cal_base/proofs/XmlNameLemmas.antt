@@ -1,11 +1,11 @@
 -- Names have none of the octets that mark tags.
-use Rattle.std.specs.Prelude.{◌≡◌, ℕ, ◌<◌, Bool, true, false, ◌&&◌, ◌||◌, ◌==◌, nat_lt, List, [], ◌∷◌, ◌++◌, length, get_or, Option, Some, None, if◌then◌else◌, ◌⊎◌}
+use Rattle.std.specs.Prelude.{◌≡◌, ℕ, ◌<◌, Bool, true, false, ◌&&◌, ◌||◌, ◌==◌, nat_lt, List, [], ◌∷◌, length, get_or, Some, None, if◌then◌else◌, ◌⊎◌}
 use Rattle.std.specs.List.{list_any, list_all}
 use Rattle.std.specs.Str.{chars, is_utf8, NoCharPasses, NonePass}
 use Rattle.std.proofs.Common.{inl, inr, arith, refl, sym, ap, subst, ◌∙◌}
 use Rattle.std.proofs.lemmas.Bool.{eqb-true, ltb-true}
 use Rattle.std.proofs.lemmas.List.{get_or_default}
-use Rattle.std.proofs.lemmas.List.Folds.{list_any_none, list_any-append}
+use Rattle.std.proofs.lemmas.List.Folds.{list_any_none}
 use Rattle.std.proofs.lemmas.Str.{NoCharPasses-byte, encodes-chars, IsUtf8-from_is_utf8}
 use Rattle.cal_base.specs.Octets.{colon}
 use Rattle.cal_base.specs.ContentLines.{pieces, onto_first}
@@ -37,8 +37,8 @@ is_one_of-small [] t octet h = absurd cc
 is_one_of-small (other ∷ table) t octet h =
     let small = both_true (nat_lt other 128) _ t in
     elim (bool_cases (octet == other)) [
-    | inl same ↦ omega (arith, eqb-true octet other same, ltb-true other 128 small.0)
-    | inr apart ↦ is_one_of-small table small.1 octet (subst (λ test. (test || is_one_of table octet) ≡ true) apart h)
+      | inl same ↦ omega (arith, eqb-true octet other same, ltb-true other 128 small.0)
+      | inr apart ↦ is_one_of-small table small.1 octet (subst (λ test. (test || is_one_of table octet) ≡ true) apart h)
     ]
 
 is_one_of-apart : (table : List ℕ) → list_any is_name_character table ≡ false → (octet : ℕ) → is_name_character octet ≡ true → is_one_of table octet ≡ false
@@ -46,10 +46,10 @@ is_one_of-apart [] t octet h = refl
 is_one_of-apart (other ∷ table) t octet h =
     let no_name = both_false (is_name_character other) _ t in
     elim (bool_cases (octet == other)) [
-    | inl same ↦
-        let as_other : is_name_character other ≡ true = subst (λ (character : ℕ). is_name_character character ≡ true) (eqb-true octet other same) h in
-        absurd cc
-    | inr apart ↦ subst (λ test. (test || is_one_of table octet) ≡ false) (sym apart) (is_one_of-apart table no_name.1 octet h)
+      | inl same ↦
+          let as_other : is_name_character other ≡ true = subst (λ (character : ℕ). is_name_character character ≡ true) (eqb-true octet other same) h in
+          absurd cc
+      | inr apart ↦ subst (λ test. (test || is_one_of table octet) ≡ false) (sym apart) (is_one_of-apart table no_name.1 octet h)
     ]
 
 -- Names
@@ -81,7 +81,7 @@ plain_name_lacks table s t text h =
           let fails : is_one_of table (get_or text k 0) ≡ false = NoCharPasses-byte (is_one_of table) text k lacks l (subst (λ (octet : ℕ). octet < 128) same small) in
           ap (λ (octet : ℕ). is_one_of table octet) same ∙ fails
       | inr none ↦ none
-      ]
+    ]
 
 -- Names with a prefix
 

@@ -1,5 +1,5 @@
 -- An element that a body spells holds no more than the body has octets.
-use Rattle.std.specs.Prelude.{◌≡◌, ℕ, zero, suc, ◌+◌, ◌-◌, ◌≤◌, Bool, true, false, not, ◌==◌, if◌then◌else◌, List, [], ◌∷◌, ◌++◌, length, take, drop, map, sum_by, filter, filter_map, flat_map, find, codes, encode_utf8, Option, Some, None, option_map, option_and_then, unwrap_or, ◌⊎◌}
+use Rattle.std.specs.Prelude.{◌≡◌, ℕ, suc, ◌+◌, ◌≤◌, Bool, true, false, not, ◌==◌, if◌then◌else◌, List, [], ◌∷◌, ◌++◌, length, drop, sum_by, filter, filter_map, flat_map, find, codes, encode_utf8, Option, Some, None, option_map, option_and_then, unwrap_or}
 use Rattle.std.specs.List.{concat, list_all, take_while, prefix_len, cons_option}
 use Rattle.std.specs.Str.{bytes_eq}
 use Rattle.std.proofs.Common.{inl, inr, arith, refl, sym, ap, subst, ◌∙◌}
@@ -8,7 +8,6 @@ use Rattle.std.proofs.lemmas.List.{length-append, length-drop}
 use Rattle.std.proofs.lemmas.List.Sums.{sum-map, sum_by-cons, sum_by-append}
 use Rattle.std.proofs.lemmas.Str.{length-encode, len_utf8_bounds}
 use denote.Hole.Carrier as H
-use Rattle.cal_base.specs.declared.element.Attr.{Attr}
 use Rattle.cal_base.specs.declared.element.Element.{Element}
 use Rattle.cal_base.specs.declared.element.Item.{Item, Item-F}
 use Rattle.cal_base.specs.declared.element.Item as I
@@ -18,12 +17,11 @@ use Rattle.cal_base.specs.Octets.{line_feed, carriage_return}
 use Rattle.cal_base.specs.ContentLines.{onto_first}
 use Rattle.cal_base.specs.XmlNames.{QName, qname_of, are_blanks, is_xml_text, is_xml_character}
 use Rattle.cal_base.specs.XmlMarkup.{Tag, WrittenAttribute, Markup, opening, closing, character, section, reference, skipped, is_quote, quoted_pieces, attribute_of, attributes_of, attribute_name, holds, begins, ends, inside, tag_of, opening_of, closing_of, comment_of, section_of, instruction_of, reference_of, markup_of, is_target, is_reference, is_not_blank, without_last_blanks, number_of_digits, referenced_number, entities, entity_octets, character_octets, referenced, markups}
-use Rattle.cal_base.specs.XmlScopes.{Scope, outer_scope, piece_octets, value_octets, attribute_space, attribute_in, attributes_in, declarations, is_no_declaration}
+use Rattle.cal_base.specs.XmlScopes.{Scope, outer_scope, piece_octets, value_octets, attribute_space, attribute_in, declarations, is_no_declaration}
 use Rattle.std.proofs.lemmas.Option.{same_Some}
 use Rattle.cal_base.specs.XmlFaults.{is_declaration, mark_size}
-use Rattle.cal_base.specs.XmlBodies.{Part, said, held, text_items, items_behind, with_line_feeds, Level, element_of_tag, with_part, with_opening, with_tag, levels_before, first_element, outermost, without_declaration, body_element, IsBody}
+use Rattle.cal_base.specs.XmlBodies.{Part, said, held, text_items, items_behind, with_line_feeds, Level, element_of_tag, with_part, with_opening, with_tag, levels_before, first_element, outermost, without_declaration, IsBody}
 use Rattle.cal_base.specs.XmlSizes.{value_size, item_size_step, element_size_step, element_size}
-
 use Rattle.cal_base.proofs.XmlNameLemmas.{bool_cases, both_true, qname_of-nil}
 use Rattle.cal_base.proofs.XmlTagLemmas.{pick, skip, given, bind_is, map_is, take_drop_length, shape}
 use Rattle.cal_base.proofs.XmlMarkupLemmas.{concat-markups}
@@ -129,7 +127,7 @@ attributes_of-length (last ∷ []) attributes e = none (are_blanks last) e
 attributes_of-length (before ∷ value ∷ parts) attributes e =
     let (attribute, more, found, others, same) = both_of (attribute_of before value) (attributes_of parts) attributes e in
     subst (λ (those : List WrittenAttribute). sum_by written_size those ≤ length before + (length value + parts_length parts)) (sym same)
-      (omega (arith, sum_by-cons written_size attribute more, attribute_of-length before value attribute found, attributes_of-length parts more others))
+    (omega (arith, sum_by-cons written_size attribute more, attribute_of-length before value attribute found, attributes_of-length parts more others))
 
 -- What each markup brings, it has in octets
 
@@ -150,7 +148,7 @@ closing-weight text markup b e =
     let (name, found, next) = bind_is _ (inside 2 (codes ">") text) markup e in
     let (qname, named, same) = map_is closing (qname_of (without_last_blanks name)) markup next in
     subst (λ (those : Markup). markup_weight those ≤ length text) same
-      (omega (arith, shape-length (codes "</") (codes ">") text name b found, last_blanks-length name qname named))
+    (omega (arith, shape-length (codes "</") (codes ">") text name b found, last_blanks-length name qname named))
 
 tag_weight : (is_empty : Bool) (attributes : List WrittenAttribute) (name rest inner : ℕ) → sum_by written_size attributes ≤ rest → 1 ≤ name → name + rest ≡ inner →
     sum_by written_size attributes + (if is_empty then 4 else 0) ≤ inner + (if is_empty then 3 else 0)
@@ -168,7 +166,7 @@ inner-weight is_empty inner markup e =
     let fits : sum_by written_size attributes ≤ length rest = omega (arith, pieces_fit, quoted_pieces-length None rest) in
     let whole : length name + length rest ≡ length inner = sym (length-append name rest) ∙ ap (λ (octets : List ℕ). length octets) (take_drop_length (prefix_len is_not_blank inner) inner) in
     subst (λ (those : Markup). markup_weight those ≤ length inner + (if is_empty then 3 else 0)) same
-      (tag_weight is_empty attributes (length name) (length rest) (length inner) fits (qname_of-length name qname named) whole)
+    (tag_weight is_empty attributes (length name) (length rest) (length inner) fits (qname_of-length name qname named) whole)
 
 opening-weight : (text : List ℕ) (markup : Markup) → begins text (codes "<") ≡ true → opening_of text ≡ Some markup → markup_weight markup ≤ length text
 opening-weight text markup b e = by_end (ends text (codes "/>")) e
@@ -219,43 +217,43 @@ unfolding markup_weight
 markup-weight text markup e = elim (bool_cases (is_xml_text text)) [
   | inr other ↦ let none : None ≡ Some markup = sym (pick _ _ _ (ap not other)) ∙ e in absurd cc
   | inl characters ↦
-    let e0 = sym (skip _ _ _ (ap not characters)) ∙ e in
-    elim (bool_cases (begins text (codes "<!--"))) [
-    | inl comment ↦ comment-weight text markup (sym (pick _ _ _ comment) ∙ e0)
-    | inr no_comment ↦
-      let e1 = sym (skip _ _ _ no_comment) ∙ e0 in
-      elim (bool_cases (begins text (codes "<![CDATA["))) [
-      | inl sections ↦ section-weight text markup sections (sym (pick _ _ _ sections) ∙ e1)
-      | inr no_section ↦
-        let e2 = sym (skip _ _ _ no_section) ∙ e1 in
-        elim (bool_cases (begins text (codes "<?"))) [
-        | inl instruction ↦ instruction-weight text markup (sym (pick _ _ _ instruction) ∙ e2)
-        | inr no_instruction ↦
-          let e3 = sym (skip _ _ _ no_instruction) ∙ e2 in
-          elim (bool_cases (begins text (codes "</"))) [
-          | inl closes ↦ closing-weight text markup closes (sym (pick _ _ _ closes) ∙ e3)
-          | inr no_closing ↦
-            let e4 = sym (skip _ _ _ no_closing) ∙ e3 in
-            elim (bool_cases (begins text (codes "<"))) [
-            | inl opens ↦ opening-weight text markup opens (sym (pick _ _ _ opens) ∙ e4)
-            | inr no_opening ↦
-              let e5 = sym (skip _ _ _ no_opening) ∙ e4 in
-              elim (bool_cases (begins text (codes "&"))) [
-              | inl refers ↦ reference-weight text markup refers (sym (pick _ _ _ refers) ∙ e5)
-              | inr no_reference ↦
-                let e6 = sym (skip _ _ _ no_reference) ∙ e5 in
-                elim (bool_cases (begins text (codes "]]>"))) [
-                | inl stray ↦ let none : None ≡ Some markup = sym (pick _ _ _ stray) ∙ e6 in absurd cc
-                | inr plain ↦
-                  let same : character text ≡ markup = same_Some _ markup (sym (skip _ _ _ plain) ∙ e6) in
-                  subst (λ (those : Markup). markup_weight those ≤ length text) same (omega arith)
-                ]
-              ]
+      let e0 = sym (skip _ _ _ (ap not characters)) ∙ e in
+      elim (bool_cases (begins text (codes "<!--"))) [
+        | inl comment ↦ comment-weight text markup (sym (pick _ _ _ comment) ∙ e0)
+        | inr no_comment ↦
+            let e1 = sym (skip _ _ _ no_comment) ∙ e0 in
+            elim (bool_cases (begins text (codes "<![CDATA["))) [
+              | inl sections ↦ section-weight text markup sections (sym (pick _ _ _ sections) ∙ e1)
+              | inr no_section ↦
+                  let e2 = sym (skip _ _ _ no_section) ∙ e1 in
+                  elim (bool_cases (begins text (codes "<?"))) [
+                    | inl instruction ↦ instruction-weight text markup (sym (pick _ _ _ instruction) ∙ e2)
+                    | inr no_instruction ↦
+                        let e3 = sym (skip _ _ _ no_instruction) ∙ e2 in
+                        elim (bool_cases (begins text (codes "</"))) [
+                          | inl closes ↦ closing-weight text markup closes (sym (pick _ _ _ closes) ∙ e3)
+                          | inr no_closing ↦
+                              let e4 = sym (skip _ _ _ no_closing) ∙ e3 in
+                              elim (bool_cases (begins text (codes "<"))) [
+                                | inl opens ↦ opening-weight text markup opens (sym (pick _ _ _ opens) ∙ e4)
+                                | inr no_opening ↦
+                                    let e5 = sym (skip _ _ _ no_opening) ∙ e4 in
+                                    elim (bool_cases (begins text (codes "&"))) [
+                                      | inl refers ↦ reference-weight text markup refers (sym (pick _ _ _ refers) ∙ e5)
+                                      | inr no_reference ↦
+                                          let e6 = sym (skip _ _ _ no_reference) ∙ e5 in
+                                          elim (bool_cases (begins text (codes "]]>"))) [
+                                            | inl stray ↦ let none : None ≡ Some markup = sym (pick _ _ _ stray) ∙ e6 in absurd cc
+                                            | inr plain ↦
+                                                let same : character text ≡ markup = same_Some _ markup (sym (skip _ _ _ plain) ∙ e6) in
+                                                subst (λ (those : Markup). markup_weight those ≤ length text) same (omega arith)
+                                          ]
+                                    ]
+                              ]
+                        ]
+                  ]
             ]
-          ]
-        ]
       ]
-    ]
 ]
 
 -- Values
@@ -268,11 +266,11 @@ referenced_number-length : (name : List ℕ) (number : ℕ) → referenced_numbe
 referenced_number-length name number e = elim (bool_cases (begins name (codes "#x"))) [
   | inl hexadecimal ↦ omega (arith, length-drop 2 name, number_of_digits-length 16 (drop 2 name) number (sym (pick _ _ _ hexadecimal) ∙ e))
   | inr other ↦
-    let e1 = sym (skip _ _ _ other) ∙ e in
-    elim (bool_cases (begins name (codes "#"))) [
-    | inl decimal ↦ omega (arith, length-drop 1 name, number_of_digits-length 10 (drop 1 name) number (sym (pick _ _ _ decimal) ∙ e1))
-    | inr none ↦ let no : None ≡ Some number = sym (skip _ _ _ none) ∙ e1 in absurd cc
-    ]
+      let e1 = sym (skip _ _ _ other) ∙ e in
+      elim (bool_cases (begins name (codes "#"))) [
+        | inl decimal ↦ omega (arith, length-drop 1 name, number_of_digits-length 10 (drop 1 name) number (sym (pick _ _ _ decimal) ∙ e1))
+        | inr none ↦ let no : None ≡ Some number = sym (skip _ _ _ none) ∙ e1 in absurd cc
+      ]
 ]
 
 find_passes : {X : Type 0} (test other : X → Bool) (xs : List X) (x : X) → list_all other xs ≡ true → find test xs ≡ Some x → other x ≡ true
@@ -280,8 +278,8 @@ find_passes test other [] x h e = absurd cc
 find_passes test other (first ∷ xs) x h e =
     let each = both_true (other first) _ h in
     elim (bool_cases (test first)) [
-    | inl here ↦ let same : first ≡ x = same_Some first x (sym (pick _ _ _ here) ∙ e) in subst (λ those. other those ≡ true) same each.0
-    | inr later ↦ find_passes test other xs x each.1 (sym (skip _ _ _ later) ∙ e)
+      | inl here ↦ let same : first ≡ x = same_Some first x (sym (pick _ _ _ here) ∙ e) in subst (λ those. other those ≡ true) same each.0
+      | inr later ↦ find_passes test other xs x each.1 (sym (skip _ _ _ later) ∙ e)
     ]
 
 is_one_octet : List ℕ × List ℕ → Bool
@@ -355,8 +353,13 @@ resolved_one : (scope : Scope) (attribute : WrittenAttribute) (attributes : List
     sum_by value_size (cons_option (option_map (λ found. record { space = found; name = attribute.name.local; value = value_octets attribute.value }) space) (filter_map (attribute_in scope) attributes)) ≤ sum_by written_size (attribute ∷ attributes)
 unfolding written_size
 resolved_one scope attribute attributes more None = omega (arith, sum_by-cons written_size attribute attributes, more)
-resolved_one scope attribute attributes more (Some space) = omega (arith, sum_by-cons written_size attribute attributes, more, value_octets-length attribute.value,
-    sum_by-cons value_size (record { space = space; name = attribute.name.local; value = value_octets attribute.value }) (filter_map (attribute_in scope) attributes))
+resolved_one scope attribute attributes more (Some space) = omega (
+  arith,
+  sum_by-cons written_size attribute attributes,
+  more,
+  value_octets-length attribute.value,
+  sum_by-cons value_size (record { space = space; name = attribute.name.local; value = value_octets attribute.value }) (filter_map (attribute_in scope) attributes),
+)
 
 resolved-size : (scope : Scope) (attributes : List WrittenAttribute) → sum_by value_size (filter_map (attribute_in scope) attributes) ≤ sum_by written_size attributes
 resolved-size scope [] = omega arith
@@ -399,8 +402,14 @@ Fits-with_part part (level ∷ levels) size more h (own, rest, held_in, fits, be
 element_of_tag-size : (tag : Tag) (level : Level) (around : Scope) (own : ℕ) → ((scope : Scope) → parts_size (level scope) ≤ own) → element_size (element_of_tag tag level around) ≤ 4 + (sum_by written_size tag.attributes + own)
 element_of_tag-size tag level around own h =
     let scope = declarations tag ++ around in
-    omega (arith, element_size-out (element_of_tag tag level around), items_behind-size [] (level scope), h scope,
-      resolved-size scope (filter is_no_declaration tag.attributes), filtered-size is_no_declaration tag.attributes)
+    omega (
+      arith,
+      element_size-out (element_of_tag tag level around),
+      items_behind-size [] (level scope),
+      h scope,
+      resolved-size scope (filter is_no_declaration tag.attributes),
+      filtered-size is_no_declaration tag.attributes,
+    )
 
 -- the weights of some markup
 weights : List Markup → ℕ
@@ -417,11 +426,11 @@ opened tag levels size f = by_test tag.is_empty levels f
     by_test : (empty : Bool) (those : List Level) → Fits those size → Fits (with_opening tag (if empty then (λ scope. []) ∷ those else those)) (sum_by written_size tag.attributes + (if empty then 4 else 0) + size)
     by_test true those g =
         Fits-more (with_opening tag ((λ scope. []) ∷ those)) (4 + (sum_by written_size tag.attributes + 0) + size) _ (omega arith)
-          (Fits-with_part (λ scope. held (element_of_tag tag (λ inner. []) scope)) those size (4 + (sum_by written_size tag.attributes + 0)) (around_tag (λ inner. []) 0 (λ scope. omega arith)) g)
+        (Fits-with_part (λ scope. held (element_of_tag tag (λ inner. []) scope)) those size (4 + (sum_by written_size tag.attributes + 0)) (around_tag (λ inner. []) 0 (λ scope. omega arith)) g)
     by_test false [] g = tt
     by_test false (level ∷ those) (own, rest, held_in, fits, behind) =
         Fits-more (with_opening tag (level ∷ those)) (4 + (sum_by written_size tag.attributes + own) + rest) _ (omega (arith, fits))
-          (Fits-with_part (λ scope. held (element_of_tag tag level scope)) those rest (4 + (sum_by written_size tag.attributes + own)) (around_tag level own held_in) behind)
+        (Fits-with_part (λ scope. held (element_of_tag tag level scope)) those rest (4 + (sum_by written_size tag.attributes + own)) (around_tag level own held_in) behind)
 
 fits_markup : (markup : Markup) (more : List Markup) (size : ℕ) → Fits (levels_before more) size → ((name : List ℕ) → markup ≡ reference name → length (unwrap_or (referenced name) []) ≤ length name + 2) → Fits (levels_before (markup ∷ more)) (markup_weight markup + size)
 unfolding Fits markup_weight parts_size part_size
@@ -437,7 +446,7 @@ unfolding weights Fits parts_size
 fits_all [] = (0, 0, (λ scope. omega arith), omega arith, tt)
 fits_all (first ∷ more) =
     Fits-more (levels_before (first ∷ more)) (markup_weight first + (weights more + 4)) _ (omega arith)
-      (fits_markup first more (weights more + 4) (fits_all more) (λ name e. unwrapped-length (referenced name) [] (length name + 2) (referenced-length name) (omega arith)))
+    (fits_markup first more (weights more + 4) (fits_all more) (λ name e. unwrapped-length (referenced name) [] (length name + 2) (referenced-length name) (omega arith)))
 
 first_element-size : (parts : List Part) (element : Element) → first_element parts ≡ Some element → element_size element ≤ parts_size parts
 unfolding parts_size part_size
@@ -478,6 +487,6 @@ IsBody-size octets element body =
     let rest = drop (mark_size octets) octets in
     let texts = without_declaration (markups rest) in
     let holds_all : element_size element ≤ weights (filter_map markup_of texts) =
-          outermost-size (levels_before (filter_map markup_of texts)) (weights (filter_map markup_of texts)) element (fits_all (filter_map markup_of texts)) body.spelled in
+    outermost-size (levels_before (filter_map markup_of texts)) (weights (filter_map markup_of texts)) element (fits_all (filter_map markup_of texts)) body.spelled in
     let whole : length (concat (markups rest)) ≡ length rest = ap (λ (those : List ℕ). length those) (concat-markups rest) in
     omega (arith, holds_all, weights-length texts, without_declaration-length (markups rest), whole, length-drop (mark_size octets) octets)

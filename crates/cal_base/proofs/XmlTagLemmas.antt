@@ -1,15 +1,14 @@
 -- A markup that begins with `<` or `&` is cut off whatever stands behind it: none begins another.
-use Rattle.std.specs.Prelude.{◌≡◌, ℕ, zero, suc, ◌+◌, ◌-◌, ◌≤◌, ◌<◌, Bool, true, false, not, ◌&&◌, ◌||◌, ◌==◌, nat_eq, nat_le, if◌then◌else◌, List, [], ◌∷◌, ◌++◌, length, take, drop, codes, Option, Some, None, is_some, option_map, option_and_then, ◌⊎◌}
-use Rattle.std.specs.List.{list_any, list_all, take_while, prefix_len}
-use Rattle.std.specs.Cmp.Lexicographic.{pointwise, same_text}
+use Rattle.std.specs.Prelude.{◌≡◌, ℕ, zero, suc, ◌+◌, ◌-◌, ◌≤◌, Bool, true, false, not, ◌==◌, nat_eq, nat_le, if◌then◌else◌, List, [], ◌∷◌, ◌++◌, length, take, drop, codes, Option, Some, None, is_some, option_map, option_and_then, ◌⊎◌}
+use Rattle.std.specs.List.{list_any, take_while, prefix_len}
+use Rattle.std.specs.Cmp.Lexicographic.{same_text}
 use Rattle.std.proofs.Common.{inl, inr, arith, refl, sym, ap, subst, ◌∙◌}
 use Rattle.std.proofs.lemmas.Bool.{eqb-true, eqb-false, leb-true}
 use Rattle.std.proofs.lemmas.Option.{same_Some}
-use Rattle.std.proofs.lemmas.List.{append_assoc, length-append, length-drop, take-append-drop, drop-drop}
-use Rattle.std.proofs.lemmas.List.Folds.{list_any-append}
+use Rattle.std.proofs.lemmas.List.{append_assoc, take-append-drop, drop-drop}
 use Rattle.cal_base.specs.ContentLines.{onto_first}
 use Rattle.cal_base.specs.XmlNames.{QName, qname_of, is_blank, are_blanks, is_xml_text}
-use Rattle.cal_base.specs.XmlMarkup.{Markup, opening, closing, Tag, WrittenAttribute, begins, ends, is_quote, quote_after, size_through, tag_size, markup_size, markups, inside, quoted_pieces, is_not_blank, without_last_blanks, attribute_of, attributes_of, tag_of, opening_of, closing_of, comment_of, section_of, instruction_of, reference_of, markup_of, is_one_markup, character}
+use Rattle.cal_base.specs.XmlMarkup.{Markup, closing, WrittenAttribute, begins, ends, is_quote, quote_after, size_through, tag_size, markup_size, markups, inside, quoted_pieces, is_not_blank, without_last_blanks, attribute_of, attributes_of, tag_of, opening_of, closing_of, comment_of, section_of, instruction_of, reference_of, markup_of, is_one_markup}
 use Rattle.cal_base.proofs.XmlMarkupLemmas.{size_through-append, markups-append}
 use Rattle.cal_base.proofs.XmlNameLemmas.{bool_cases, both_true, both_false, is_one_of, qname_of-lacks, qname_of-nil}
 
@@ -98,13 +97,13 @@ closed_behind None [] e = refl
 closed_behind (Some quote) [] e = absurd cc
 closed_behind None (octet ∷ text) e =
     (elim (is_quote octet) as (λ test. is_odd (elim test [ true ↦ [] ∷ quoted_pieces (Some octet) text | false ↦ onto_first octet (quoted_pieces None text) ]) ≡ true → quote_behind (if test then Some octet else None) text ≡ None) [
-    | true ↦ λ h. closed_behind (Some octet) text (not_true _ h)
-    | false ↦ λ h. closed_behind None text (sym (quoted_pieces-odd None octet text) ∙ h)
+      | true ↦ λ h. closed_behind (Some octet) text (not_true _ h)
+      | false ↦ λ h. closed_behind None text (sym (quoted_pieces-odd None octet text) ∙ h)
     ]) e
 closed_behind (Some quote) (octet ∷ text) e =
     (elim (octet == quote) as (λ test. is_odd (elim test [ true ↦ [] ∷ quoted_pieces None text | false ↦ onto_first octet (quoted_pieces (Some quote) text) ]) ≡ false → quote_behind (if test then None else Some quote) text ≡ None) [
-    | true ↦ λ h. closed_behind None text (not_false _ h)
-    | false ↦ λ h. closed_behind (Some quote) text (sym (quoted_pieces-odd (Some quote) octet text) ∙ h)
+      | true ↦ λ h. closed_behind None text (not_false _ h)
+      | false ↦ λ h. closed_behind (Some quote) text (sym (quoted_pieces-odd (Some quote) octet text) ∙ h)
     ]) e
 
 closed_outside : (text : List ℕ) → is_odd (quoted_pieces None text) ≡ true → quote_behind None text ≡ None
@@ -182,7 +181,7 @@ marks_apart octet e =
     other_way a b f = elim (bool_cases (nat_eq a b)) [
       | inl same ↦ absurd (eqb-false b a f (sym (eqb-true a b same)))
       | inr apart ↦ apart
-      ]
+    ]
 
 marks_quotes : (text : List ℕ) → list_any (is_one_of marks) text ≡ false → list_any is_quote text ≡ false
 marks_quotes [] e = refl
@@ -379,36 +378,36 @@ markup_cut : (text rest : List ℕ) (markup : Markup) → IsMarked text → mark
 markup_cut text rest markup marked e = elim (bool_cases (is_xml_text text)) [
   | inr other ↦ let none : None ≡ Some markup = sym (pick _ _ _ (ap not other)) ∙ e in absurd cc
   | inl characters ↦
-    let e0 = sym (skip _ _ _ (ap not characters)) ∙ e in
-    elim (bool_cases (begins text (codes "<!--"))) [
-    | inl comment ↦ cut_comment text rest markup comment (sym (pick _ _ _ comment) ∙ e0)
-    | inr no_comment ↦
-      let e1 = sym (skip _ _ _ no_comment) ∙ e0 in
-      elim (bool_cases (begins text (codes "<![CDATA["))) [
-      | inl section ↦ cut_section text rest markup section (sym (pick _ _ _ section) ∙ e1)
-      | inr no_section ↦
-        let e2 = sym (skip _ _ _ no_section) ∙ e1 in
-        elim (bool_cases (begins text (codes "<?"))) [
-        | inl instruction ↦ cut_instruction text rest markup instruction (sym (pick _ _ _ instruction) ∙ e2)
-        | inr no_instruction ↦
-          let e3 = sym (skip _ _ _ no_instruction) ∙ e2 in
-          elim (bool_cases (begins text (codes "</"))) [
-          | inl closes ↦ cut_tag text rest (closing_text text markup closes (sym (pick _ _ _ closes) ∙ e3))
-          | inr no_closing ↦
-            let e4 = sym (skip _ _ _ no_closing) ∙ e3 in
-            elim (bool_cases (begins text (codes "<"))) [
-            | inl opens ↦ cut_tag text rest (opening_text text markup opens (sym (pick _ _ _ opens) ∙ e4))
-            | inr no_opening ↦
-              let e5 = sym (skip _ _ _ no_opening) ∙ e4 in
-              elim marked [
-              | inl opens ↦ let clash : true ≡ false = sym opens ∙ no_opening in absurd cc
-              | inr refers ↦ cut_reference text rest markup refers (sym (pick _ _ _ refers) ∙ e5)
-              ]
+      let e0 = sym (skip _ _ _ (ap not characters)) ∙ e in
+      elim (bool_cases (begins text (codes "<!--"))) [
+        | inl comment ↦ cut_comment text rest markup comment (sym (pick _ _ _ comment) ∙ e0)
+        | inr no_comment ↦
+            let e1 = sym (skip _ _ _ no_comment) ∙ e0 in
+            elim (bool_cases (begins text (codes "<![CDATA["))) [
+              | inl section ↦ cut_section text rest markup section (sym (pick _ _ _ section) ∙ e1)
+              | inr no_section ↦
+                  let e2 = sym (skip _ _ _ no_section) ∙ e1 in
+                  elim (bool_cases (begins text (codes "<?"))) [
+                    | inl instruction ↦ cut_instruction text rest markup instruction (sym (pick _ _ _ instruction) ∙ e2)
+                    | inr no_instruction ↦
+                        let e3 = sym (skip _ _ _ no_instruction) ∙ e2 in
+                        elim (bool_cases (begins text (codes "</"))) [
+                          | inl closes ↦ cut_tag text rest (closing_text text markup closes (sym (pick _ _ _ closes) ∙ e3))
+                          | inr no_closing ↦
+                              let e4 = sym (skip _ _ _ no_closing) ∙ e3 in
+                              elim (bool_cases (begins text (codes "<"))) [
+                                | inl opens ↦ cut_tag text rest (opening_text text markup opens (sym (pick _ _ _ opens) ∙ e4))
+                                | inr no_opening ↦
+                                    let e5 = sym (skip _ _ _ no_opening) ∙ e4 in
+                                    elim marked [
+                                      | inl opens ↦ let clash : true ≡ false = sym opens ∙ no_opening in absurd cc
+                                      | inr refers ↦ cut_reference text rest markup refers (sym (pick _ _ _ refers) ∙ e5)
+                                    ]
+                              ]
+                        ]
+                  ]
             ]
-          ]
-        ]
       ]
-    ]
 ]
 
 is_Some : {X : Type 0} (found : Option X) → is_some found ≡ true → (x : X) × (found ≡ Some x)
@@ -417,7 +416,7 @@ is_Some (Some x) e = (x, refl)
 
 -- a markup with its mark is cut off whole, whatever stands behind it
 pub markups-marked : (text rest : List ℕ) → IsMarked text → is_one_markup text ≡ true → markups (text ++ rest) ≡ text ∷ markups rest
-markups-marked [] rest marked e = elim marked [ | inl opens ↦ absurd cc | inr refers ↦ absurd cc ]
+markups-marked [] rest marked e = elim marked [ inl opens ↦ absurd cc | inr refers ↦ absurd cc ]
 markups-marked (octet ∷ text) rest marked e =
     let each = both_true (markup_size (octet ∷ text) == length (octet ∷ text)) _ e in
     let (markup, found) = is_Some (markup_of (octet ∷ text)) each.1 in

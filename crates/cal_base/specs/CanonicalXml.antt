@@ -75,8 +75,8 @@ abbrev pub written_attribute : ℕ × Attr → List ℕ
 written_attribute (place, attr) =
     let own = codes "y" ++ decimal place in
     elim (known_prefix attr.space) [
-    | None ↦ declaration own attr.space ++ attribute (own ++ (codes ":" ++ attr.name)) attr.value
-    | Some prefix ↦ attribute (prefix ++ attr.name) attr.value
+      | None ↦ declaration own attr.space ++ attribute (own ++ (codes ":" ++ attr.name)) attr.value
+      | Some prefix ↦ attribute (prefix ++ attr.name) attr.value
     ]
 
 abbrev pub written_attributes : List Attr → List ℕ

@@ -7,7 +7,7 @@ use Rattle.cal_base.specs.declared.element.Item.TheVariants.{Element as InnerEle
 use Rattle.cal_base.specs.Octets.{line_feed, carriage_return}
 use Rattle.cal_base.specs.XmlMarkup.{Tag, Markup, opening, closing, character, section, reference, skipped, markups, markup_of, referenced}
 use Rattle.cal_base.specs.XmlScopes.{Scope, outer_scope, declarations, space_of, attributes_in}
-use Rattle.cal_base.specs.XmlFaults.{Why, Fault, mark_size, is_declaration, body_fault}
+use Rattle.cal_base.specs.XmlFaults.{Why, mark_size, is_declaration, body_fault}
 
 -- What an element holds
 

@@ -1,12 +1,12 @@
 -- The first fault of a body: its place, and why it is one. A table says what can stand at a place, given the markup before it;
 -- the first markup for which it has a row decides, and the end comes last.
-use Rattle.std.specs.Prelude.{ℕ, suc, ◌+◌, ◌-◌, Bool, true, false, not, ◌&&◌, ◌||◌, ◌==◌, nat_lt, nat_le, if◌then◌else◌, List, [], ◌∷◌, ◌++◌, length, take, drop, Option, Some, None, is_some, option_map, codes}
+use Rattle.std.specs.Prelude.{ℕ, suc, ◌+◌, Bool, true, false, not, ◌&&◌, ◌||◌, ◌==◌, nat_lt, nat_le, if◌then◌else◌, List, [], ◌∷◌, length, take, drop, Option, Some, None, is_some, option_map, codes}
 use Rattle.std.specs.List.{list_any, take_while}
 use Rattle.std.specs.Str.{bytes_eq}
 use Rattle.cal_base.specs.Text.{raised_all}
 use Rattle.cal_base.specs.ComponentTrees.{or_else}
 use Rattle.cal_base.specs.XmlNames.{QName, is_same_name, is_blank, are_blanks, begins_with_blank, is_xml_text}
-use Rattle.cal_base.specs.XmlMarkup.{Tag, Markup, opening, closing, character, section, reference, skipped, begins, ends, is_quote, without_first_blanks, holds, markup_size, markups, markup_of, referenced, can_go_on}
+use Rattle.cal_base.specs.XmlMarkup.{Tag, Markup, opening, closing, character, section, reference, skipped, begins, ends, is_quote, without_first_blanks, markup_size, markups, markup_of, referenced, can_go_on}
 use Rattle.cal_base.specs.XmlScopes.{scope_at, has_bad_attribute, has_undeclared_prefix}
 
 -- why something cannot stand, in the order in which they are weighed at one place
@@ -104,13 +104,13 @@ abbrev pub inner_fault : List ℕ → Option Why
 inner_fault text =
     let first = take (markup_size text) text in
     elim (markup_of first) [
-    | None ↦ if can_go_on first then None else Some syntax
-    | Some (opening tag) ↦ None
-    | Some (closing name) ↦ None
-    | Some (character text) ↦ None
-    | Some (section text) ↦ None
-    | Some (reference name) ↦ reference_fault name
-    | Some skipped ↦ None
+      | None ↦ if can_go_on first then None else Some syntax
+      | Some (opening tag) ↦ None
+      | Some (closing name) ↦ None
+      | Some (character text) ↦ None
+      | Some (section text) ↦ None
+      | Some (reference name) ↦ reference_fault name
+      | Some skipped ↦ None
     ]
 
 -- the first fault of the references in a text at a place
@@ -145,7 +145,7 @@ first_fault end before place (text ∷ texts) = elim (markup_of text) [
   | Some markup ↦ elim (markup_fault before markup) [
     | Some why ↦ Some (fault_at place why)
     | None ↦ or_else (references_fault place text) (first_fault end (markup ∷ before) (place + length text) texts)
-    ]
+  ]
 ]
 
 -- The front of a body (2.8; appendix F.1): perhaps a byte order mark, and then perhaps a declaration
@@ -177,7 +177,7 @@ abbrev pub encoding_name : List ℕ → Option (List ℕ)
 encoding_name [] = None
 encoding_name (octet ∷ text) =
     or_else (if is_blank octet && begins text (codes "encoding") then assigned_text (without_first_blanks (drop 8 text)) else None)
-      (encoding_name text)
+    (encoding_name text)
 
 -- no encoding, or UTF-8 in any case
 abbrev pub is_known_encoding : Option (List ℕ) → Bool

@@ -1,6 +1,6 @@
 -- A body cut into its markup, and what each markup is by itself (XML 1.0, 2.4 to 2.7, 3.1 and 4.1). Where each ends is told by
 -- how it begins, and what it is by a test of its whole text; no state goes from octet to octet.
-use Rattle.std.specs.Prelude.{ℕ, zero, suc, ◌+◌, ◌-◌, ◌*◌, Bool, true, false, not, ◌&&◌, ◌||◌, ◌==◌, nat_eq, nat_lt, nat_le, if◌then◌else◌, List, [], ◌∷◌, ◌++◌, map, length, take, drop, fold, find, Option, Some, None, is_some, option_map, option_and_then, codes, encode_utf8}
+use Rattle.std.specs.Prelude.{ℕ, zero, suc, ◌+◌, ◌-◌, ◌*◌, Bool, true, false, not, ◌&&◌, ◌||◌, ◌==◌, nat_eq, nat_le, if◌then◌else◌, List, [], ◌∷◌, ◌++◌, map, length, take, drop, fold, find, Option, Some, None, is_some, option_map, option_and_then, codes, encode_utf8}
 use Rattle.std.specs.List.{list_any, starts_with, ends_with, take_while}
 use Rattle.std.specs.Str.{bytes_eq, continuation_len}
 use Rattle.cal_base.specs.Octets.{double_quote}
@@ -150,9 +150,9 @@ abbrev pub tag_of : Bool → List ℕ → Option Markup
 tag_of is_empty text =
     let name = take_while is_not_blank text in
     option_and_then
-      (λ named. option_map (λ attributes. opening (record { name = named; attributes = attributes; is_empty = is_empty }))
-        (attributes_of (quoted_pieces None (drop (length name) text))))
-      (qname_of name)
+    (λ named. option_map (λ attributes. opening (record { name = named; attributes = attributes; is_empty = is_empty }))
+    (attributes_of (quoted_pieces None (drop (length name) text))))
+    (qname_of name)
 
 abbrev pub opening_of : List ℕ → Option Markup
 opening_of text = if ends text (codes "/>") then option_and_then (tag_of true) (inside 1 (codes "/>") text) else option_and_then (tag_of false) (inside 1 (codes ">") text)

@@ -1,11 +1,11 @@
 -- Namespaces (Namespaces in XML 1.0, 2 to 6): what the prefixes stand for at a tag, what the tag then names, and the tags that
 -- name nothing. Everything is a list of declarations, the nearest first.
-use Rattle.std.specs.Prelude.{ℕ, Bool, true, false, not, ◌&&◌, ◌||◌, ◌==◌, if◌then◌else◌, List, [], ◌∷◌, ◌++◌, length, find, filter, filter_map, flat_map, Option, Some, None, is_none, option_map, unwrap_or, codes}
+use Rattle.std.specs.Prelude.{ℕ, Bool, false, not, ◌&&◌, ◌||◌, ◌==◌, if◌then◌else◌, List, [], ◌∷◌, ◌++◌, length, find, filter, filter_map, flat_map, Option, Some, None, is_none, option_map, unwrap_or, codes}
 use Rattle.std.specs.List.{list_any}
 use Rattle.std.specs.Str.{bytes_eq}
 use Rattle.cal_base.specs.declared.element.Attr.{Attr}
 use Rattle.cal_base.specs.XmlNames.{QName, is_same_name}
-use Rattle.cal_base.specs.XmlMarkup.{WrittenAttribute, Tag, Markup, opening, closing, character, section, reference, skipped, markups, markup_of, referenced}
+use Rattle.cal_base.specs.XmlMarkup.{WrittenAttribute, Tag, opening, closing, character, section, reference, skipped, markups, markup_of, referenced}
 
 -- Values
 
@@ -77,7 +77,7 @@ attribute_space scope name = if length name.prefix == 0 then Some [] else space_
 abbrev pub attribute_in : Scope → WrittenAttribute → Option Attr
 attribute_in scope attribute =
     option_map (λ space. record { space = space; name = attribute.name.local; value = value_octets attribute.value })
-      (attribute_space scope attribute.name)
+    (attribute_space scope attribute.name)
 
 -- the attributes of a tag but its declarations, those with an undeclared prefix left out
 abbrev pub attributes_in : Scope → Tag → List Attr

@@ -1,6 +1,6 @@
 -- How much an element holds: four for each element in it, itself too, and the octets of its text and of its attributes' values.
 -- An element that a body spells holds no more than the body has octets, which bounds what is made of a body.
-use Rattle.std.specs.Prelude.{ℕ, ◌+◌, List, length, sum, sum_by}
+use Rattle.std.specs.Prelude.{ℕ, ◌+◌, length, sum, sum_by}
 use Rattle.cal_base.specs.declared.element.Attr.{Attr}
 use Rattle.cal_base.specs.declared.element.Element.{Element}
 use Rattle.cal_base.specs.declared.element.Item.{Item-F}
