@@ -145,18 +145,22 @@ attributes_of (last ∷ []) = if are_blanks last then Some [] else None
 attributes_of (before ∷ value ∷ more) =
     option_and_then (λ attribute. option_map (λ others. attribute ∷ others) (attributes_of more)) (attribute_of before value)
 
+-- a tag of its name and of what stands behind it
+abbrev pub tag_of_parts : Bool → QName → List ℕ → Option Markup
+tag_of_parts is_empty name behind =
+    option_map (λ attributes. opening (record { name = name; attributes = attributes; is_empty = is_empty })) (attributes_of (quoted_pieces None behind))
+
 -- a tag of what stands between `<` and `>` or `/>`
 abbrev pub tag_of : Bool → List ℕ → Option Markup
 tag_of is_empty text =
     let name = take_while is_not_blank text in
-    option_and_then
-    (λ named. option_map (λ attributes. opening (record { name = named; attributes = attributes; is_empty = is_empty }))
-    (attributes_of (quoted_pieces None (drop (length name) text))))
-    (qname_of name)
+    option_and_then (λ named. tag_of_parts is_empty named (drop (length name) text)) (qname_of name)
 
+-- the tag that a text is
 abbrev pub opening_of : List ℕ → Option Markup
 opening_of text = if ends text (codes "/>") then option_and_then (tag_of true) (inside 1 (codes "/>") text) else option_and_then (tag_of false) (inside 1 (codes ">") text)
 
+-- the end tag that a text is: a name, and perhaps blanks
 abbrev pub closing_of : List ℕ → Option Markup
 closing_of text = option_and_then (λ name. option_map closing (qname_of (without_last_blanks name))) (inside 2 (codes ">") text)
 
@@ -166,6 +170,7 @@ closing_of text = option_and_then (λ name. option_map closing (qname_of (withou
 abbrev pub comment_of : List ℕ → Option Markup
 comment_of text = option_and_then (λ comment. if holds (codes "--") (comment ++ codes "-") then None else Some skipped) (inside 4 (codes "-->") text)
 
+-- what a section holds
 abbrev pub section_of : List ℕ → Option Markup
 section_of text = option_map section (inside 9 (codes "]]>") text)
 
@@ -173,6 +178,7 @@ section_of text = option_map section (inside 9 (codes "]]>") text)
 abbrev pub is_target : List ℕ → Bool
 is_target target = is_plain_name target && not (bytes_eq (raised_all target) (codes "XML"))
 
+-- an instruction: a target, and nothing or a blank and more behind it
 abbrev pub instruction_of : List ℕ → Option Markup
 instruction_of text =
     option_and_then (λ instruction. if is_target (take_while is_not_blank instruction) then Some skipped else None) (inside 2 (codes "?>") text)
@@ -203,6 +209,7 @@ referenced_number text =
 abbrev pub is_reference : List ℕ → Bool
 is_reference text = is_plain_name text || is_some (referenced_number text)
 
+-- the reference that a text is
 abbrev pub reference_of : List ℕ → Option Markup
 reference_of text = option_and_then (λ name. if is_reference name then Some (reference name) else None) (inside 1 (codes ";") text)
 
