@@ -6,6 +6,7 @@ pub mod NameMapLemmas
 pub mod Taking
 mod TreeExamples
 pub mod XmlBodyLaws
+pub mod XmlEscapeLemmas
 mod XmlExamples
 mod XmlFaultExamples
 pub mod XmlMarkupLemmas
