@@ -246,7 +246,7 @@ markup_of text =
 abbrev pub is_one_markup : List ℕ → Bool
 is_one_markup text = (markup_size text == length text) && is_some (markup_of text)
 
--- Some text behind it makes it one markup: each text for which there is one has one among these.
+-- what a markup that is cut needs to be whole: for each place in a markup at which it can be cut, one text that ends it
 abbrev pub endings : List (List ℕ)
 endings =
     map (λ n. drop n (codes "<!---->")) (1 ∷ 2 ∷ 3 ∷ 4 ∷ 5 ∷ 6 ∷ [])
