@@ -1,4 +1,5 @@
 pub mod Adapter
+pub mod CanonicalXml
 pub mod ComponentTrees
 pub mod ContentLines
 pub mod LineGrammar
@@ -10,4 +11,10 @@ pub mod Outside
 pub mod Reserved
 pub mod Text
 pub mod WrittenLines
+pub mod XmlBodies
+pub mod XmlFaults
+pub mod XmlMarkup
+pub mod XmlNames
+pub mod XmlScopes
+pub mod XmlSizes
 pub mod formers

@@ -1,47 +1,13 @@
 -- XML as this server writes it: one text for each content (RFC 4918, 14). There is no white space between elements.
 -- So far only the elements of WebDAV and CalDAV, with the prefixes that the root declares.
-use Rattle.std.specs.Prelude.{ℕ, ◌==◌, if◌then◌else◌, List, [], ◌∷◌, ◌++◌, flat_map, codes}
-use Rattle.cal_model.specs.Namespaces.{dav, caldav}
+use Rattle.std.specs.Prelude.{ℕ, List, [], ◌++◌, codes}
+pub use Rattle.cal_base.specs.CanonicalXml.{text_octet, value_octet, attribute, element_with, prefixes}
+unfoldable pub use Rattle.cal_base.specs.CanonicalXml.{xml_text, attribute_text}
 use Rattle.cal_model.specs.Statuses.{status_line}
-
--- an octet of text; the end of a line would be read back without its CR
-abbrev pub text_octet : ℕ → List ℕ
-text_octet octet =
-    if octet == 38 then codes "&amp;"
-    else if octet == 60 then codes "&lt;"
-    else if octet == 62 then codes "&gt;"
-    else if octet == 13 then codes "&#13;"
-    else octet ∷ []
-
--- an octet of the value of an attribute
-abbrev pub value_octet : ℕ → List ℕ
-value_octet octet = if octet == 34 then codes "&quot;" else text_octet octet
-
--- some octets as text
-unfoldable pub xml_text : List ℕ → List ℕ
-xml_text octets = flat_map text_octet octets
-
--- some octets as the value of an attribute
-unfoldable pub attribute_text : List ℕ → List ℕ
-attribute_text octets = flat_map value_octet octets
-
--- an attribute with the space before it
-abbrev pub attribute : List ℕ → List ℕ → List ℕ
-attribute name value = codes " " ++ (name ++ (codes "=\"" ++ (attribute_text value ++ codes "\"")))
-
--- an element from its name, its attributes and its content; without content it is `<a/>`
-abbrev pub element_with : List ℕ → List ℕ → List ℕ → List ℕ
-element_with name attributes [] = codes "<" ++ (name ++ (attributes ++ codes "/>"))
-element_with name attributes (first ∷ more) =
-    codes "<" ++ (name ++ (attributes ++ (codes ">" ++ ((first ∷ more) ++ (codes "</" ++ (name ++ codes ">"))))))
 
 -- an element without attributes
 abbrev pub element : List ℕ → List ℕ → List ℕ
 element name content = element_with name [] content
-
--- the declarations of the two prefixes
-abbrev pub prefixes : List ℕ
-prefixes = attribute (codes "xmlns:D") dav ++ attribute (codes "xmlns:C") caldav
 
 -- a whole body: the XML declaration, a line feed, and the root, which declares the prefixes
 unfoldable pub document : List ℕ → List ℕ → List ℕ
