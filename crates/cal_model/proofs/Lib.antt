@@ -73,7 +73,6 @@ pub mod ComponentStamps
 pub mod ServedDates
 pub mod ShortLengths
 pub mod ZoneParts
-mod ValueExamples
 pub mod ListTests
 pub mod FilterLemmas
 mod MatchingExamples
@@ -84,7 +83,6 @@ pub mod PickLaws
 pub mod MatchingLaws
 pub mod CalendarDataLaws
 mod ReportPairExamples
-mod ObjectExamples
 pub mod ReportLaws
 pub mod OverrideWindows
 pub mod BusyWindows
