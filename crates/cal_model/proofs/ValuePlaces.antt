@@ -12,7 +12,7 @@ use Rattle.cal_moment.specs.Texts.{utc_text, SpellsDate, SpellsDateTime, SpellsO
 use Rattle.cal_moment.specs.declared.stamp.Local.{Local}
 use Rattle.cal_moment.specs.declared.stamp.Stamp.TheVariants.{Date, Utc as AtUtc}
 use Rattle.cal_model.specs.declared.rule.Rule.{Rule}
-use Rattle.cal_model.specs.ValueTexts.{date_of, date_time_of, length_of, offset_of, moment_of, moment_of_local}
+use Rattle.cal_model.specs.ValueTexts.{date_of, date_time_of, length_of, offset_of, moment_of, utc_of_local}
 use Rattle.cal_model.specs.StampTexts.{param_is, zone_of, stamp_of_time, time_stamp, date_or_time, utc_stamp, is_named, utc_names, is_date_text, stamp_of}
 use Rattle.cal_model.specs.RuleTexts.{rule_in_grammar, is_within_bound, list_of}
 use Rattle.cal_model.specs.BadValues.{Reads, IsBadRuleAt}
@@ -202,7 +202,7 @@ pub stamp_lacks_comma : (zones : List (List ℕ)) (line : Line) (text : List ℕ
 stamp_lacks_comma zones line text is =
     elim (cases_Bool (is_named utc_names line)) [
       | inl utc ↦ (let moment = option_map_some AtUtc (moment_of text) is.0 (sym (ap (λ b. if b then utc_stamp text else date_or_time zones line text) utc) ∙ is.1) in
-          let time = option_map_some (λ (time : Local × Bool). moment_of_local time.0) (date_time_of text) moment.0 moment.1 in
+          let time = option_map_some (λ (time : Local × Bool). utc_of_local time.0) (date_time_of text) moment.0 moment.1 in
           time_lacks_comma text (time.0, SpellsDateTime-date_time_of text time.0 time.1))
       | inr other ↦ (let stamp = sym (ap (λ b. if b then utc_stamp text else date_or_time zones line text) other) ∙ is.1 in
           elim (cases_Bool (is_date_text line text)) [
@@ -217,7 +217,7 @@ stamp_lacks_comma zones line text is =
 pub moment_of-utc_of : (text : List ℕ) (at : ℤ) → utc_of text ≡ Some at → moment_of text ≡ Some (record { 0 = at })
 moment_of-utc_of text at e =
     let local = SpellsDateTime-utc_of text at e in
-    ap (option_map (λ (time : Local × Bool). moment_of_local time.0)) (date_time_of-SpellsDateTime text (local.0, true) local.1)
+    ap (option_map (λ (time : Local × Bool). utc_of_local time.0)) (date_time_of-SpellsDateTime text (local.0, true) local.1)
     ∙ ap (λ n. Some (as_moment n)) (sym local.2)
   where
     as_moment : ℤ → Utc

@@ -29,7 +29,7 @@ use Rattle.cal_model.specs.StampTexts.{local_digits, stamp_of_time, time_stamp, 
 use Rattle.cal_model.proofs.RuleBounds.{map_value, and_then_value, each_read, IsUsable-rule_of}
 use Rattle.cal_moment.specs.Texts.{digits, sign_text, signed, date_text, time_text, utc_text, local_of_seconds}
 use Rattle.cal_model.specs.UtcTexts.{number_at}
-use Rattle.cal_model.specs.ValueTexts.{is_date, is_time, date_of, time_of, date_time_of, local_time, moment_of_local, moment_of, cut, offset_of, is_negative, second_text}
+use Rattle.cal_model.specs.ValueTexts.{is_date, is_time, date_of, time_of, date_time_of, local_time, utc_of_local, moment_of, cut, offset_of, is_negative, second_text}
 use Rattle.cal_model.proofs.EachLemmas.{both_hold, each_of_any, each-map, each-append, each-flat_map, each-filter_map}
 
 signed_within : (negative : Bool) (n : ℕ) → n ≤ 86_399 → IsBetween (neg_ℤ (pos 86_399)) (pos 86_399) (signed negative n)
@@ -122,10 +122,10 @@ digits_of_moment m low high =
 moment_of_digits : (day : ℤ) (second : ℕ) → neg_ℤ (pos 719_162) ≤ℤ day → day ≤ℤ pos 2_932_896 → second < 86_400 → IsCalendarMoment (day *ℤ pos 86400 +ℤ pos second)
 moment_of_digits day second low high below = (omega (arith, ints), omega (arith, ints))
 
-IsWritten-utc : (local : Local) → IsWritten local → IsWritten (local_of_seconds (moment_of_local local).0)
+IsWritten-utc : (local : Local) → IsWritten local → IsWritten (local_of_seconds (utc_of_local local).0)
 IsWritten-utc local written =
-    let within = moment_within (moment_of_local local).0 (moment_of_digits local.day local.second written.from_first written.to_last written.second_below) in
-    digits_of_moment (moment_of_seconds (moment_of_local local).0) within.0 within.1
+    let within = moment_within (utc_of_local local).0 (moment_of_digits local.day local.second written.from_first written.to_last written.second_below) in
+    digits_of_moment (moment_of_seconds (utc_of_local local).0) within.0 within.1
 
 -- the digits of a stamp that is read
 abbrev pub HasDigits : Stamp → Type 0
@@ -145,7 +145,7 @@ time_stamp_read number text stamp is =
 utc_stamp_read : (text : List ℕ) (stamp : Stamp) → utc_stamp text ≡ Some stamp → HasDigits stamp
 utc_stamp_read text stamp is =
     let found = map_value Utc (moment_of text) stamp is in
-    let moment = map_value (λ (time : Local × Bool). moment_of_local time.0) (date_time_of text) found.0 found.1 in
+    let moment = map_value (λ (time : Local × Bool). utc_of_local time.0) (date_time_of text) found.0 found.1 in
     subst HasDigits (sym found.2) (subst (λ m. HasDigits (Utc m)) (sym moment.2) (IsWritten-utc moment.0.0 (date_time_read text moment.0 moment.1)))
 
 date_stamp_read : (text : List ℕ) (stamp : Stamp) → option_map Date (date_of text) ≡ Some stamp → HasDigits stamp

@@ -1,6 +1,7 @@
 -- The rows of an object in which an override may move all later instances. From RFC 5545, 3.2.13.
 -- `row_at` and `last_day` in the forms that they have once RANGE=THISANDFUTURE is taken; all else stays. Which overrides have it is an argument here; a field of the component will say it.
 use Rattle.std.specs.Prelude.{ℕ, ◌+◌, ◌/◌, Bool, ◌&&◌, if◌then◌else◌, List, [], ◌∷◌, map, filter, flat_map, option_to_list, max, ℤ, pos, negsuc, ◌+ℤ◌, ◌-ℤ◌, int_le, int_lt}
+use Rattle.std.specs.List.{list_any}
 use Rattle.cal_moment.specs.Calendar.{moment_of_date, seconds_since_1970}
 use Rattle.cal_moment.specs.declared.stamp.Stamp.{Stamp}
 use Rattle.cal_model.specs.declared.object.Object.{Object}
@@ -67,15 +68,16 @@ abbrev pub days_earlier : ℤ → ℕ
 days_earlier (pos n) = 0
 days_earlier (negsuc n) = (n + 86400) / 86400
 
-abbrev pub later_last_from : List ZoneTable → ℤ → List Governor → ℕ
-later_last_from zones window [] = 0
-later_last_from zones window (g ∷ gs) = last_of_window window + (3 + greatest (map (λ h. days_earlier (move_of zones h)) (g ∷ gs)))
+-- by how many days at most the overrides that move later instances move one to earlier
+abbrev pub greatest_move : (Numbered → Bool) → List ℕ → Object → ℕ
+greatest_move future moments object =
+    greatest (map (λ g. days_earlier (move_of object.zones g)) (flat_map (λ ids. governors future object ids (starts moments object)) (option_to_list (ids_start object))))
 
--- the last day on which a period may begin: where some override governs, three days after the window's last and so many more as it moves to earlier
+-- the last day on which a period may begin: where some override moves later instances, three days after the window's last and so many more as one moves to earlier
 abbrev pub later_last_day : (Numbered → Bool) → List ℕ → Object → ℤ → ℕ
 later_last_day future moments object window =
     max (last_day object window)
-    (later_last_from object.zones window (flat_map (λ ids. governors future object ids (starts moments object)) (option_to_list (ids_start object))))
+    (if list_any future (overrides object) then last_of_window window + (3 + greatest_move future moments object) else 0)
 
 abbrev pub later_cost_over : (Numbered → Bool) → List ℕ → Object → ℤ → ℕ
 later_cost_over future moments object window = cost_up_to moments object (later_last_day future moments object window)

@@ -13,7 +13,7 @@ use Rattle.cal_moment.specs.declared.stamp.Period.{Period}
 use Rattle.cal_moment.specs.declared.stamp.PeriodEnd.{PeriodEnd}
 use Rattle.cal_moment.specs.declared.stamp.PeriodEnd.TheVariants.{At, After}
 use Rattle.cal_moment.specs.declared.stamp.Stamp.{Stamp}
-use Rattle.cal_moment.specs.declared.stamp.Stamp.TheVariants.{Date, Utc}
+use Rattle.cal_moment.specs.declared.stamp.Stamp.TheVariants.{Date, Floating, Utc}
 use Rattle.cal_model.specs.declared.object.Component.{Component}
 use Rattle.cal_model.specs.declared.object.Kind.TheVariants.{Event}
 use Rattle.cal_model.specs.declared.object.NotResource.{NotResource}
@@ -178,6 +178,13 @@ abbrev pub has_repeat : List Aligned → Bool
 has_repeat [] = false
 has_repeat (id ∷ ids) = list_any (same_aligned id) ids || has_repeat ids
 
+-- the zone that aligning needs is there: a zoned time is read in its own zone, and a floating one in that of the start; beside a DATE or a floating start the digits alone count
+abbrev pub can_align : List ZoneTable → Stamp → Stamp → Bool
+can_align zones id (Date day) = true
+can_align zones id (Floating local) = true
+can_align zones (Floating local) start = is_known (zone_names zones) start
+can_align zones id start = is_known (zone_names zones) id
+
 -- the RECURRENCE-IDs beside the start that the ids of an object are compared beside
 abbrev pub aligned_ids : Object → List Aligned
 aligned_ids object = beside (ids_start object)
@@ -186,7 +193,7 @@ aligned_ids object = beside (ids_start object)
     beside None = []
     beside (Some start) =
         map (λ id. align object.zones id start)
-        (filter (are_known object.zones start) (filter_map (λ (component : Component). component.recurrence_id) object.components))
+        (filter (λ id. can_align object.zones id start) (filter_map (λ (component : Component). component.recurrence_id) object.components))
 
 -- the lines of a component whose dates are looked at
 abbrev pub dated_names : List (List ℕ)

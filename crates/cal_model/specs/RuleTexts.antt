@@ -13,7 +13,7 @@ use Rattle.cal_model.specs.declared.rule.Freq.TheVariants.{Secondly, Minutely, H
 use Rattle.cal_model.specs.declared.rule.Rule.{Rule}
 use Rattle.cal_model.specs.declared.rule.Until.{Until}
 use Rattle.cal_model.specs.declared.rule.Until.TheVariants.{Day as UntilDay, Local as UntilLocal, Utc as UntilUtc}
-use Rattle.cal_model.specs.ValueTexts.{date_of, date_time_of, moment_of_local, integer_of, cut}
+use Rattle.cal_model.specs.ValueTexts.{date_of, date_time_of, utc_of_local, integer_of, cut}
 
 -- What a part can say
 
@@ -73,7 +73,7 @@ abbrev pub day_of : List ℕ → Option DayPart
 day_of text = day_part (ordinal_of (take (length text - 2) text)) (weekday_named (drop (length text - 2) text))
 
 abbrev pub until_time : Local × Bool → Until
-until_time (local, true) = UntilUtc (moment_of_local local)
+until_time (local, true) = UntilUtc (utc_of_local local)
 until_time (local, false) = UntilLocal local
 
 -- a DATE or a DATE-TIME

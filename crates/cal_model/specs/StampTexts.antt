@@ -19,7 +19,7 @@ use Rattle.cal_model.specs.declared.object.Related.{Related}
 use Rattle.cal_model.specs.declared.object.Related.TheVariants.{Start, End}
 use Rattle.cal_model.specs.declared.object.Trigger.{Trigger}
 use Rattle.cal_model.specs.declared.object.Trigger.TheVariants.{At as TriggerAt, From}
-use Rattle.cal_model.specs.ValueTexts.{date_of, date_time_of, moment_of_local, moment_of, integer_of, length_of, is_negative, cut}
+use Rattle.cal_model.specs.ValueTexts.{date_of, date_time_of, utc_of_local, moment_of, integer_of, length_of, is_negative, cut}
 
 -- Parameters
 
@@ -53,7 +53,7 @@ is_known zones (AtUtc moment) = true
 
 -- a DATE-TIME is of UTC where its text says so, else of the zone that is named, else of none
 abbrev pub stamp_of_time : Option ℕ → Local × Bool → Stamp
-stamp_of_time number (local, true) = AtUtc (moment_of_local local)
+stamp_of_time number (local, true) = AtUtc (utc_of_local local)
 stamp_of_time (Some number) (local, false) = Zoned local number
 stamp_of_time None (local, false) = Floating local
 

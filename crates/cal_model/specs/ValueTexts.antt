@@ -57,12 +57,12 @@ date_time_of text =
     else None
 
 -- a local time in UTC as a moment
-abbrev pub moment_of_local : Local → Utc
-moment_of_local local = record { 0 = local.day *ℤ pos 86400 +ℤ pos local.second }
+abbrev pub utc_of_local : Local → Utc
+utc_of_local local = record { 0 = local.day *ℤ pos 86400 +ℤ pos local.second }
 
 -- a DATE-TIME that is read as UTC, with or without the `Z`
 abbrev pub moment_of : List ℕ → Option Utc
-moment_of text = option_map (λ (time : Local × Bool). moment_of_local time.0) (date_time_of text)
+moment_of text = option_map (λ (time : Local × Bool). utc_of_local time.0) (date_time_of text)
 
 -- Numbers (RFC 5545, 3.3.8)
 
