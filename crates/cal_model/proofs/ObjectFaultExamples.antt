@@ -272,7 +272,7 @@ not_stored : map fault_in (
 unfolding is_utf8 chars encode date_of time_of date_time_of count_of integer_of length_of offset_of stamps_in_grammar periods_in_grammar trigger_of rule_in_grammar offset_at exists_in instant_of N.out-Node N.roll-Node B.shown-the_row-Node-0 B.hidden-the_row-Node-0 B.shape-the_row-Node-0 H.out H.roll H.shown H.hidden
 not_stored = refl
 
--- ids are compared as instants, digits or days, beside the start of the component that has none
+-- ids are compared as instants, digits or days, beside the start of the component that has none, and where the zones that this needs are there
 same_instance : map fault_in (
     codes "BEGIN:VTIMEZONE\nTZID:X\nBEGIN:STANDARD\nDTSTART:19700101T000000\nTZOFFSETFROM:+0100\nTZOFFSETTO:+0100\nEND:STANDARD\nEND:VTIMEZONE\nBEGIN:VEVENT\nUID:1\nDTSTART;TZID=X:20250310T100000\nEND:VEVENT\nBEGIN:VEVENT\nUID:1\nRECURRENCE-ID;TZID=X:20250317T100000\nEND:VEVENT\nBEGIN:VEVENT\nUID:1\nRECURRENCE-ID:20250317T090000Z\nEND:VEVENT\n"
     ∷ codes "BEGIN:VTIMEZONE\nTZID:X\nBEGIN:STANDARD\nDTSTART:19700101T000000\nTZOFFSETFROM:+0100\nTZOFFSETTO:+0100\nEND:STANDARD\nEND:VTIMEZONE\nBEGIN:VEVENT\nUID:1\nDTSTART;TZID=X:20250310T100000\nEND:VEVENT\nBEGIN:VEVENT\nUID:1\nRECURRENCE-ID:20250317T100000\nEND:VEVENT\nBEGIN:VEVENT\nUID:1\nRECURRENCE-ID:20250317T090000Z\nEND:VEVENT\n"
@@ -280,6 +280,8 @@ same_instance : map fault_in (
     ∷ codes "BEGIN:VEVENT\nUID:1\nRECURRENCE-ID:20250311T230000Z\nEND:VEVENT\nBEGIN:VEVENT\nUID:1\nDTSTART:20250310T090000\nEND:VEVENT\nBEGIN:VEVENT\nUID:1\nRECURRENCE-ID:20250311T230000\nEND:VEVENT\n"
     ∷ codes "BEGIN:VEVENT\nUID:1\nDTSTART:20250310T090000Z\nEND:VEVENT\nBEGIN:VEVENT\nUID:1\nRECURRENCE-ID;VALUE=DATE:20250311\nEND:VEVENT\nBEGIN:VEVENT\nUID:1\nRECURRENCE-ID:20250311T090000Z\nEND:VEVENT\n"
     ∷ codes "BEGIN:VEVENT\nUID:1\nDTSTART:20250310T090000Z\nEND:VEVENT\nBEGIN:VEVENT\nUID:1\nRECURRENCE-ID;TZID=X:20250311T090000\nEND:VEVENT\nBEGIN:VEVENT\nUID:1\nRECURRENCE-ID;TZID=X:20250311T090000\nEND:VEVENT\n"
+    ∷ codes "BEGIN:VEVENT\nUID:1\nDTSTART;TZID=X:20250310T090000\nEND:VEVENT\nBEGIN:VEVENT\nUID:1\nRECURRENCE-ID:20250311T090000\nEND:VEVENT\nBEGIN:VEVENT\nUID:1\nRECURRENCE-ID:20250311T090000\nEND:VEVENT\n"
+    ∷ codes "BEGIN:VEVENT\nUID:1\nDTSTART;VALUE=DATE:20250310\nEND:VEVENT\nBEGIN:VEVENT\nUID:1\nRECURRENCE-ID;TZID=X:20250311T090000\nEND:VEVENT\nBEGIN:VEVENT\nUID:1\nRECURRENCE-ID;VALUE=DATE:20250311\nEND:VEVENT\n"
     ∷ []
     ) ≡ Some (not_resource SameRecurrenceId)
     ∷ Some (not_resource SameRecurrenceId)
@@ -287,6 +289,8 @@ same_instance : map fault_in (
     ∷ Some (not_resource SameRecurrenceId)
     ∷ None
     ∷ Some (not_resource ZoneMissing)
+    ∷ Some (not_resource ZoneMissing)
+    ∷ Some (not_resource SameRecurrenceId)
     ∷ []
 unfolding is_utf8 chars encode date_of time_of date_time_of count_of integer_of length_of offset_of stamps_in_grammar periods_in_grammar trigger_of rule_in_grammar offset_at exists_in instant_of N.out-Node N.roll-Node B.shown-the_row-Node-0 B.hidden-the_row-Node-0 B.shape-the_row-Node-0 H.out H.roll H.shown H.hidden
 same_instance = refl
