@@ -3,8 +3,8 @@
 //! It is given nothing. It gives the types that contracts see as plain data (lists, texts, an
 //! ordered map, shared values, content lines, component trees, XML elements), the counter of steps,
 //! and what lies outside a program as traits (streams, files, clocks, doors, gates), each with an
-//! implementation in memory and an adapter over the real thing. Its `specs/` define content lines
-//! and component trees.
+//! implementation in memory and an adapter over the real thing. Its `specs/` define content lines,
+//! component trees and XML bodies.
 #![tactic(auto)]
 
 pub mod arc;
