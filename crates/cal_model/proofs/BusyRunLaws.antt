@@ -2,10 +2,11 @@
 use Rattle.std.proofs.Common.{◌≡◌, ◌≢◌, ℕ, zero, suc, Bool, true, false, cond, ◌&&◌, List, [], ◌∷◌, Option, Some, None, refl, sym, ap, ◌∙◌, ◌⊎◌, inl, inr, ⊎_elim, arith}
 use Rattle.std.specs.Prelude.{ℤ, pos, negsuc, ◌+ℤ◌, ◌-ℤ◌, ◌≤ℤ◌, ◌<ℤ◌, int_lt, nat_abs, filter, All, AllPairs}
 use Rattle.std.proofs.lemmas.Int.{ints, by_lt_z}
-use Rattle.std.proofs.lemmas.Bool.{false≢true, eqb-true, eq-eqb, and_parts, and_from}
+use Rattle.std.proofs.lemmas.Bool.{false≢true, eq-eqb, and_parts, and_from}
 use Rattle.std.specs.Option.{is_some}
 use Rattle.std.proofs.lemmas.List.Elements.{All-head, All-tail, All-cons, All-nil}
 use Rattle.std.proofs.lemmas.List.Kept.{AllPairs-cons}
+use Rattle.cal_model.proofs.Everywhere.{same_int-true}
 use Rattle.cal_model.proofs.ListTests.{Keeps, filter_kept}
 use Rattle.cal_model.specs.declared.object.Class.{Class}
 use Rattle.cal_model.specs.declared.object.Class.TheVariants.{Busy, Unavailable, Tentative}
@@ -118,12 +119,6 @@ chain_same (x ∷ xs) (y ∷ ys) a b c d s =
 chain_weaker : (a a' b : ℤ) (rs : List BusyTime) → a' ≤ℤ a → Chain a b rs → Chain a' b rs
 chain_weaker a a' b [] l c = tt
 chain_weaker a a' b (r ∷ rs) l c = (omega (arith, ints, l, c.0), c.1, c.2, c.3, c.4)
-
-same_int-true : (a b : ℤ) → same_int a b ≡ true → a ≡ b
-same_int-true (pos a) (pos b) e = ap pos (eqb-true a b e)
-same_int-true (pos a) (negsuc b) e = absurd (false≢true e)
-same_int-true (negsuc a) (pos b) e = absurd (false≢true e)
-same_int-true (negsuc a) (negsuc b) e = ap negsuc (eqb-true a b e)
 
 same_int-refl : (a : ℤ) → same_int a a ≡ true
 same_int-refl (pos a) = eq-eqb a a refl
