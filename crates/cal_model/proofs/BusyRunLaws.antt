@@ -8,6 +8,7 @@ use Rattle.std.proofs.lemmas.List.Elements.{All-head, All-tail, All-cons, All-ni
 use Rattle.std.proofs.lemmas.List.Kept.{AllPairs-cons}
 use Rattle.cal_model.proofs.Everywhere.{same_int-true}
 use Rattle.cal_model.proofs.ListTests.{Keeps, filter_kept}
+use Rattle.cal_model.proofs.RisingLists.{AllPairs-tail}
 use Rattle.cal_model.specs.declared.object.Class.{Class}
 use Rattle.cal_model.specs.declared.object.Class.TheVariants.{Busy, Unavailable, Tentative}
 use Rattle.cal_model.specs.declared.row.Range.{Range}
@@ -220,9 +221,6 @@ EndsFor run later = run.end ≡ later.start → run.class ≢ later.class
 
 All-of_pairs : (R : BusyTime → BusyTime → Type 0) (x : BusyTime) (xs : List BusyTime) → AllPairs R (x ∷ xs) → All (R x) xs
 All-of_pairs R x xs p = λ k d l. p 0 (suc k) d (omega arith) (omega (arith, l))
-
-AllPairs-tail : (R : BusyTime → BusyTime → Type 0) (x : BusyTime) (xs : List BusyTime) → AllPairs R (x ∷ xs) → AllPairs R xs
-AllPairs-tail R x xs p = λ i j d l m. p (suc i) (suc j) d (omega (arith, l)) (omega (arith, m))
 
 apart_from : (x : BusyTime) (xs : List BusyTime) → All (EndsFor x) xs → Apart x xs
 apart_from x [] p = tt
