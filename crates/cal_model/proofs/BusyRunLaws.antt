@@ -2,11 +2,13 @@
 use Rattle.std.proofs.Common.{◌≡◌, ◌≢◌, ℕ, zero, suc, Bool, true, false, cond, ◌&&◌, List, [], ◌∷◌, Option, Some, None, refl, sym, ap, ◌∙◌, ◌⊎◌, inl, inr, ⊎_elim, arith}
 use Rattle.std.specs.Prelude.{ℤ, pos, negsuc, ◌+ℤ◌, ◌-ℤ◌, ◌≤ℤ◌, ◌<ℤ◌, int_lt, nat_abs, filter, All, AllPairs}
 use Rattle.std.proofs.lemmas.Int.{ints, by_lt_z}
-use Rattle.std.proofs.lemmas.Bool.{false≢true, eqb-true, eq-eqb, and_parts, and_from}
+use Rattle.std.proofs.lemmas.Bool.{false≢true, eq-eqb, and_parts, and_from}
 use Rattle.std.specs.Option.{is_some}
 use Rattle.std.proofs.lemmas.List.Elements.{All-head, All-tail, All-cons, All-nil}
 use Rattle.std.proofs.lemmas.List.Kept.{AllPairs-cons}
+use Rattle.cal_model.proofs.Everywhere.{same_int-true}
 use Rattle.cal_model.proofs.ListTests.{Keeps, filter_kept}
+use Rattle.cal_model.proofs.RisingLists.{AllPairs-tail}
 use Rattle.cal_model.specs.declared.object.Class.{Class}
 use Rattle.cal_model.specs.declared.object.Class.TheVariants.{Busy, Unavailable, Tentative}
 use Rattle.cal_model.specs.declared.row.Range.{Range}
@@ -119,12 +121,6 @@ chain_weaker : (a a' b : ℤ) (rs : List BusyTime) → a' ≤ℤ a → Chain a b
 chain_weaker a a' b [] l c = tt
 chain_weaker a a' b (r ∷ rs) l c = (omega (arith, ints, l, c.0), c.1, c.2, c.3, c.4)
 
-same_int-true : (a b : ℤ) → same_int a b ≡ true → a ≡ b
-same_int-true (pos a) (pos b) e = ap pos (eqb-true a b e)
-same_int-true (pos a) (negsuc b) e = absurd (false≢true e)
-same_int-true (negsuc a) (pos b) e = absurd (false≢true e)
-same_int-true (negsuc a) (negsuc b) e = ap negsuc (eqb-true a b e)
-
 same_int-refl : (a : ℤ) → same_int a a ≡ true
 same_int-refl (pos a) = eq-eqb a a refl
 same_int-refl (negsuc a) = eq-eqb a a refl
@@ -225,9 +221,6 @@ EndsFor run later = run.end ≡ later.start → run.class ≢ later.class
 
 All-of_pairs : (R : BusyTime → BusyTime → Type 0) (x : BusyTime) (xs : List BusyTime) → AllPairs R (x ∷ xs) → All (R x) xs
 All-of_pairs R x xs p = λ k d l. p 0 (suc k) d (omega arith) (omega (arith, l))
-
-AllPairs-tail : (R : BusyTime → BusyTime → Type 0) (x : BusyTime) (xs : List BusyTime) → AllPairs R (x ∷ xs) → AllPairs R xs
-AllPairs-tail R x xs p = λ i j d l m. p (suc i) (suc j) d (omega (arith, l)) (omega (arith, m))
 
 apart_from : (x : BusyTime) (xs : List BusyTime) → All (EndsFor x) xs → Apart x xs
 apart_from x [] p = tt

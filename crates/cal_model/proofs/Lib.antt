@@ -63,6 +63,7 @@ mod ObjectFaultExamples
 mod PrivilegeExamples
 mod PrivilegeLaws
 pub mod ReadObjectLaws
+pub mod ReadNearness
 pub mod EachLemmas
 pub mod RuleBounds
 pub mod OpenComponents
@@ -72,6 +73,7 @@ pub mod ReadingSteps
 pub mod ComponentStamps
 pub mod ServedDates
 pub mod ShortLengths
+pub mod TimedPeriods
 pub mod ZoneParts
 pub mod ListTests
 pub mod FilterLemmas

@@ -140,9 +140,9 @@ line_of-of_times c s own = at_kind c.kind refl
 -- Rows.
 
 -- both moments of a row, in a zone, lie near its nominal start
-record LiesNear (n : ℕ) (at : Fixed) (nominal : ℤ) : Type 0 where
-  start : IsNear n at.start nominal
-  end : IsNear n at.end nominal
+pub record LiesNear (n : ℕ) (at : Fixed) (nominal : ℤ) : Type 0 where
+  pub start : IsNear n at.start nominal
+  pub end : IsNear n at.end nominal
 
 reaches : (n : ℕ) (at : Fixed) (range : Range) (nominal : ℤ) → LiesNear n at nominal → Touches range.start.0 range.end.0 at.start at.end → ((range.start.0 -ℤ pos n) <ℤ nominal) × (nominal <ℤ (range.end.0 +ℤ pos n))
 unfolding Touches
@@ -153,7 +153,7 @@ reaches n at range nominal near touch =
     )
 
 -- a nominal start that a widened range has lies in a window that the widened range meets
-window_meets-of : (m n : ℕ) (range : Range) (nominal : ℤ) → n ≤ m → ((range.start.0 -ℤ pos n) <ℤ nominal) × (nominal <ℤ (range.end.0 +ℤ pos n)) → window_meets m range (int_div_euclid nominal window_seconds) ≡ true
+pub window_meets-of : (m n : ℕ) (range : Range) (nominal : ℤ) → n ≤ m → ((range.start.0 -ℤ pos n) <ℤ nominal) × (nominal <ℤ (range.end.0 +ℤ pos n)) → window_meets m range (int_div_euclid nominal window_seconds) ≡ true
 window_meets-of m n range nominal le near =
     let lies = window-holds nominal in
     let first = near.0 in let last = near.1 in
@@ -165,7 +165,7 @@ nominal_start-is : (object : Object) (row : Row) (is : IsRowOf object row) → n
 nominal_start-is object row is = rw (is.found, is.own) refl
 
 -- the moments of a row, with any end that is near its start
-moments-near : (object : Object) (row : Row) (zone : ZoneTable) (is : IsRowOf object row) (end : ℤ) → HasNearRows object → HasShortOffsets zone → IsNear (172800 + longest object) end row.start →
+pub moments-near : (object : Object) (row : Row) (zone : ZoneTable) (is : IsRowOf object row) (end : ℤ) → HasNearRows object → HasShortOffsets zone → IsNear (172800 + longest object) end row.start →
     LiesNear (259200 + longest object) (record { start = in_zone row.kind zone row.start; end = in_zone row.kind zone end }) (nominal_start object row)
 moments-near object row zone is end near short last =
     let itself : IsNear (172800 + longest object) row.start row.start = (omega (arith, ints), omega (arith, ints)) in

@@ -31,6 +31,7 @@ use Rattle.cal_model.specs.Numbers.{is_empty}
 use Rattle.cal_model.specs.Rows.{masters}
 use Rattle.cal_model.specs.RecurrenceSet.{every_moment}
 use Rattle.cal_model.specs.NextPassing.{IsUsable}
+use Rattle.cal_model.specs.Nearness.{IsTimed}
 use Rattle.cal_model.specs.RuleTexts.{rule_of}
 use Rattle.cal_model.proofs.RuleBounds.{IsUsable-rule_of}
 use Rattle.cal_model.specs.ComponentLines.{all_of, name_of, children_of, kind_named, kind_of, lines_of, has, is_named}
@@ -45,6 +46,7 @@ use Rattle.cal_model.proofs.ReadingSteps.{after_lines, after_nesting, of_tree, a
 use Rattle.cal_model.proofs.ComponentStamps.{is_made, IsNamed, known_by_test, lines_known, each_stamp}
 use Rattle.cal_model.proofs.ServedDates.{child_served}
 use Rattle.cal_model.proofs.ShortLengths.{child_tested, extent_short, periods_short, busy_short}
+use Rattle.cal_model.proofs.TimedPeriods.{periods_timed}
 
 -- Rows of the table that do not hold
 
@@ -153,6 +155,7 @@ component_facts all tree zones name kind object object_kind object_tree object_z
       served = rw source.is (All-from_recursion IsServed (stamps_of (component_of (zone_names zones) child.number source.kind child.tree)) (each_stamp IsServed (zone_names zones) child.number source.kind child.tree (facts.served source.kind source.of_kind)));
       short_extent = rw source.is (All-from_recursion IsShort (lengths_of_extent (extent_of (zone_names zones) source.kind (lines_of child.tree))) (extent_short (zone_names zones) all (lines_of child.tree) source.kind facts.tested));
       short_periods = rw source.is (All-from_recursion HasShortEnd (periods_at (zone_names zones) (codes "RDATE") (lines_of child.tree)) (periods_short (zone_names zones) all (lines_of child.tree) facts.tested));
+      timed_periods = rw source.is (All-from_recursion IsTimed (periods_at (zone_names zones) (codes "RDATE") (lines_of child.tree)) (periods_timed (zone_names zones) (codes "RDATE") (lines_of child.tree)));
       short_busy = rw source.is (All-from_recursion (λ (entry : Option Class × Period). HasShortEnd entry.1) (stored_busy_of (zone_names zones) (lines_of child.tree)) (busy_short (zone_names zones) all (lines_of child.tree) facts.tested));
     }
 

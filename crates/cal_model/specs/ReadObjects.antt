@@ -13,6 +13,7 @@ use Rattle.cal_model.specs.declared.zone.ZonePart.{ZonePart}
 use Rattle.cal_model.specs.declared.zone.ZoneTable.{ZoneTable}
 use Rattle.cal_model.specs.Limits.{first_date, last_date}
 use Rattle.cal_model.specs.Alignment.{written_value}
+use Rattle.cal_model.specs.Nearness.{IsTimed}
 use Rattle.cal_model.specs.NextPassing.{IsUsable}
 use Rattle.cal_model.specs.StampTexts.{is_known}
 use Rattle.cal_model.specs.TableBounds.{IsPart}
@@ -77,6 +78,7 @@ pub record IsReadComponent (object : Object) (component : Component) : Type 0 wh
   pub served : All IsServed (stamps_of component)
   pub short_extent : All IsShort (lengths_of_extent component.extent)
   pub short_periods : All HasShortEnd component.periods
+  pub timed_periods : All IsTimed component.periods
   pub short_busy : All (λ (entry : Option Class × Period). HasShortEnd entry.1) component.stored_busy
 
 -- a table is that of some parts that were read, and so has all that such tables have
