@@ -65,7 +65,6 @@ mod PrivilegeLaws
 pub mod ReadObjectLaws
 pub mod EachLemmas
 pub mod RuleBounds
-pub mod OpenComponents
 pub mod PlacedComponents
 pub mod LineTests
 pub mod ReadingSteps
