@@ -1,8 +1,11 @@
 mod CanonicalXmlExamples
 pub mod CanonicalXmlLemmas
+pub mod FaultsFromFront
 mod LineExamples
 mod MemoryExamples
 pub mod NameMapLemmas
+pub mod Nesting
+pub mod NestingSteps
 pub mod Taking
 mod TreeExamples
 pub mod XmlBodyLaws

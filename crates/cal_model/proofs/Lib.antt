@@ -66,7 +66,6 @@ pub mod ReadObjectLaws
 pub mod ReadNearness
 pub mod EachLemmas
 pub mod RuleBounds
-pub mod OpenComponents
 pub mod PlacedComponents
 pub mod LineTests
 pub mod ReadingSteps

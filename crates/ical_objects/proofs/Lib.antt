@@ -1,5 +1,3 @@
-pub mod NestingSteps
-pub mod FaultsFromFront
 pub mod ComponentLines
 pub mod BuiltTrees
 pub mod PrintedTrees

@@ -1,4 +1,4 @@
 pub mod Building
 pub mod Faults
-pub mod Nesting
+pub use Rattle.cal_base.proofs.Nesting
 pub mod Printing

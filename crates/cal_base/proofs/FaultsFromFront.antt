@@ -7,8 +7,8 @@ use Rattle.std.proofs.lemmas.Option.{slice_get_within, get_or_from_slice_get}
 use Rattle.std.proofs.lemmas.List.Sums.{count_by_more_no, count_by_more_yes}
 use Rattle.cal_base.specs.declared.line.Line.{Line}
 use Rattle.cal_base.specs.ComponentTrees.{is_begin, is_end, component_name, depth, innermost, name_at, fault_at, fault_of_line, fault_of_end, nesting_fault, first, or_else, NestingFault, unclosed}
-use Rattle.ical_objects.proofs.NestingSteps.{Kind, begins, ends, neither, kind_of, open_behind_begin, open_behind_end, open_behind_own, fault_of_stray}
-use Rattle.ical_objects.specs.Nesting.{Opening, fault_of_next, open_behind, fault_from, fault_of_last, innermost_name}
+use Rattle.cal_base.proofs.NestingSteps.{Kind, begins, ends, neither, kind_of, open_behind_begin, open_behind_end, open_behind_own, fault_of_stray}
+use Rattle.cal_base.proofs.Nesting.{Opening, fault_of_next, open_behind, fault_from, fault_of_last, innermost_name}
 
 -- a search that finds nothing in a range
 filter_map_none : (find : ℕ → Option ℕ) (from many : ℕ) → ((place : ℕ) → from ≤ place → place < from + many → find place ≡ None) → filter_map find (range_with_len from many) ≡ []
@@ -56,7 +56,7 @@ abbrev ends_before : List Line → ℕ → ℕ
 ends_before lines number = count_by is_end (take number lines)
 
 -- These components are open before the line of a number: each begins at its line, and behind that line fewer were never open.
-abbrev AreOpen : List Line → ℕ → List Opening → Type 0
+abbrev pub AreOpen : List Line → ℕ → List Opening → Type 0
 AreOpen lines number [] = begins_before lines number ≡ ends_before lines number
 AreOpen lines number (opening ∷ around) =
     (opening.line < number) × (name_at lines (Some opening.line) ≡ opening.name) × (begins_before lines number ≡ suc (length around) + ends_before lines number)
@@ -66,10 +66,10 @@ counts : (lines : List Line) (number : ℕ) (open_ones : List Opening) → AreOp
 counts lines number [] are = omega (arith, are)
 counts lines number (opening ∷ around) are = are.2
 
-depth_is : (lines : List Line) (number : ℕ) (open_ones : List Opening) → AreOpen lines number open_ones → depth lines number ≡ length open_ones
+pub depth_is : (lines : List Line) (number : ℕ) (open_ones : List Opening) → AreOpen lines number open_ones → depth lines number ≡ length open_ones
 depth_is lines number open_ones are = omega (arith, counts lines number open_ones are)
 
-innermost_line_is : (lines : List Line) (number : ℕ) (opening : Opening) (around : List Opening) → AreOpen lines number (opening ∷ around) → innermost lines number ≡ Some opening.line
+pub innermost_line_is : (lines : List Line) (number : ℕ) (opening : Opening) (around : List Opening) → AreOpen lines number (opening ∷ around) → innermost lines number ≡ Some opening.line
 innermost_line_is lines number opening around are =
     let outside : depth lines opening.line ≡ length around = depth_is lines opening.line around are.4 in
     let inside : depth lines number ≡ suc (length around) = depth_is lines number (opening ∷ around) are in
@@ -169,7 +169,7 @@ faults_behind_one lines number many =
     ∙ ap (λ next. or_else (fault_at lines number) (faults_behind lines next many)) (add-one number)
 
 -- behind a line without fault
-open_on : (lines : List Line) (number : ℕ) (open_ones : List Opening) (line : Line) → AreOpen lines number open_ones → slice_get lines number ≡ Some line → fault_of_next number open_ones line ≡ None → Kind line
+pub open_on : (lines : List Line) (number : ℕ) (open_ones : List Opening) (line : Line) → AreOpen lines number open_ones → slice_get lines number ≡ Some line → fault_of_next number open_ones line ≡ None → Kind line
     → AreOpen lines (suc number) (open_behind number open_ones line)
 open_on lines number open_ones line are here none (begins begin no_end) =
     subst (AreOpen lines (suc number)) (sym (open_behind_begin number open_ones line begin)) (open_begin lines number open_ones line are here begin no_end)
@@ -184,7 +184,7 @@ or_else_on : (fault one other : Option NestingFault) → (fault ≡ None → one
 or_else_on None one other same = same refl
 or_else_on (Some fault) one other same = refl
 
-slice_get_seam : (front rest : List Line) (line : Line) → slice_get (front ++ line ∷ rest) (length front) ≡ Some line
+pub slice_get_seam : (front rest : List Line) (line : Line) → slice_get (front ++ line ∷ rest) (length front) ≡ Some line
 slice_get_seam [] rest line = refl
 slice_get_seam (one ∷ front) rest line = slice_get_seam front rest line
 
@@ -198,7 +198,7 @@ end_is (line ∷ lines) number [] so_many are =
 end_is (line ∷ lines) number (opening ∷ around) so_many are =
     ap (λ found. elim found [ None ↦ None | Some place ↦ Some (unclosed place) ]) (ap (innermost (line ∷ lines)) (sym so_many) ∙ innermost_line_is (line ∷ lines) number opening around are)
 
-so_many_on : (front : List Line) (line : Line) (number : ℕ) → number ≡ length front → suc number ≡ length (front ++ line ∷ [])
+pub so_many_on : (front : List Line) (line : Line) (number : ℕ) → number ≡ length front → suc number ≡ length (front ++ line ∷ [])
 so_many_on front line number so_many = simp length-append (omega (arith, so_many))
 
 faults_from_front : (rest front lines : List Line) (number : ℕ) (open_ones : List Opening) → lines ≡ front ++ rest → number ≡ length front → AreOpen lines number open_ones

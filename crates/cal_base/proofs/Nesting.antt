@@ -1,5 +1,5 @@
--- The nesting of lines read from the front, with the components that are open: what the code keeps, and what the proofs show to
--- be the faults of `ComponentTrees`.
+-- The nesting of lines read from the front, with the components that are open: what code that builds a tree keeps, and what the
+-- proofs show to be the faults of `ComponentTrees`.
 use Rattle.std.specs.Prelude.{ℕ, not, ◌&&◌, ◌||◌, ◌==◌, nat_lt, nat_le, if◌then◌else◌, List, [], ◌∷◌, length, Option, Some, None, suc}
 use Rattle.std.specs.Str.{bytes_eq}
 use Rattle.cal_base.specs.declared.line.Line.{Line}
