@@ -8,7 +8,7 @@ use Rattle.std.proofs.lemmas.List.Sums.{count_by_more_no, count_by_more_yes}
 use Rattle.cal_base.specs.declared.line.Line.{Line}
 use Rattle.cal_base.specs.ComponentTrees.{is_begin, is_end, component_name, depth, innermost, name_at, fault_at, fault_of_line, fault_of_end, nesting_fault, first, or_else, NestingFault, unclosed}
 use Rattle.cal_base.proofs.NestingSteps.{Kind, begins, ends, neither, kind_of, open_behind_begin, open_behind_end, open_behind_own, fault_of_stray}
-use Rattle.cal_base.proofs.Nesting.{Opening, fault_of_next, open_behind, fault_from, fault_of_last, innermost_name}
+use Rattle.cal_base.specs.Nesting.{Opening, fault_of_next, open_behind, fault_from, fault_of_last, innermost_name}
 
 -- a search that finds nothing in a range
 filter_map_none : (find : ℕ → Option ℕ) (from many : ℕ) → ((place : ℕ) → from ≤ place → place < from + many → find place ≡ None) → filter_map find (range_with_len from many) ≡ []

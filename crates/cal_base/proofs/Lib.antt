@@ -4,7 +4,6 @@ pub mod FaultsFromFront
 mod LineExamples
 mod MemoryExamples
 pub mod NameMapLemmas
-pub mod Nesting
 pub mod NestingSteps
 pub mod Taking
 mod TreeExamples

@@ -6,7 +6,7 @@ use Rattle.std.proofs.lemmas.Slice.Eq.{bytes_eq-Decides}
 use Rattle.std.proofs.lemmas.Bool.{cases_Bool, lt-ltb, ne_eqb}
 use Rattle.cal_base.specs.declared.line.Line.{Line}
 use Rattle.cal_base.specs.ComponentTrees.{is_begin, is_end, component_name, NestingFault, wrong_end, too_deep, Level, nothing_more, with_line, with_begin, with_before}
-use Rattle.cal_base.proofs.Nesting.{Opening, fault_of_next, open_behind, innermost_name, without_innermost}
+use Rattle.cal_base.specs.Nesting.{Opening, fault_of_next, open_behind, innermost_name, without_innermost}
 
 -- a line is a BEGIN, an END or neither
 pub data Kind (line : Line) : Type 0 where

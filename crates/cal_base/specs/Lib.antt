@@ -6,6 +6,7 @@ pub mod LineGrammar
 pub mod Memory
 pub mod NameMap
 pub mod NameMapLends
+pub mod Nesting
 pub mod Octets
 pub mod Outside
 pub mod Reserved

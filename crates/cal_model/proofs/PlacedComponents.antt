@@ -10,7 +10,7 @@ use Rattle.cal_base.specs.declared.line.Node.TheOpen.{Node-F}
 use Rattle.cal_base.specs.declared.line.Node.TheViews.{out-roll-Node}
 use Rattle.cal_base.specs.ComponentTrees.{component_name, depth, innermost, name_at, NestingFault, nesting_fault, Level, nothing_more, component, with_line, with_begin, with_before, levels_before, outermost, tree_of, first, or_else}
 use Rattle.cal_model.specs.ComponentLines.{lines_of, name_of, children_of}
-use Rattle.cal_base.proofs.Nesting.{Opening, fault_of_next, open_behind, fault_from, fault_of_last}
+use Rattle.cal_base.specs.Nesting.{Opening, fault_of_next, open_behind, fault_from, fault_of_last}
 use Rattle.cal_base.proofs.NestingSteps.{Kind, begins, ends, neither, kind_of, open_behind_begin, open_behind_end, open_behind_own, fault_of_stray, before_begin, before_end, before_own}
 use Rattle.cal_base.proofs.FaultsFromFront.{AreOpen, depth_is, innermost_line_is, open_on, slice_get_seam, so_many_on, nesting_fault-from_front}
 

@@ -9,7 +9,7 @@ use Rattle.ical_objects.specs.declared.stack.OpenComponent.{OpenComponent}
 use Rattle.ical_objects.specs.declared.from_lines.Progress.{Progress}
 use Rattle.ical_objects.specs.declared.from_lines.Progress.TheVariants.{Nothing, Within, Whole}
 use Rattle.ical_objects.specs.Faults.{IsFaultOf}
-use Rattle.cal_base.proofs.Nesting.{Opening, fault_from}
+use Rattle.cal_base.specs.Nesting.{Opening, fault_from}
 
 abbrev pub opening_of : OpenComponent → Opening
 opening_of component = record { line = component.begin; name = component.name }

@@ -1,4 +1,3 @@
 pub mod Building
 pub mod Faults
-pub use Rattle.cal_base.proofs.Nesting
 pub mod Printing

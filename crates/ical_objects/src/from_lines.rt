@@ -2,7 +2,7 @@
 ghost use Rattle.std.specs.Prelude.{◌≡◌, ℕ, ◌<◌, ◌^◌, [], length, None, Some, All, IfOk, IfErr, IsTrue, IsFalse};
 ghost use Rattle.cal_base.specs.ComponentTrees.{is_begin, is_end, component_name, nesting_fault, tree_of};
 ghost use Rattle.cal_base.specs.LineGrammar.{IsReadLine, IsComponent};
-ghost use Rattle.ical_objects.specs.Nesting.{fault_from};
+ghost use Rattle.cal_base.specs.Nesting.{fault_from};
 ghost use Rattle.ical_objects.specs.Faults.{IsFaultOf};
 ghost use Rattle.ical_objects.specs.Building.{IsBehind, IsStep, IsStop, whole_node, ended, openings, tree_with};
 

@@ -2,7 +2,7 @@ use Rattle.std.proofs.Common.{◌≡◌, [], ◌∷◌, length, refl, subst, sym
 use Rattle.std.specs.Vec.Iter.{into_iter_items}
 use Rattle.std.proofs.lemmas.Grind.{common_steps}
 use Rattle.cal_base.specs.ComponentTrees.{nesting_fault, tree_of}
-use Rattle.cal_base.proofs.Nesting.{fault_from}
+use Rattle.cal_base.specs.Nesting.{fault_from}
 use Rattle.ical_objects.specs.Building.{openings}
 use Rattle.ical_objects.specs.Faults.{IsFaultOf}
 use Rattle.ical_objects.proofs.BuiltTrees.{nested_tree}
