@@ -1,5 +1,5 @@
 -- Worked examples of content lines: those of RFC 5545, 3.1 and 3.2, and those that tell two readings apart.
-use Rattle.std.specs.Prelude.{◌≡◌, refl, ℕ, List, [], ◌∷◌, ◌++◌, Option, Some, None, Result, Ok, Err, codes, length, map, ◌+◌}
+use Rattle.std.specs.Prelude.{◌≡◌, refl, ℕ, List, [], ◌∷◌, ◌++◌, Some, None, codes, length, map, ◌+◌}
 use Rattle.std.specs.Str.{is_utf8, chars}
 use lib.Utf8.{encode}
 use Rattle.cal_base.specs.declared.line.Line.{Line}

@@ -3,7 +3,6 @@ use Rattle.std.specs.Prelude.{◌≡◌, refl, ℕ, List, [], ◌∷◌, ◌++�
 use Rattle.std.specs.Str.{is_utf8, chars}
 use lib.Utf8.{encode}
 use Rattle.cal_base.specs.declared.line.Line.{Line}
-use Rattle.cal_base.specs.declared.line.Node.{Node}
 use Rattle.cal_base.specs.ContentLines.{lines_of}
 use Rattle.cal_base.specs.ComponentTrees.{tree_of, nesting_fault, unclosed, wrong_end, too_deep, NestingFault, component}
 
