@@ -1,4 +1,4 @@
--- The nesting of lines read from the front, with the components that are open: what code that builds a tree keeps, and what the
+-- The nesting of lines (RFC 5545, 3.4 and 3.6) read from the front, with the components that are open: what code that builds a tree keeps, and what the
 -- proofs show to be the faults of `ComponentTrees`.
 use Rattle.std.specs.Prelude.{ℕ, not, ◌&&◌, ◌||◌, ◌==◌, nat_lt, nat_le, if◌then◌else◌, List, [], ◌∷◌, length, Option, Some, None, suc}
 use Rattle.std.specs.Str.{bytes_eq}

@@ -1,4 +1,4 @@
--- The first fault of a body: its place, and why it is one. A table says what can stand at a place, given the markup before it;
+-- The first fault of a body (XML 1.0; Namespaces in XML 1.0; RFC 4918, 8.2): its place, and why it is one. A table says what can stand at a place, given the markup before it;
 -- the first markup for which it has a row decides, and the end comes last.
 use Rattle.std.specs.Prelude.{ℕ, suc, ◌+◌, Bool, true, false, not, ◌&&◌, ◌||◌, ◌==◌, nat_lt, nat_le, if◌then◌else◌, List, [], ◌∷◌, length, take, drop, Option, Some, None, is_some, option_map, codes}
 use Rattle.std.specs.List.{list_any, take_while}

@@ -1,4 +1,4 @@
--- Where the value of a line or the text of a rule leaves its grammar. Each place is that of a whole text, as in `cal_moment`: the first
+-- Where the value of a line or the text of a rule leaves its grammar (RFC 5545, 3.3). Each place is that of a whole text, as in `cal_moment`: the first
 -- octet at which no text of the grammar goes on. Each of the three is a table, which is read from top to bottom.
 use Rattle.std.specs.Prelude.{◌≡◌, ℕ, false, List, Option, Some, None}
 use Rattle.std.specs.List.{list_all}

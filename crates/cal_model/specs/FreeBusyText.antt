@@ -1,4 +1,5 @@
 -- The text of the answer to a query for busy times: a VCALENDAR with one VFREEBUSY (RFC 4791, 7.10; RFC 5545, 3.6.4 and 3.8.2.6).
+-- A list of whole lines; which runs there are stands in `BusyRuns`.
 use Rattle.std.specs.Prelude.{ℕ, List, [], ◌∷◌, ◌++◌, map, codes, ℤ}
 use Rattle.cal_moment.specs.Calendar.{moment_of_seconds}
 use Rattle.cal_moment.specs.Texts.{written_local}

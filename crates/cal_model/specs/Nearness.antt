@@ -1,4 +1,5 @@
 -- How far times may lie from one another: what is asked of zones and of periods so that the rows of an object lie near their starts. From RFC 5545, 3.3.9 and 3.3.14.
+-- Bounds alone: no row is made here.
 use Rattle.std.specs.Prelude.{◌≡◌, ℕ, All, Bool, true, false, ℤ, pos, ◌+ℤ◌, ◌≤ℤ◌, ◌<ℤ◌, slice_get, Some}
 use Rattle.cal_moment.specs.declared.stamp.Period.{Period}
 use Rattle.cal_moment.specs.declared.stamp.PeriodEnd.{PeriodEnd}

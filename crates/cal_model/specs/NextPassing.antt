@@ -1,4 +1,4 @@
--- The next local moment that passes a rule: the least one at or after another, up to the end of 2101. It says which moment that is, and not where to look for it.
+-- The next local moment that passes a rule (RFC 5545, 3.3.10): the least one at or after another, up to the end of 2101. It says which moment that is, and not where to look for it.
 use Rattle.std.specs.Prelude.{◌≡◌, ◌⊎◌, ℕ, ◌*◌, ◌<◌, ◌≤◌, Bool, true, false, All, ℤ, pos, negsuc, neg_ℤ, ◌≤ℤ◌, IfSome}
 use Rattle.std.specs.Int.{IsInRange}
 use Rattle.cal_moment.specs.declared.stamp.Local.{Local}

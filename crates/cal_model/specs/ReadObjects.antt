@@ -1,4 +1,4 @@
--- What holds of each calendar object that was read, and what the crates above rest on. How an object is read stands in `ObjectReading`.
+-- What holds of each calendar object that was read (RFC 5545, 3.6; RFC 4791, 4.1), and what the crates above rest on. How an object is read stands in `ObjectReading`.
 use Rattle.std.specs.Prelude.{◌≡◌, ℕ, ◌<◌, ◌≤◌, true, List, [], ◌∷◌, ◌++◌, flat_map, length, option_to_list, slice_get, Option, Some, Ok, All, ◌≤ℤ◌}
 use Rattle.cal_base.specs.declared.line.Node.{Node}
 use Rattle.cal_moment.specs.declared.stamp.Stamp.{Stamp}

@@ -1,4 +1,5 @@
 -- Whether a row of an object meets a range: by its own time, or by an alarm that counts from it (RFC 4791, 9.9).
+-- A test of one row; which rows there are, and how they are found, stands elsewhere.
 use Rattle.std.specs.Prelude.{Bool, true, false, ◌&&◌, ◌||◌, List, option_to_list, slice_get}
 use Rattle.std.specs.List.{list_any}
 use Rattle.cal_model.specs.declared.object.Alarm.{Alarm}

@@ -1,4 +1,5 @@
--- What a part of a zone and its table keep, and how far from 1970 the conversions reach.
+-- What a part of a zone and its table keep, and how far from 1970 the conversions reach (RFC 5545, 3.3.14 and 3.6.5).
+-- Bounds alone: nothing is converted here.
 use Rattle.std.specs.Prelude.{◌≡◌, ℕ, false, ◌<◌, All, List, get_or, length, ℤ, pos, neg_ℤ, ◌<ℤ◌}
 use Rattle.cal_moment.specs.Calendar.{IsBetween}
 use Rattle.cal_model.specs.declared.rule.Rule.{Rule}
