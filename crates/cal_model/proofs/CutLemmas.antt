@@ -45,10 +45,6 @@ no_octets (c ∷ text) e = absurd (omega (arith, eqb-true (length (c ∷ text)) 
 
 -- Digits
 
--- the number that digits are, put behind another
-after_digits : ℕ → List ℕ → ℕ
-after_digits n text = fold (λ m octet. m * 10 + (octet - 48)) n text
-
 module _ (count n : ℕ) (h : n < 10 ^ suc count) where
   pub first_below : n / 10 ^ count < 10
   first_below = div_below n (10 ^ count) 10 (one-le-pow count 10 (omega arith)) (omega (arith, pow-suc 10 count, h))

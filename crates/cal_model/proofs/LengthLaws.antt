@@ -24,9 +24,6 @@ TimeUnit = Domain unit_letter
 abbrev letter_and_seconds : TimeUnit → ℕ × ℕ
 letter_and_seconds unit = (unit_letter unit, unit_seconds unit)
 
-same_letters : map letter_and_seconds time_units ≡ time_letters
-same_letters = refl
-
 -- an option that is not empty has no octet count of 0
 pub some_octets : (text : List ℕ) → text ≢ [] → (length text == 0) ≡ false
 some_octets [] some = absurd (some refl)
@@ -57,9 +54,6 @@ parts_found seconds units text o = elim o [
   | None ↦ parts_of units text
   | Some found ↦ option_map (λ others. found.0 * seconds + others) (parts_of units found.1)
 ]
-
-parts_of-found : (unit : TimeUnit) (units : List TimeUnit) (text : List ℕ) → parts_of (map letter_and_seconds (unit ∷ units)) text ≡ parts_found (unit_seconds unit) (map letter_and_seconds units) text (count_before (unit_letter unit) text)
-parts_of-found unit units text = refl
 
 parts_of-SpellsParts : (units : List TimeUnit) (text : List ℕ) (seconds : ℕ) → AreLetters units → SpellsParts units text seconds → parts_of (map letter_and_seconds units) text ≡ Some seconds
 parts_of-SpellsParts [] text seconds letters s = rw (s.0, s.1) refl

@@ -144,9 +144,6 @@ integer_fronts {X} keep narrow text h x e =
 abbrev bounded : ℕ → ℕ → ℕ → Option ℕ
 bounded low high n = if nat_le low n && nat_le n high then Some n else None
 
-between-pos : (low high n : ℕ) → if_between low high (pos n) ≡ bounded low high n
-between-pos low high n = refl
-
 between-one : (low high n : ℕ) → low ≤ n → n ≤ high → if_between low high (pos n) ≡ Some n
 between-one low high n some most = ap (λ b. if b then Some n else None) (λ i. le-leb low n some i && le-leb n high most i)
 

@@ -1,5 +1,6 @@
 -- Examples of overlap at the edges of each line, after RFC 4791, 9.9. The instance is from 9 to 10, or at 9, in hours.
-use Rattle.std.specs.Prelude.{◌≡◌, refl, ℕ, ◌*◌, true, false, [], ◌∷◌, ℤ, pos, neg_ℤ, Some, None}
+use Rattle.std.specs.Prelude.{◌≡◌, refl, ℕ, ◌*◌, true, false, List, [], ◌∷◌, codes, ℤ, pos, neg_ℤ, Option, Some, None, option_map}
+use Rattle.cal_base.specs.declared.line.Param.{Param}
 use Rattle.cal_moment.specs.declared.stamp.Stamp.{Stamp}
 use Rattle.cal_moment.specs.declared.stamp.Stamp.TheVariants.{Utc}
 use Rattle.cal_moment.specs.declared.stamp.PeriodEnd.TheVariants.{After}
@@ -19,8 +20,11 @@ use Rattle.cal_model.proofs.RowExamples.{event, days_and_time, date, floating, u
 use Rattle.cal_model.proofs.ZoneExamples.{new_york, written}
 use Rattle.cal_model.specs.Zones.{offset_at, instant_of}
 use Rattle.cal_model.specs.Alignment.{utc_zone}
+use Rattle.cal_model.specs.DateProperties.{DatedLine, date_of_line}
 use Rattle.cal_model.specs.Rows.{row_of}
-use Rattle.cal_model.specs.Overlap.{overlaps, row_overlaps, alarm_overlaps, date_overlaps, some_date_overlaps, read_as_utc, effective_end_overlaps}
+use Rattle.cal_model.specs.StampTexts.{stamps_in_grammar}
+use Rattle.cal_model.specs.ValueTexts.{date_of, time_of, date_time_of}
+use Rattle.cal_model.specs.Overlap.{overlaps, row_overlaps, alarm_overlaps, is_in, date_in, effective_end}
 
 abbrev pub hour : ℕ → ℤ
 hour h = pos (3600 * h)
@@ -171,19 +175,25 @@ to_do_done_and_made = (refl, refl, refl, refl)
 
 -- Date properties, values of no zone read in New York.
 
-dates : (date_overlaps [] new_york (floating 2025 1 6 9 0) (on 6 14 6 15) ≡ true) × (date_overlaps [] new_york (date 2025 1 6) (on 6 5 6 6) ≡ true)
-    × (date_overlaps [] new_york (utc 2025 1 6 9 0) (on 6 9 6 10) ≡ true) × (date_overlaps (utc_zone ∷ []) new_york (zoned 2025 1 6 9 0) (on 6 9 6 10) ≡ true)
-    × (date_overlaps [] new_york (utc 2025 1 6 9 0) (on 6 8 6 9) ≡ false)
+dates : (is_in (on 6 14 6 15) (date_in [] new_york (floating 2025 1 6 9 0)) ≡ true) × (is_in (on 6 5 6 6) (date_in [] new_york (date 2025 1 6)) ≡ true)
+    × (is_in (on 6 9 6 10) (date_in [] new_york (utc 2025 1 6 9 0)) ≡ true) × (is_in (on 6 9 6 10) (date_in (utc_zone ∷ []) new_york (zoned 2025 1 6 9 0)) ≡ true)
+    × (is_in (on 6 8 6 9) (date_in [] new_york (utc 2025 1 6 9 0)) ≡ false)
 unfolding instant_of offset_at
 dates = (refl, refl, refl, refl, refl)
 
 -- CREATED without Z is UTC all the same; a zone that is nowhere defined gives no moment
-read_in_utc : (some_date_overlaps [] new_york (Some (read_as_utc (record { day = pos 20094; second = 32400 }))) (on 6 9 6 10) ≡ true) × (some_date_overlaps [] new_york None (on 1 0 31 0) ≡ false)
-unfolding instant_of offset_at
-read_in_utc = (refl, refl)
+abbrev moment_in : List ℕ → List Param → Option ℤ
+moment_in name params =
+    option_map (λ (date : DatedLine). date.moment)
+    (date_of_line (record { zones = []; floating = new_york }) false (record { name = name; params = params; value = codes "20250106T090000"; raw = [] }))
+
+read_in_utc : (moment_in (codes "CREATED") [] ≡ Some (written 2025 1 6 9 0 0)) × (moment_in (codes "DTSTART") [] ≡ Some (written 2025 1 6 14 0 0))
+    × (moment_in (codes "DTSTART") (record { name = codes "TZID"; values = codes "Nowhere" ∷ [] } ∷ []) ≡ None)
+unfolding stamps_in_grammar date_of time_of date_time_of instant_of offset_at
+read_in_utc = (refl, refl, refl)
 
 -- the end that DTSTART and DURATION give: a day and an hour after 09:00 of the 6th
-effective : (effective_end_overlaps [] new_york (floating 2025 1 6 9 0) (days_and_time (pos 1) (pos 3600)) (on 7 15 7 16) ≡ true)
-    × (effective_end_overlaps [] new_york (date 2025 1 6) (days_and_time (pos 1) (pos 0)) (on 7 5 7 6) ≡ true)
+effective : (is_in (on 7 15 7 16) (effective_end [] new_york (floating 2025 1 6 9 0) (days_and_time (pos 1) (pos 3600))) ≡ true)
+    × (is_in (on 7 5 7 6) (effective_end [] new_york (date 2025 1 6) (days_and_time (pos 1) (pos 0))) ≡ true)
 unfolding instant_of offset_at
 effective = (refl, refl)

@@ -182,6 +182,11 @@ seconds : filter (passes (record (each Daily) { by_second = 0 ∷ 59 ∷ [] }) (
 unfolding year_of month_of day_of_month day_passes time_passes counted_from
 seconds = refl
 
+each_half_hour_twice : filter (passes (record (each Hourly) { by_minute = 30 ∷ []; by_second = 15 ∷ 45 ∷ [] }) (moment_of_date 2025 1 1 9 30 0) false) (map (λ n. moment_of_date 2025 1 1 10 29 0 + 15 * n) (counted_from 0 12))
+    ≡ moment_of_date 2025 1 1 10 30 15 ∷ moment_of_date 2025 1 1 10 30 45 ∷ []
+unfolding year_of month_of day_of_month day_passes time_passes counted_from
+each_half_hour_twice = refl
+
 second_of_the_start : filter (passes (record (each Daily) { by_minute = 1 ∷ [] }) (moment_of_date 2025 1 1 9 0 30) false) (map (λ n. moment_of_date 2025 1 2 8 59 0 + n) (counted_from 0 180))
     ≡ moment_of_date 2025 1 2 9 1 30 ∷ []
 unfolding year_of month_of day_of_month day_passes time_passes counted_from

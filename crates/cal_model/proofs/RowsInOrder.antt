@@ -98,11 +98,6 @@ different_numbers object n m a b e =
 
 -- Overrides.
 
-at_most_one : {A B C : Type 0} (g : A → B → C) (o : Option A) (r : Option B) → length (flat_map (λ s. map (g s) (option_to_list r)) (option_to_list o)) ≤ 1
-at_most_one g None r = omega arith
-at_most_one g (Some s) None = omega arith
-at_most_one g (Some s) (Some x) = omega arith
-
 one_override_row : (object : Object) (ids : Stamp) (all : List ℤ) (n : Numbered) (own id : Option Stamp) →
     length (flat_map (λ s. map (λ x. row_of (id_of_override object ids all x) (value_of object.zones s) (end_from object.zones n.component (value_of object.zones s)) n.number (kind_of ids) (kind_of s)) (map (λ x. align object.zones x ids) (option_to_list id))) (option_to_list own)) ≤ 1
 one_override_row object ids all n None id = omega arith

@@ -1,5 +1,5 @@
 -- The instant of a local time, found stretch by stretch.
-use Rattle.std.proofs.Common.{◌≡◌, ℕ, zero, suc, ◌-◌, ◌<◌, ◌≤◌, List, [], ◌∷◌, length, get_or, refl, arith, Bool, true, false, nat_lt, ◌==◌, ◌&&◌, ℤ, pos, ◌+ℤ◌, ◌-ℤ◌, ◌<ℤ◌, ◌≤ℤ◌, inl, inr}
+use Rattle.std.proofs.Common.{◌≡◌, ℕ, zero, suc, ◌-◌, ◌<◌, ◌≤◌, List, [], ◌∷◌, length, refl, arith, Bool, true, false, nat_lt, ◌==◌, ◌&&◌, ℤ, pos, ◌+ℤ◌, ◌-ℤ◌, ◌<ℤ◌, ◌≤ℤ◌, inl, inr}
 use Rattle.std.specs.Prelude.{int_le, int_lt, filter, not}
 use Rattle.std.specs.List.{AllWithin}
 use Rattle.std.proofs.lemmas.Int.{ints, by_lt_z}
@@ -272,13 +272,3 @@ has_local-late table l n (suc j) h late lt within =
     let under : (l -ℤ offset_of_stretch table (suc j)) <ℤ (nth table.onsets j).at.0 = omega (arith, ints, gt, high) in
     not_and (begins_by table.onsets (suc j) (l -ℤ offset_of_stretch table (suc j))) (ends_after table.onsets (suc j) (l -ℤ offset_of_stretch table (suc j)))
     (begins_by-after table.onsets j (l -ℤ offset_of_stretch table (suc j)) under)
-
--- nor does an onset a day or more before a local time lead past it
-pub leads_past-early : (table : ZoneTable) (l : ℤ) (n : ℕ) → IsTable table → AllWithin (λ (o : Onset). int_le o.at.0 (l -ℤ pos 86400) ≡ true) table.onsets 0 n → n ≤ length table.onsets → AllWithin (λ (o : Onset). leads_past l o ≡ false) table.onsets 0 n
-leads_past-early table l n h early within = λ k d low high.
-    let by = early k d low high in
-    let le : (get_or table.onsets k d).at.0 ≤ℤ (l -ℤ pos 86400) = grind (arith, ints, by) in
-    let bound = h.offsets k d (omega (arith, high, within)) in
-    let top = bound.1 in
-    let over : (get_or table.onsets k d).at.0 ≤ℤ (l -ℤ (get_or table.onsets k d).offset) = omega (arith, ints, le, top) in
-    grind (arith, ints, over)

@@ -2,9 +2,7 @@
 -- One table: a line for each kind of component, what each line asks, and which line fits. A range has its start and not its end. No order of tests is said.
 use Rattle.std.specs.Prelude.{◌+◌, Bool, true, false, ◌&&◌, ◌||◌, if◌then◌else◌, List, map, option_map, option_to_list, is_some, ℤ, pos, ◌+ℤ◌, ◌*ℤ◌, int_le, int_lt, Option, Some, None}
 use Rattle.cal_moment.specs.declared.stamp.Stamp.{Stamp}
-use Rattle.cal_moment.specs.declared.stamp.Stamp.TheVariants.{Date, Floating}
-use Rattle.cal_moment.specs.declared.stamp.Stamp.TheVariants as stamp
-use Rattle.cal_moment.specs.declared.stamp.Local.{Local}
+use Rattle.cal_moment.specs.declared.stamp.Stamp.TheVariants.{Date}
 use Rattle.cal_moment.specs.declared.stamp.Utc.{Utc}
 use Rattle.cal_moment.specs.declared.stamp.Length.{Length}
 use Rattle.cal_moment.specs.declared.stamp.Period.{Period}
@@ -202,26 +200,12 @@ some_trigger alarm range t =
 abbrev pub alarm_overlaps : Alarm → Component → Option Fixed → Range → Bool
 alarm_overlaps alarm c at range = list_any (some_trigger alarm range) (option_to_list (first_trigger alarm.trigger c at))
 
--- Date properties: COMPLETED, CREATED, DTEND, DTSTAMP, DTSTART, DUE and LAST-MODIFIED, by themselves.
-
--- a DATE-TIME that is read as UTC whether it ends in Z or not: those of COMPLETED, CREATED, DTSTAMP and LAST-MODIFIED
-abbrev pub read_as_utc : Local → Stamp
-read_as_utc l = stamp.Utc (record { 0 = written_value (Floating l) })
+-- Date properties by themselves. Which lines these are, and how each is read, stands in `DateProperties`.
 
 -- the instant of a written stamp, floating and DATE values read in the given zone
 abbrev pub date_in : List ZoneTable → ZoneTable → Stamp → ℤ
 date_in zones zone date = in_zone (kind_of date) zone (value_of zones date)
 
-abbrev pub date_overlaps : List ZoneTable → ZoneTable → Stamp → Range → Bool
-date_overlaps zones zone date range = is_in range (date_in zones zone date)
-
 -- the end of a component by its DTSTART and DURATION, in place of a DTEND or DUE
 abbrev pub effective_end : List ZoneTable → ZoneTable → Stamp → Length → ℤ
 effective_end zones zone s length = in_zone (kind_of s) zone (plus_length (reading_of zones s) (value_of zones s) length)
-
-abbrev pub effective_end_overlaps : List ZoneTable → ZoneTable → Stamp → Length → Range → Bool
-effective_end_overlaps zones zone s length range = is_in range (effective_end zones zone s length)
-
--- a value whose zone is nowhere defined is no stamp, and passes no range
-abbrev pub some_date_overlaps : List ZoneTable → ZoneTable → Option Stamp → Range → Bool
-some_date_overlaps zones zone date range = list_any (λ s. date_overlaps zones zone s range) (option_to_list date)

@@ -33,7 +33,7 @@ fn offset_of(onsets: &[Onset], k: usize) -> i32
 /// The offset of the latest onset at or before an instant, or the offset before all of them.
 #[tactic(auto, using(crate::proofs::Onsets::offset_among_none, crate::proofs::Onsets::offset_among_last), unfolding(crate::specs::Zones::offset_at))]
 pub fn offset_at(table: &ZoneTable, at: Utc) -> i32
-    requires { IsTable table.now }
+    requires { IsRising table.now.onsets }
     ensures { result ≡ spec.offset_at table.now at.0 }
 {
     let onsets = table.onsets.as_slice();
