@@ -1,6 +1,6 @@
 //! The time of day, which lies outside the program.
 ghost use Rattle.std.specs.Prelude.{◌≡◌, ℤ, Option, IfSome};
-ghost use Rattle.cal_base.specs.Outside.{IsMoment};
+ghost use Rattle.cal_base.specs.World.Outside.{IsMoment};
 
 /// It gives whole seconds since 1970-01-01T00:00:00Z, leap seconds not counted.
 pub trait Clock {

@@ -1,6 +1,6 @@
 //! A reader or writer of the standard library, with the counts that the traits of streams ask for.
 ghost use Rattle.std.specs.Prelude.{◌≡◌, ◌<◌, ◌≤◌, ◌^◌, [], false, length, Some, None, if◌then◌else◌, IfOk, OnErr};
-ghost use Rattle.cal_base.specs.Outside.{Rose};
+ghost use Rattle.cal_base.specs.World.Outside.{Rose};
 
 use crate::failed::Failed;
 use crate::stream::Source;
@@ -22,7 +22,7 @@ pub(crate) struct CountedStream<T> {
 
 impl<T> Model for CountedStream<T> {
     ghost use Rattle.std.specs.Prelude.{◌≤◌, ◌^◌};
-    ghost use Rattle.cal_base.specs.Adapter.{StreamState};
+    ghost use Rattle.cal_base.specs.World.Adapter.{StreamState};
 
     ghost Value = { StreamState };
 

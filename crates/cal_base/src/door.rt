@@ -1,6 +1,6 @@
 //! Where connections come in, and what may hold a thread back.
 ghost use Rattle.std.specs.Prelude.{◌≡◌, ℕ, ℤ, ◌≤◌, Option, IfOk, OnErr};
-ghost use Rattle.cal_base.specs.Outside.{Rose, IsNext};
+ghost use Rattle.cal_base.specs.World.Outside.{Rose, IsNext};
 
 use crate::clock::Clock;
 use crate::failed::Failed;

@@ -1,6 +1,6 @@
 //! Files that lie outside the program, read whole.
 ghost use Rattle.std.specs.Prelude.{◌≡◌, ℕ, ◌<◌, ◌≤◌, List, length, Option, IfOk, IfSome, IsErrOf};
-ghost use Rattle.cal_base.specs.Outside.{Rose};
+ghost use Rattle.cal_base.specs.World.Outside.{Rose};
 
 use crate::list::Octets;
 use std::alloc::Global;

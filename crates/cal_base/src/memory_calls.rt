@@ -1,6 +1,6 @@
 //! The calls of an implementation in memory, some of which fail.
 ghost use Rattle.std.specs.Prelude.{◌≡◌, ◌≤◌};
-ghost use Rattle.cal_base.specs.Memory.{no_calls, is_listed, after_success, after_fault};
+ghost use Rattle.cal_base.specs.World.Memory.{no_calls, is_listed, after_success, after_fault};
 
 use crate::failed::Failed;
 use crate::list::List;
@@ -16,7 +16,7 @@ pub(crate) struct MemoryCalls {
 }
 
 impl Model for MemoryCalls {
-    ghost use Rattle.cal_base.specs.Memory.{Calls};
+    ghost use Rattle.cal_base.specs.World.Memory.{Calls};
 
     ghost Value = { Calls };
 

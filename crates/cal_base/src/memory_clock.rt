@@ -1,6 +1,6 @@
 //! Clocks that give the moment that they were told.
 ghost use Rattle.std.specs.Prelude.{◌≡◌, ℤ, Some};
-ghost use Rattle.cal_base.specs.Outside.{IsMoment};
+ghost use Rattle.cal_base.specs.World.Outside.{IsMoment};
 
 use crate::clock::Clock;
 use std::marker::Model;

@@ -1,7 +1,7 @@
 //! A door over links in memory, and a gate that holds nobody.
 ghost use Rattle.std.specs.Prelude.{◌≡◌, ◌≤◌, ◌↔◌, [], Some, IsTrue, IsErr, IfOk, OnOk, OnErr, slice_get};
-ghost use Rattle.cal_base.specs.Outside.{IsMoment, IsNext};
-ghost use Rattle.cal_base.specs.Memory.{is_listed, new_door, door_after_fault, door_after_success, accept_fails, door_after_failed_accept, door_after_accept};
+ghost use Rattle.cal_base.specs.World.Outside.{IsMoment, IsNext};
+ghost use Rattle.cal_base.specs.World.Memory.{is_listed, new_door, door_after_fault, door_after_success, accept_fails, door_after_failed_accept, door_after_accept};
 
 use crate::clock::Clock;
 use crate::door::{Door, Gate};
@@ -41,7 +41,7 @@ pub struct MemoryDoor {
 }
 
 impl Model for MemoryDoor {
-    ghost use Rattle.cal_base.specs.Memory.{DoorState};
+    ghost use Rattle.cal_base.specs.World.Memory.{DoorState};
 
     ghost Value = { DoorState };
 

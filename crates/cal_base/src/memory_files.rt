@@ -1,7 +1,7 @@
 //! Files in memory.
 ghost use Rattle.std.specs.Prelude.{◌≡◌, ◌<◌, ◌≤◌, ◌↔◌, ◌∷◌, length, Some, IsTrue, IfOk, IfSome, OnOk, IsErrOf};
 ghost use Rattle.std.specs.Option.{option_copied};
-ghost use Rattle.cal_base.specs.Memory.{no_calls, content_of, files_read_fails, files_after_fault, files_after_read};
+ghost use Rattle.cal_base.specs.World.Memory.{no_calls, content_of, files_read_fails, files_after_fault, files_after_read};
 
 use crate::files::{FileFault, Files};
 use crate::list::{List, Octets};
@@ -18,7 +18,7 @@ pub struct MemoryFiles {
 }
 
 impl Model for MemoryFiles {
-    ghost use Rattle.cal_base.specs.Memory.{FilesState};
+    ghost use Rattle.cal_base.specs.World.Memory.{FilesState};
 
     ghost Value = { FilesState };
 

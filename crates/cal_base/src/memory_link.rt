@@ -1,6 +1,6 @@
 //! A link in memory, for sessions without a network.
 ghost use Rattle.std.specs.Prelude.{◌≡◌, ◌≤◌, ◌^◌, ◌↔◌, ◌++◌, [], length, take, drop, Some, IsTrue, IsErr, IfOk, OnOk, OnErr};
-ghost use Rattle.cal_base.specs.Memory.{no_calls, given_len, is_listed, link_read_fails, link_after_fault, link_after_read, link_after_write};
+ghost use Rattle.cal_base.specs.World.Memory.{no_calls, given_len, is_listed, link_read_fails, link_after_fault, link_after_read, link_after_write};
 
 use crate::failed::Failed;
 use crate::list::{List, Octets};
@@ -23,7 +23,7 @@ pub struct MemoryLink {
 
 impl Model for MemoryLink {
     ghost use Rattle.std.specs.Prelude.{◌≤◌, ◌^◌};
-    ghost use Rattle.cal_base.specs.Memory.{LinkState};
+    ghost use Rattle.cal_base.specs.World.Memory.{LinkState};
 
     ghost Value = { LinkState };
 

@@ -1,6 +1,6 @@
 //! A sink in memory.
 ghost use Rattle.std.specs.Prelude.{◌≡◌, ◌≤◌, [], length, Some, IsTrue, IsErr, IfOk, OnOk, OnErr};
-ghost use Rattle.cal_base.specs.Memory.{no_calls, is_listed, sink_after_fault, sink_after_write};
+ghost use Rattle.cal_base.specs.World.Memory.{no_calls, is_listed, sink_after_fault, sink_after_write};
 
 use crate::failed::Failed;
 use crate::list::{List, Octets};
@@ -18,7 +18,7 @@ pub struct MemorySink {
 }
 
 impl Model for MemorySink {
-    ghost use Rattle.cal_base.specs.Memory.{SinkState};
+    ghost use Rattle.cal_base.specs.World.Memory.{SinkState};
 
     ghost Value = { SinkState };
 

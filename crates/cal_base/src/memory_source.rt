@@ -1,6 +1,6 @@
 //! A source in memory, for tests and for runs over a text that is at hand.
 ghost use Rattle.std.specs.Prelude.{◌≡◌, ◌≤◌, ◌^◌, ◌↔◌, ◌++◌, length, take, drop, Some, IsTrue, IsErr, IfOk, OnErr};
-ghost use Rattle.cal_base.specs.Memory.{no_calls, given_len, source_read_fails, source_after_fault, source_after_read};
+ghost use Rattle.cal_base.specs.World.Memory.{no_calls, given_len, source_read_fails, source_after_fault, source_after_read};
 
 use crate::failed::Failed;
 use crate::list::{List, Octets};
@@ -19,7 +19,7 @@ pub struct MemorySource {
 
 impl Model for MemorySource {
     ghost use Rattle.std.specs.Prelude.{◌≤◌, ◌^◌};
-    ghost use Rattle.cal_base.specs.Memory.{SourceState};
+    ghost use Rattle.cal_base.specs.World.Memory.{SourceState};
 
     ghost Value = { SourceState };
 

@@ -1,6 +1,6 @@
 //! What an implementation in memory has left to read.
 ghost use Rattle.std.specs.Prelude.{◌≡◌, ◌==◌, ◌++◌, length, take, drop, min};
-ghost use Rattle.cal_base.specs.Memory.{given_len, supply_behind};
+ghost use Rattle.cal_base.specs.World.Memory.{given_len, supply_behind};
 
 use crate::list::Octets;
 use crate::whole::behind;
@@ -16,7 +16,7 @@ pub(crate) struct MemorySupply {
 
 impl Model for MemorySupply {
     ghost use Rattle.std.specs.Prelude.{drop, length, ◌≤◌};
-    ghost use Rattle.cal_base.specs.Memory.{Supply};
+    ghost use Rattle.cal_base.specs.World.Memory.{Supply};
 
     ghost Value = { Supply };
 

@@ -5,7 +5,7 @@ ghost use Rattle.std.specs.Borrow.{Bor, sem};
 ghost use Rattle.std.specs.Global.{Vec};
 ghost use Rattle.std.specs.Map.Iter.{ShowsInOrder, deref_pair};
 ghost use Rattle.std.specs.Ordering.{is_lt};
-ghost use Rattle.cal_base.specs.NameMap.{IsInOrder, value_at, with_value, without, next_above, name_order};
+ghost use Rattle.cal_base.specs.Lists.NameMap.{IsInOrder, value_at, with_value, without, next_above, name_order};
 
 use crate::list::Octets;
 use crate::no_memory::NoMemory;
@@ -35,7 +35,7 @@ impl<V> Model for NameMap<V> {
 }
 
 impl<V> NameMap<V> {
-    ghost use Rattle.cal_base.specs.NameMapLends.{lends_value};
+    ghost use Rattle.cal_base.specs.Lists.NameMapLends.{lends_value};
 
     /// An empty map. It takes no memory yet.
     pub fn new(alloc: Global) -> NameMap<V>

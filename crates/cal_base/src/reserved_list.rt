@@ -17,7 +17,7 @@ pub struct ReservedList<T> {
 
 impl<T> Model for ReservedList<T> {
     ghost use Rattle.std.specs.Prelude.{◌-◌, vec_len, vec_capacity};
-    ghost use Rattle.cal_base.specs.Reserved.{Reserved};
+    ghost use Rattle.cal_base.specs.Lists.Reserved.{Reserved};
 
     ghost Value = { Reserved T };
 

@@ -1,6 +1,6 @@
 //! The files of the system.
 ghost use Rattle.std.specs.Prelude.{◌≡◌, ◌≤◌, None};
-ghost use Rattle.cal_base.specs.Outside.{Rose};
+ghost use Rattle.cal_base.specs.World.Outside.{Rose};
 
 use crate::counted_stream::CountedStream;
 use crate::files::{FileFault, Files};

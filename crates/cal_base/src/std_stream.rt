@@ -15,7 +15,7 @@ pub struct StdSource<R: Input> {
 }
 
 impl<R: Input> Model for StdSource<R> {
-    ghost use Rattle.cal_base.specs.Adapter.{StreamState};
+    ghost use Rattle.cal_base.specs.World.Adapter.{StreamState};
 
     ghost Value = { StreamState };
 

@@ -1,6 +1,6 @@
 //! Streams of octets that lie outside the program: what is read, what is written, and both.
 ghost use Rattle.std.specs.Prelude.{◌≡◌, ℕ, ◌+◌, ◌<◌, ◌≤◌, ◌^◌, List, [], length, take, Option, Some, IsErr, IfOk, OnErr};
-ghost use Rattle.cal_base.specs.Outside.{Rose, Takes, Adds};
+ghost use Rattle.cal_base.specs.World.Outside.{Rose, Takes, Adds};
 
 use crate::failed::Failed;
 

@@ -17,7 +17,7 @@ pub struct SystemClock<R: std::rt::Clock + Copy + Drop> {
 
 impl<R: std::rt::Clock + Copy + Drop> Model for SystemClock<R> {
     ghost use Rattle.std.specs.Prelude.{ℤ};
-    ghost use Rattle.cal_base.specs.Outside.{IsMoment};
+    ghost use Rattle.cal_base.specs.World.Outside.{IsMoment};
 
     ghost Value = { ℤ };
 

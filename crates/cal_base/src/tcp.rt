@@ -1,6 +1,6 @@
 //! Connections over TCP.
 ghost use Rattle.std.specs.Prelude.{◌≡◌, ◌≤◌, ◌^◌, [], false, Some, None, if◌then◌else◌};
-ghost use Rattle.cal_base.specs.Outside.{Rose};
+ghost use Rattle.cal_base.specs.World.Outside.{Rose};
 
 use crate::counted_stream::CountedStream;
 use crate::door::Door;
@@ -27,7 +27,7 @@ pub struct TcpLink {
 }
 
 impl Model for TcpLink {
-    ghost use Rattle.cal_base.specs.Adapter.{StreamState};
+    ghost use Rattle.cal_base.specs.World.Adapter.{StreamState};
 
     ghost Value = { StreamState };
 
@@ -94,7 +94,7 @@ pub struct TcpDoor<
 
 impl<R: Net<Listener = TcpListener, Stream = TcpStream> + std::rt::Clock + Copy + Drop> Model
     for TcpDoor<R> {
-    ghost use Rattle.cal_base.specs.Adapter.{ListenerState};
+    ghost use Rattle.cal_base.specs.World.Adapter.{ListenerState};
 
     ghost Value = { ListenerState };
 

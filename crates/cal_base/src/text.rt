@@ -2,7 +2,7 @@
 ghost use Rattle.std.specs.Prelude.{◌≡◌, ℕ, List, IfOk, nat_eq};
 ghost use Rattle.std.specs.Cmp.{partial_equiv_from_equiv, nat_eq_equiv};
 ghost use Rattle.std.specs.Cmp.Lexicographic.{pointwise, lists_per, nat_list_eq_equiv};
-ghost use Rattle.cal_base.specs.Text.{raised, raised_all};
+ghost use Rattle.cal_base.specs.Texts.Text.{raised, raised_all};
 
 use crate::list::Octets;
 use crate::no_memory::NoMemory;

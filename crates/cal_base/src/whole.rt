@@ -1,6 +1,6 @@
 //! Reading a source to its end, and writing a whole piece.
 ghost use Rattle.std.specs.Prelude.{◌≡◌, ℕ, ◌+◌, ◌<◌, ◌≤◌, ◌^◌, List, [], length, take, drop, Some, IfOk, OnOk, OnErr, IfSome, IsErrOf};
-ghost use Rattle.cal_base.specs.Outside.{Rose, TakesUpTo, Goes, Adds};
+ghost use Rattle.cal_base.specs.World.Outside.{Rose, TakesUpTo, Goes, Adds};
 
 use crate::failed::Failed;
 use crate::list::Octets;

@@ -6,15 +6,15 @@ use Rattle.std.proofs.lemmas.Bool.{false≢true, ltb-true, ltb-false}
 use Rattle.std.proofs.lemmas.Bool.Decides.{nat_tests}
 use Rattle.std.proofs.lemmas.Grind.{flat_map-append}
 use Rattle.percent_encoding.specs.Percent.{percent_encode_byte}
-use Rattle.cal_base.specs.NameMap.{Named}
+use Rattle.cal_base.specs.Lists.NameMap.{Named}
 use Rattle.cal_model.specs.declared.path.Path.TheVariants.{Object as ObjectPath}
 use Rattle.cal_model.specs.declared.reply.Etag.{Etag}
 use Rattle.cal_model.specs.declared.row.Range.{Range}
-use Rattle.cal_model.specs.Etags.{etag_of, etag_text}
-use Rattle.cal_model.specs.Hrefs.{is_kept, segment, href}
-use Rattle.cal_model.specs.Multistatus.{object_properties, object_response}
-use Rattle.cal_model.specs.Statuses.{reason, status_line}
-use Rattle.cal_model.specs.XmlText.{text_octet, xml_text, attribute_text, element, document, propstat, multistatus}
+use Rattle.cal_model.specs.Replies.Etags.{etag_of, etag_text}
+use Rattle.cal_model.specs.Replies.Hrefs.{is_kept, segment, href}
+use Rattle.cal_model.specs.Server.Multistatus.{object_properties, object_response}
+use Rattle.cal_model.specs.Replies.Statuses.{reason, status_line}
+use Rattle.cal_model.specs.Replies.XmlText.{text_octet, xml_text, attribute_text, element, document, propstat, multistatus}
 use Rattle.cal_book.specs.OneHome.{alice, calendar_name}
 use Rattle.cal_book.specs.Responses.{has_items, finds_some, responses}
 use Rattle.cal_book.specs.XmlTags.{opening_tag, closing_tag, multistatus_front}

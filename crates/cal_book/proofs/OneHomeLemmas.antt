@@ -4,12 +4,12 @@ use Rattle.std.proofs.lemmas.Bool.{le-leb, lt-leb, false≢true}
 use Rattle.std.proofs.lemmas.Map.Text.{is_eq-slice_cmp}
 use Rattle.std.specs.BTreeMap.{is_at}
 use Rattle.std.specs.Str.{bytes_eq}
-use Rattle.cal_base.specs.NameMap.{Named, name_order, value_at, with_value}
-use Rattle.cal_model.specs.Limits.{home_limit, change_cost}
-use Rattle.cal_model.specs.ServerState.{ServerState, Home, Calendar, Found, first_calendar, opening_state, calendar_of, found_calendar}
-use Rattle.cal_model.specs.Step.{Outcome, accepted, refused, bare_reply, put_at, query_at, outcome_of, outcome}
-use Rattle.cal_model.specs.Answer.{reply_of, state_of}
-use Rattle.cal_model.specs.Etags.{etag_of}
+use Rattle.cal_base.specs.Lists.NameMap.{Named, name_order, value_at, with_value}
+use Rattle.cal_model.specs.Words.Limits.{home_limit, change_cost}
+use Rattle.cal_model.specs.Server.ServerState.{ServerState, Home, Calendar, Found, first_calendar, opening_state, calendar_of, found_calendar}
+use Rattle.cal_model.specs.Server.Step.{Outcome, accepted, refused, bare_reply, put_at, query_at, outcome_of, outcome}
+use Rattle.cal_model.specs.Server.Answer.{reply_of, state_of}
+use Rattle.cal_model.specs.Replies.Etags.{etag_of}
 use Rattle.cal_model.specs.declared.reply.Etag.{Etag}
 use Rattle.cal_model.specs.declared.reply.Reply.{Reply}
 use Rattle.cal_model.specs.declared.request.Content.{Content}
@@ -19,10 +19,10 @@ use Rattle.cal_model.specs.declared.report.ReportRequest.{ReportRequest}
 use Rattle.cal_model.specs.declared.request.Event.{Event}
 use Rattle.cal_model.specs.declared.reply.Media.TheVariants.{Xml}
 use Rattle.cal_model.specs.declared.row.Range.{Range}
-use Rattle.cal_model.specs.XmlText.{multistatus}
+use Rattle.cal_model.specs.Replies.XmlText.{multistatus}
 use Rattle.cal_book.specs.ThinAnswer.{Answers, CarriesOut, IsWantOfMemory}
 use Rattle.cal_book.specs.Responses.{responses}
-use Rattle.cal_model.specs.UsersFile.{alice_alone}
+use Rattle.cal_model.specs.Scripts.UsersFile.{alice_alone}
 use Rattle.cal_model.specs.declared.path.Path.TheVariants.{Calendar as CalendarPath, Object as ObjectPath}
 use Rattle.cal_book.specs.OneHome.{alice, calendar_name, one_home}
 

@@ -6,7 +6,7 @@ use Rattle.std.specs.Ordering.{match_ordering}
 use Rattle.std.specs.Borrow.{Bor}
 use Rattle.std.specs.Option.{option_copied}
 use Rattle.std.specs.BTreeMap.{is_at}
-use Rattle.cal_base.specs.NameMap.{Named, name_order, value_at, with_value}
+use Rattle.cal_base.specs.Lists.NameMap.{Named, name_order, value_at, with_value}
 use Rattle.cal_book.specs.declared.stored.Stored.{Stored}
 use Rattle.cal_book.specs.StoredObjects.{octets_of}
 

@@ -1,7 +1,7 @@
 -- Texts of XML made of pieces.
 use Rattle.std.proofs.Common.{◌≡◌, ℕ, ◌<◌, Bool, true, false, cond, ◌==◌, List, [], ◌∷◌, ◌++◌, length, refl, sym, ap, ◌∙◌, append_assoc, arith, length-append, codes}
 use Rattle.std.proofs.lemmas.Bool.{false≢true, eqb-true}
-use Rattle.cal_model.specs.XmlText.{text_octet, xml_text, element}
+use Rattle.cal_model.specs.Replies.XmlText.{text_octet, xml_text, element}
 use Rattle.cal_book.specs.XmlTags.{opening_tag, closing_tag}
 
 -- a buffer to which one piece and then a rest was appended

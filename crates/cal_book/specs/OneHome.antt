@@ -1,7 +1,7 @@
 -- The state of the one user of this stage: the home of `alice`, with one calendar named `calendar` on which nothing was set since the start.
 use Rattle.std.specs.Prelude.{ℕ, List, [], ◌∷◌, codes}
-use Rattle.cal_base.specs.NameMap.{Named}
-use Rattle.cal_model.specs.ServerState.{ServerState, first_calendar}
+use Rattle.cal_base.specs.Lists.NameMap.{Named}
+use Rattle.cal_model.specs.Server.ServerState.{ServerState, first_calendar}
 
 -- the user
 abbrev pub alice : List ℕ

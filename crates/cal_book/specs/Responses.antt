@@ -1,8 +1,8 @@
 -- The responses to a query of the one calendar, one after another.
 use Rattle.std.specs.Prelude.{ℕ, Bool, true, false, List, [], ◌∷◌, flat_map}
-use Rattle.cal_base.specs.NameMap.{Named}
+use Rattle.cal_base.specs.Lists.NameMap.{Named}
 use Rattle.cal_model.specs.declared.row.Range.{Range}
-use Rattle.cal_model.specs.Multistatus.{object_response, found_objects}
+use Rattle.cal_model.specs.Server.Multistatus.{object_response, found_objects}
 use Rattle.cal_book.specs.OneHome.{alice, calendar_name}
 
 -- whether there is an item

@@ -1,6 +1,6 @@
 -- The octets of stored objects, without what was read from them.
 use Rattle.std.specs.Prelude.{ℕ, List, map}
-use Rattle.cal_base.specs.NameMap.{Named}
+use Rattle.cal_base.specs.Lists.NameMap.{Named}
 use Rattle.cal_book.specs.declared.stored.Stored.{Stored}
 
 -- the objects by their names, each as its octets

@@ -3,10 +3,10 @@ use Rattle.std.specs.Prelude.{◌≡◌, ◌⊎◌}
 use Rattle.cal_model.specs.declared.reply.Reply.{Reply}
 use Rattle.cal_model.specs.declared.request.Content.{Content}
 use Rattle.cal_model.specs.declared.request.Event.{Event}
-use Rattle.cal_model.specs.Answer.{reply_of, state_of, reply_to, state_after}
-use Rattle.cal_model.specs.ServerState.{ServerState}
-use Rattle.cal_model.specs.Step.{Outcome, bare_reply}
-use Rattle.cal_model.specs.UsersFile.{alice_alone}
+use Rattle.cal_model.specs.Server.Answer.{reply_of, state_of, reply_to, state_after}
+use Rattle.cal_model.specs.Server.ServerState.{ServerState}
+use Rattle.cal_model.specs.Server.Step.{Outcome, bare_reply}
+use Rattle.cal_model.specs.Scripts.UsersFile.{alice_alone}
 
 -- for want of memory: 503, and the state is as it was
 abbrev pub IsWantOfMemory : ServerState → ServerState → Reply → Type 0

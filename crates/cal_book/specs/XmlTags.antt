@@ -1,6 +1,6 @@
 -- Pieces of XML text, as they are written one after another.
 use Rattle.std.specs.Prelude.{ℕ, List, ◌++◌, codes}
-use Rattle.cal_model.specs.XmlText.{prefixes}
+use Rattle.cal_model.specs.Replies.XmlText.{prefixes}
 
 -- the tag that opens an element without attributes
 abbrev pub opening_tag : List ℕ → List ℕ

@@ -30,8 +30,8 @@ pub struct Book {
 
 impl Model for Book {
     ghost use Rattle.std.specs.Prelude.{◌≤◌};
-    ghost use Rattle.cal_model.specs.ServerState.{ServerState};
-    ghost use Rattle.cal_model.specs.Limits.{home_limit};
+    ghost use Rattle.cal_model.specs.Server.ServerState.{ServerState};
+    ghost use Rattle.cal_model.specs.Words.Limits.{home_limit};
     ghost use Rattle.cal_book.specs.OneHome.{one_home};
     ghost use Rattle.cal_book.specs.StoredObjects.{octets_of};
 
@@ -45,11 +45,11 @@ impl Model for Book {
 impl Book {
     ghost use Rattle.std.specs.Prelude.{◌≡◌, ◌⊎◌, Bool, IfOk, None};
     ghost use Rattle.std.specs.Bool.{OnTrue, OnFalse};
-    ghost use Rattle.cal_model.specs.ServerState.{opening_state, found_calendar};
-    ghost use Rattle.cal_model.specs.Queries.{query_range};
-    ghost use Rattle.cal_model.specs.Step.{found_or, put_at, query_at};
+    ghost use Rattle.cal_model.specs.Server.ServerState.{opening_state, found_calendar};
+    ghost use Rattle.cal_model.specs.Server.Queries.{query_range};
+    ghost use Rattle.cal_model.specs.Server.Step.{found_or, put_at, query_at};
     ghost use Rattle.cal_model.specs.declared.request.Content.{Content};
-    ghost use Rattle.cal_model.specs.UsersFile.{alice_alone};
+    ghost use Rattle.cal_model.specs.Scripts.UsersFile.{alice_alone};
     ghost use Rattle.cal_model.specs.declared.path.Path.TheVariants.{Calendar as CalendarPath, Object as ObjectPath};
     ghost use Rattle.cal_model.specs.declared.request.Content.TheVariants.{Put as PutContent, Report as ReportContent};
     ghost use Rattle.cal_book.specs.OneHome.{alice, calendar_name};

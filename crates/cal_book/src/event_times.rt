@@ -1,8 +1,8 @@
 //! When the event of an object takes place.
 ghost use Rattle.std.specs.Prelude.{◌≡◌, IfOk, option_map, option_and_then, find, bytes_eq, pos, ◌+ℤ◌, ◌*ℤ◌};
 ghost use Rattle.cal_base.specs.declared.line.Line.{Line};
-ghost use Rattle.cal_model.specs.EventTimes.{start_of, end_of};
-ghost use Rattle.cal_model.specs.UtcTexts.{utc_of};
+ghost use Rattle.cal_model.specs.Server.EventTimes.{start_of, end_of};
+ghost use Rattle.cal_model.specs.Values.UtcTexts.{utc_of};
 ghost use Rattle.cal_book.specs.Moments.{seconds_of};
 
 use cal_base::{Line, NoMemory};

@@ -2,10 +2,10 @@
 ghost use Rattle.std.specs.Prelude.{◌≡◌, ◌++◌, codes, IfOk, OnOk, is_some, if◌then◌else◌, ◌∷◌, []};
 ghost use Rattle.percent_encoding.specs.Percent.{percent_encode_byte as escaped_octet};
 ghost use Rattle.cal_model.specs.declared.path.Path.TheVariants.{Object as ObjectPath};
-ghost use Rattle.cal_model.specs.Etags.{etag_text};
-ghost use Rattle.cal_model.specs.Hrefs.{is_kept, segment, href};
-ghost use Rattle.cal_model.specs.Multistatus.{object_properties, object_response};
-ghost use Rattle.cal_model.specs.XmlText.{element, xml_text, propstat, multistatus};
+ghost use Rattle.cal_model.specs.Replies.Etags.{etag_text};
+ghost use Rattle.cal_model.specs.Replies.Hrefs.{is_kept, segment, href};
+ghost use Rattle.cal_model.specs.Server.Multistatus.{object_properties, object_response};
+ghost use Rattle.cal_model.specs.Replies.XmlText.{element, xml_text, propstat, multistatus};
 ghost use Rattle.cal_book.specs.OneHome.{alice, calendar_name};
 ghost use Rattle.cal_book.specs.Responses.{responses, finds_some};
 ghost use Rattle.cal_book.specs.StoredObjects.{octets_of};
@@ -58,7 +58,7 @@ pub fn query_body(
 }
 
 /// Appends the front of a body.
-#[tactic(auto, unfolding(crate::specs::XmlTags::multistatus_front, cal_model::specs::XmlText::attribute_text))]
+#[tactic(auto, unfolding(crate::specs::XmlTags::multistatus_front, cal_model::specs::Replies::XmlText::attribute_text))]
 fn write_front(out: &mut Octets) -> Result<(), NoMemory>
     ensures { OnOk result (out.new ≡ out.old ++ multistatus_front) }
 {
@@ -127,7 +127,7 @@ fn write_href(out: &mut Octets, name: &[u8]) -> Result<(), NoMemory>
 }
 
 /// Appends a name as a segment of a path (RFC 3986, 2.1). No octet of it is escaped in XML.
-#[tactic(auto, unfolding(cal_model::specs::Hrefs::segment))]
+#[tactic(auto, unfolding(cal_model::specs::Replies::Hrefs::segment))]
 fn write_segment(out: &mut Octets, name: &[u8]) -> Result<(), NoMemory>
     ensures { OnOk result (out.new ≡ out.old ++ segment name.now) }
 {

@@ -1,7 +1,7 @@
 //! Putting objects into a calendar.
 ghost use Rattle.std.specs.Prelude.{◌≡◌, IfOk, OnOk, OnErr, is_some};
-ghost use Rattle.cal_base.specs.NameMap.{value_at, with_value};
-ghost use Rattle.cal_model.specs.Etags.{etag_of};
+ghost use Rattle.cal_base.specs.Lists.NameMap.{value_at, with_value};
+ghost use Rattle.cal_model.specs.Replies.Etags.{etag_of};
 ghost use Rattle.cal_book.specs.StoredObjects.{octets_of};
 
 use crate::stored::Stored;

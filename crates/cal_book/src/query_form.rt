@@ -1,6 +1,6 @@
 //! The one form of calendar-query that is answered so far (RFC 4791, 7.8).
 ghost use Rattle.std.specs.Prelude.{◌≡◌};
-ghost use Rattle.cal_model.specs.Queries.{query_range as range_of_query, is_name, are_both, asks_both as asks_both_properties, is_whole, shows_all as shows_whole, is_plain, event_range as range_of_event, only_range as range_of_only, calendar_range as range_of_calendar};
+ghost use Rattle.cal_model.specs.Server.Queries.{query_range as range_of_query, is_name, are_both, asks_both as asks_both_properties, is_whole, shows_all as shows_whole, is_plain, event_range as range_of_event, only_range as range_of_only, calendar_range as range_of_calendar};
 ghost use Rattle.cal_model.specs.declared.filter.CompFilter.TheViews.{out-CompFilter};
 
 use cal_model::{CompFilter, PropName, Props, Range, Recur, ReportRequest, Selection};
@@ -11,7 +11,7 @@ const CALDAV: &[u8] = b"urn:ietf:params:xml:ns:caldav";
 
 /// The range of a query that asks for getetag and calendar-data of the objects with a VEVENT in
 /// that range. Any other report has none.
-#[tactic(auto, unfolding(cal_model::specs::Queries::query_range))]
+#[tactic(auto, unfolding(cal_model::specs::Server::Queries::query_range))]
 pub fn query_range(report: &ReportRequest) -> Option<Range>
     ensures { result ≡ range_of_query report.now }
 {

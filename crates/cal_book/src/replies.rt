@@ -1,7 +1,7 @@
 //! Replies.
 ghost use Rattle.std.specs.Prelude.{◌≡◌, Some, None, if◌then◌else◌};
 ghost use Rattle.cal_model.specs.declared.reply.Media.TheVariants.{Xml};
-ghost use Rattle.cal_model.specs.Step.{bare_reply as status_reply};
+ghost use Rattle.cal_model.specs.Server.Step.{bare_reply as status_reply};
 
 use cal_base::Octets;
 use cal_model::{Etag, Media, Reply};

@@ -2,7 +2,7 @@
 //!
 //! Without memory a call leaves some of its text in the buffer, which is then of no use.
 ghost use Rattle.std.specs.Prelude.{◌≡◌, ◌++◌, OnOk};
-ghost use Rattle.cal_model.specs.XmlText.{text_octet, xml_text, element};
+ghost use Rattle.cal_model.specs.Replies.XmlText.{text_octet, xml_text, element};
 ghost use Rattle.cal_book.specs.XmlTags.{opening_tag, closing_tag};
 
 use cal_base::{NoMemory, Octets};
@@ -42,7 +42,7 @@ pub fn write_closing(out: &mut Octets, name: &[u8]) -> Result<(), NoMemory>
 }
 
 /// Appends some octets as text. A CR is escaped, since a reader of XML would drop it.
-#[tactic(auto, unfolding(cal_model::specs::XmlText::xml_text))]
+#[tactic(auto, unfolding(cal_model::specs::Replies::XmlText::xml_text))]
 pub fn write_text(out: &mut Octets, octets: &[u8]) -> Result<(), NoMemory>
     ensures { OnOk result (out.new ≡ out.old ++ xml_text octets.now) }
 {

@@ -13,7 +13,7 @@ pub enum Collation {
 }
 
 /// A test of a text: whether it has another one within it (RFC 4791, 9.7.5).
-#[derive(Clone, Drop, PartialEq, Eq)]
+#[derive(Drop)]
 pub struct TextMatch {
     /// What to look for.
     pub text: Octets,
@@ -23,7 +23,7 @@ pub struct TextMatch {
 }
 
 /// What is asked of a parameter (RFC 4791, 9.7.3).
-#[derive(Clone, Drop, PartialEq, Eq)]
+#[derive(Drop)]
 pub enum ParamTest {
     /// It is not there.
     Absent,
@@ -34,14 +34,14 @@ pub enum ParamTest {
 }
 
 /// A test of the parameters of one name.
-#[derive(Clone, Drop, PartialEq, Eq)]
+#[derive(Drop)]
 pub struct ParamFilter {
     pub name: Name,
     pub test: ParamTest,
 }
 
 /// What is asked of a property (RFC 4791, 9.7.2).
-#[derive(Clone, Drop, PartialEq, Eq)]
+#[derive(Drop)]
 pub enum PropTest {
     /// It is not there.
     Absent,
@@ -54,7 +54,7 @@ pub enum PropTest {
 }
 
 /// A test of the properties of one name.
-#[derive(Clone, Drop, PartialEq, Eq)]
+#[derive(Drop)]
 pub struct PropFilter {
     pub name: Name,
     pub test: PropTest,
@@ -63,7 +63,7 @@ pub struct PropFilter {
 }
 
 /// A test of the components of one name (RFC 4791, 9.7.1).
-#[derive(Drop, PartialEq, Eq)]
+#[derive(Drop)]
 pub struct CompFilter {
     pub name: Name,
     /// Whether it asks that there is none, and nothing else.
@@ -75,7 +75,7 @@ pub struct CompFilter {
 }
 
 /// The filter of a query.
-#[derive(Drop, PartialEq, Eq)]
+#[derive(Drop)]
 pub struct Filter {
     /// The test of the outermost component.
     pub top: CompFilter,

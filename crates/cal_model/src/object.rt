@@ -76,7 +76,7 @@ pub struct Alarm {
 
 /// A VEVENT, VTODO, VJOURNAL or VFREEBUSY of an object. Its number is its place among the
 /// components of its object, counted from 0.
-#[derive(Clone, Drop, PartialEq, Eq)]
+#[derive(Drop)]
 pub struct Component {
     pub kind: Kind,
     /// Its place among the children of the object's tree, counted from 0.
@@ -106,7 +106,7 @@ pub struct Component {
 }
 
 /// A calendar object: what a calendar stores under one name.
-#[derive(Drop, PartialEq, Eq)]
+#[derive(Drop)]
 pub struct Object {
     /// The one kind of its components.
     pub kind: Kind,

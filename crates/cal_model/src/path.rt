@@ -3,7 +3,7 @@
 use cal_base::Octets;
 
 /// A resource by its path.
-#[derive(Clone, Drop, PartialEq, Eq)]
+#[derive(Drop)]
 pub enum Path {
     /// `/`.
     Root,
@@ -18,7 +18,7 @@ pub enum Path {
 }
 
 /// The place of an object.
-#[derive(Clone, Drop, PartialEq, Eq)]
+#[derive(Drop)]
 pub struct ObjectPath {
     /// The number of the user whose home it is in.
     pub home: u32,

@@ -25,7 +25,7 @@ pub struct Grant {
 }
 
 /// The grants of a calendar, at most 64. Its owner holds all privileges without a grant.
-#[derive(Drop, PartialEq, Eq)]
+#[derive(Drop)]
 pub struct Acl {
     pub grants: List<Grant>,
 }

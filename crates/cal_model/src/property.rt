@@ -3,7 +3,7 @@
 use cal_base::{List, Octets};
 
 /// The name of a property.
-#[derive(Clone, Drop, PartialEq, Eq)]
+#[derive(Drop)]
 pub struct PropName {
     /// Its namespace, empty for none.
     pub space: Octets,
@@ -12,7 +12,7 @@ pub struct PropName {
 }
 
 /// The properties that are asked for.
-#[derive(Drop, PartialEq, Eq)]
+#[derive(Drop)]
 pub enum Props {
     /// `allprop`.
     All,
@@ -25,7 +25,7 @@ pub enum Props {
 }
 
 /// A property to be set or removed.
-#[derive(Clone, Drop, PartialEq, Eq)]
+#[derive(Drop)]
 pub struct PropSet {
     pub name: PropName,
     /// Its new value; none to remove it.

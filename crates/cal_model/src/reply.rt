@@ -1,7 +1,7 @@
 //! Replies.
 ghost use Rattle.std.specs.Prelude.{◌≡◌, ◌≤ℤ◌, pos, unsigned_abs};
-ghost use Rattle.cal_model.specs.DateField.{date_of_moment};
-ghost use Rattle.cal_model.specs.Etags.{etag_of};
+ghost use Rattle.cal_model.specs.Replies.DateField.{date_of_moment};
+ghost use Rattle.cal_model.specs.Replies.Etags.{etag_of};
 
 use crate::path::Path;
 use cal_base::Octets;
@@ -9,7 +9,7 @@ use httpdate::HttpDate;
 use sha2::{Digest, Sha256};
 
 /// The condition that a refusal names (RFC 4918, 16).
-#[derive(Clone, Drop, PartialEq, Eq)]
+#[derive(Drop)]
 pub enum Cond {
     /// None: the refusal has no body.
     None,
@@ -20,7 +20,7 @@ pub enum Cond {
 }
 
 /// Why a request is refused.
-#[derive(Clone, Drop, PartialEq, Eq)]
+#[derive(Drop)]
 pub struct Refusal {
     pub status: u16,
     pub cond: Cond,
@@ -44,7 +44,7 @@ pub struct Etag(pub [u8; 64]);
 
 impl Etag {
     /// The tag of stored octets. It takes no memory.
-    #[tactic(auto, unfolding(crate::specs::Etags::etag_of))]
+    #[tactic(auto, unfolding(crate::specs::Replies::Etags::etag_of))]
     pub fn of(octets: &[u8]) -> Etag
         ensures { result ≡ etag_of octets.now }
     {
@@ -70,7 +70,7 @@ pub fn date_value(moment: i64) -> [u8; 29]
 }
 
 /// A reply before it is written.
-#[derive(Drop, PartialEq, Eq)]
+#[derive(Drop)]
 pub struct Reply {
     /// A status that has a reason phrase.
     pub status: u16,

@@ -7,7 +7,7 @@ use crate::selection::Selection;
 use cal_base::{List, Octets};
 
 /// What a REPORT asks for.
-#[derive(Drop, PartialEq, Eq)]
+#[derive(Drop)]
 pub enum ReportRequest {
     /// calendar-query: the objects that match a filter.
     Query {

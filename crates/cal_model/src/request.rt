@@ -8,7 +8,7 @@ use crate::report::ReportRequest;
 use cal_base::{List, Octets};
 
 /// The value of If-Match or If-None-Match (RFC 9110, 13.1).
-#[derive(Drop, PartialEq, Eq)]
+#[derive(Drop)]
 pub enum Tags {
     /// `*`.
     Any,
@@ -17,7 +17,7 @@ pub enum Tags {
 }
 
 /// What a request carries.
-#[derive(Drop, PartialEq, Eq)]
+#[derive(Drop)]
 pub enum Content {
     /// Nothing that counts.
     None,
@@ -53,7 +53,7 @@ pub enum Method {
 }
 
 /// A request.
-#[derive(Drop, PartialEq, Eq)]
+#[derive(Drop)]
 pub struct Request {
     pub method: Method,
     pub path: Path,
@@ -65,7 +65,7 @@ pub struct Request {
 }
 
 /// A request as it comes to the server.
-#[derive(Drop, PartialEq, Eq)]
+#[derive(Drop)]
 pub struct Event {
     /// The number of the session or connection that it came on.
     pub session: u64,

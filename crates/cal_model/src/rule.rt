@@ -37,7 +37,7 @@ pub struct DayPart {
 }
 
 /// A recurrence rule. An empty list stands for a part that is not there.
-#[derive(Clone, Drop, PartialEq, Eq)]
+#[derive(Drop)]
 pub struct Rule {
     pub freq: Freq,
     /// At least 1.

@@ -1,8 +1,8 @@
 //! What walks over the moments of a rule.
 
 ghost use Rattle.std.specs.Prelude.{◌≡◌, false, ◌*◌, IfSome, IfNone};
-ghost use Rattle.cal_model.specs.Numbers.{moment_of_local};
-ghost use Rattle.cal_model.specs.NextPassing.{end_day, is_fine, IsWritten, IsUsable, NonePasses, IsNextPassing};
+ghost use Rattle.cal_model.specs.Words.Numbers.{moment_of_local};
+ghost use Rattle.cal_model.specs.Recurrence.NextPassing.{end_day, is_fine, IsWritten, IsUsable, NonePasses, IsNextPassing};
 
 use crate::rule::Rule;
 use cal_moment::Local;

@@ -4,7 +4,7 @@ use crate::row::Range;
 use cal_base::{List, Name};
 
 /// A property to be shown (RFC 4791, 9.6.4).
-#[derive(Clone, Drop, PartialEq, Eq)]
+#[derive(Drop)]
 pub struct PropPick {
     pub name: Name,
     /// Whether it is shown without its value.
@@ -12,7 +12,7 @@ pub struct PropPick {
 }
 
 /// A component to be shown, and what of it (RFC 4791, 9.6.1).
-#[derive(Drop, PartialEq, Eq)]
+#[derive(Drop)]
 pub struct CompPick {
     pub name: Name,
     /// Whether all its properties are shown.
@@ -35,7 +35,7 @@ pub enum Recur {
 }
 
 /// What a report shows of each object.
-#[derive(Drop, PartialEq, Eq)]
+#[derive(Drop)]
 pub struct Selection {
     /// The parts; none for all.
     pub comp: Option<CompPick>,

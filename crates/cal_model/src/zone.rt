@@ -5,7 +5,7 @@ use cal_base::{List, Octets};
 use cal_moment::{Local, Utc};
 
 /// A STANDARD or DAYLIGHT part of a VTIMEZONE.
-#[derive(Clone, Drop, PartialEq, Eq)]
+#[derive(Drop)]
 pub struct ZonePart {
     /// The first onset, by the clock that shows the offset `from`.
     pub start: Local,
@@ -28,7 +28,7 @@ pub struct Onset {
 }
 
 /// A zone as the offsets that hold in it.
-#[derive(Clone, Drop, PartialEq, Eq)]
+#[derive(Drop)]
 pub struct ZoneTable {
     /// The value of TZID.
     pub name: Octets,

@@ -3,16 +3,16 @@
 ghost use Rattle.std.specs.Prelude.{ℕ, pos, ◌+ℤ◌, ◌-ℤ◌, ◌≡◌, ◌<◌, ◌≤◌, length, true, false, int_le, slice_index_or, IfSome, IfNone};
 ghost use Rattle.std.specs.List.{AllWithin};
 ghost use Rattle.cal_model.specs.declared.zone.Onset.{Onset};
-ghost use Rattle.cal_model.specs.Numbers.{local_seconds};
-ghost use Rattle.cal_model.specs.Stretches as stretches;
-ghost use Rattle.cal_model.specs.TableBounds.{IsRising, IsTable, IsDigits};
-ghost use Rattle.cal_model.specs.Zones as spec;
+ghost use Rattle.cal_model.specs.Words.Numbers.{local_seconds};
+ghost use Rattle.cal_model.specs.TimeZones.Stretches as stretches;
+ghost use Rattle.cal_model.specs.TimeZones.TableBounds.{IsRising, IsTable, IsDigits};
+ghost use Rattle.cal_model.specs.TimeZones.Zones as spec;
 
 use crate::zone::{Onset, ZoneTable};
 use cal_moment::{Local, Utc};
 
 /// How many onsets lie at or before an instant.
-#[tactic(auto, using(crate::proofs::Onsets::is_partitioned))]
+#[tactic(auto, using(crate::proofs::TimeZones::Onsets::is_partitioned))]
 fn onsets_until(onsets: &[Onset], at: i64) -> usize
     requires { IsRising onsets.now }
     ensures bound { result ≤ length onsets.now }
@@ -31,7 +31,7 @@ fn offset_of(onsets: &[Onset], k: usize) -> i32
 }
 
 /// The offset of the latest onset at or before an instant, or the offset before all of them.
-#[tactic(auto, using(crate::proofs::Onsets::offset_among_none, crate::proofs::Onsets::offset_among_last), unfolding(crate::specs::Zones::offset_at))]
+#[tactic(auto, using(crate::proofs::TimeZones::Onsets::offset_among_none, crate::proofs::TimeZones::Onsets::offset_among_last), unfolding(crate::specs::TimeZones::Zones::offset_at))]
 pub fn offset_at(table: &ZoneTable, at: Utc) -> i32
     requires { IsRising table.now.onsets }
     ensures { result ≡ spec.offset_at table.now at.0 }
@@ -81,7 +81,7 @@ fn instant_by(table: &ZoneTable, local: i64, k: usize) -> i64
 }
 
 /// Whether a stretch has a moment with this local time.
-#[tactic(auto, unfolding(crate::specs::Stretches::has_local))]
+#[tactic(auto, unfolding(crate::specs::TimeZones::Stretches::has_local))]
 fn has_local(table: &ZoneTable, local: i64, k: usize) -> bool
     requires near { IsDigits local }
     requires within { k ≤ length table.now.onsets }
@@ -135,7 +135,7 @@ fn first_stretch(table: &ZoneTable, local: i64) -> Option<usize>
 }
 
 /// Whether some instant has this local time.
-#[tactic(auto, using(crate::proofs::StretchLemmas::exists_in_stretch, crate::proofs::StretchLemmas::exists_in_none))]
+#[tactic(auto, using(crate::proofs::TimeZones::StretchLemmas::exists_in_stretch, crate::proofs::TimeZones::StretchLemmas::exists_in_none))]
 fn exists_at(table: &ZoneTable, local: i64) -> bool
     requires table { IsTable table.now }
     requires near { IsDigits local }

@@ -6,11 +6,11 @@ use Rattle.std.proofs.lemmas.List.Elements.{All-nil, All-cons, All-append}
 use Rattle.std.proofs.Math.Seq.{take-add, take-append-add, take-append_seam, drop-append_seam, take-length}
 use Rattle.std.specs.Fmt.{digits}
 use Rattle.std.specs.List.{All}
-use Rattle.cal_base.specs.Outside.{Adds}
-use Rattle.cal_base.proofs.Taking.{Adds-more}
-use Rattle.cal_model.specs.Frames.{Frame, bytes, frame_text, frames_text, reply_frame, IsFrame, IsCutInto}
-use Rattle.cal_model.specs.Script.{Standing, Turn, Follows, IsPrinted, at_start}
-use Rattle.cal_model.specs.UsersFile.{alice_alone}
+use Rattle.cal_base.specs.World.Outside.{Adds}
+use Rattle.cal_base.proofs.World.Taking.{Adds-more}
+use Rattle.cal_model.specs.Scripts.Frames.{Frame, bytes, frame_text, frames_text, reply_frame, IsFrame, IsCutInto}
+use Rattle.cal_model.specs.Scripts.Script.{Standing, Turn, Follows, IsPrinted, at_start}
+use Rattle.cal_model.specs.Scripts.UsersFile.{alice_alone}
 use Rattle.cal_script.specs.Answered.{Reaches, IsAnsweredWhole, IsAnsweredInPart, IsAnsweredTo}
 use Rattle.cal_script.specs.AnsweredFrames.{AnswersFrame, AnswersInPart}
 use Rattle.cal_script.specs.FirstFrames.{BeginsNoFrame, NeverBeginsFrame, IsFrameThen}

@@ -4,8 +4,8 @@ use Rattle.std.proofs.lemmas.List.{append-nil, take-append-drop, get_or-append-a
 use Rattle.std.proofs.Math.ListN.{get_or-append}
 use Rattle.std.proofs.Math.Seq.{drop-cons, get_or-append_seam}
 use Rattle.std.specs.Fmt.{decimal, digits}
-use Rattle.cal_model.specs.Limits.{payload_limit, last_moment}
-use Rattle.cal_model.specs.Frames.{Frame, bytes, frame_text, AreInBounds, IsFrame}
+use Rattle.cal_model.specs.Words.Limits.{payload_limit, last_moment}
+use Rattle.cal_model.specs.Scripts.Frames.{Frame, bytes, frame_text, AreInBounds, IsFrame}
 use Rattle.cal_script.specs.FrameHeads.{Lacks, head_line, IsHead, IsNoHead}
 use Rattle.cal_script.specs.FirstFrames.{BeginsNoFrame, NeverBeginsFrame, IsFrameThen}
 use Rattle.cal_script.proofs.HeadLemmas.{first_place, no_place, length-head_line, head_line_lacks_feed, head_line-injective}

@@ -12,7 +12,7 @@ use Rattle.std.proofs.lemmas.Str.Parse.{digit_from_value}
 use Rattle.std.specs.Fmt.{decimal}
 use Rattle.std.specs.List.{position_or_len}
 use Rattle.std.specs.Str.Parse.{AllDigits}
-use Rattle.cal_model.specs.Limits.{payload_limit, last_moment}
+use Rattle.cal_model.specs.Words.Limits.{payload_limit, last_moment}
 use Rattle.cal_script.specs.FrameHeads.{Lacks, SpellsNoNumber, head_line, IsHead, IsNoHead}
 
 -- the first octets of equal texts, and what follows them

@@ -6,11 +6,11 @@ use Rattle.std.proofs.lemmas.List.{append-nil, take-append-drop}
 use Rattle.std.proofs.lemmas.List.Elements.{All-nil}
 use Rattle.std.proofs.lemmas.Option.{same_Some}
 use Rattle.std.proofs.Math.Seq.{take-length}
-use Rattle.cal_base.specs.Outside.{Takes, Goes, Adds}
-use Rattle.cal_base.proofs.Taking.{Takes-more, Takes-end}
-use Rattle.cal_model.specs.Frames.{Frame, bytes, frame_text, frames_text, IsFrame, IsCutInto}
-use Rattle.cal_model.specs.Script.{Standing, IsPrinted, at_start}
-use Rattle.cal_model.specs.UsersFile.{alice_alone}
+use Rattle.cal_base.specs.World.Outside.{Takes, Goes, Adds}
+use Rattle.cal_base.proofs.World.Taking.{Takes-more, Takes-end}
+use Rattle.cal_model.specs.Scripts.Frames.{Frame, bytes, frame_text, frames_text, IsFrame, IsCutInto}
+use Rattle.cal_model.specs.Scripts.Script.{Standing, IsPrinted, at_start}
+use Rattle.cal_model.specs.Scripts.UsersFile.{alice_alone}
 use Rattle.cal_script.specs.declared.answering.Answering.TheVariants.{Cut, Bad}
 use Rattle.cal_script.specs.Answered.{Reaches, IsAnsweredWhole, IsAnsweredInPart, IsAnsweredTo, HasAnswered}
 use Rattle.cal_script.specs.declared.running.FrameEnd.{FrameEnd}

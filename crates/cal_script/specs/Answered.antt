@@ -1,9 +1,9 @@
 -- How far the frames of a script are answered, and what was written of their replies.
 use Rattle.std.specs.Prelude.{◌≡◌, ℕ, ◌≤◌, List, [], ◌∷◌, ◌++◌, length, take, drop, All, Option}
-use Rattle.cal_base.specs.Outside.{Adds}
-use Rattle.cal_model.specs.Frames.{Frame, bytes, frames_text, IsFrame}
-use Rattle.cal_model.specs.Script.{Standing, Turn}
-use Rattle.cal_model.specs.UsersFile.{alice_alone}
+use Rattle.cal_base.specs.World.Outside.{Adds}
+use Rattle.cal_model.specs.Scripts.Frames.{Frame, bytes, frames_text, IsFrame}
+use Rattle.cal_model.specs.Scripts.Script.{Standing, Turn}
+use Rattle.cal_model.specs.Scripts.UsersFile.{alice_alone}
 use Rattle.cal_script.specs.FirstFrames.{BeginsNoFrame, NeverBeginsFrame}
 use Rattle.cal_script.specs.declared.answering.Answering.{Answering}
 use Rattle.cal_script.specs.declared.answering.Answering.TheVariants.{Cut, Bad, OutputFault, NoMemory}

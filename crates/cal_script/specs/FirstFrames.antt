@@ -1,6 +1,6 @@
 -- What stands at the front of some octets of a script: a whole frame, the start of one, or what no frame begins with.
 use Rattle.std.specs.Prelude.{◌≡◌, ◌≢◌, ℕ, List, ◌++◌}
-use Rattle.cal_model.specs.Frames.{Frame, bytes, frame_text, AreInBounds, IsFrame}
+use Rattle.cal_model.specs.Scripts.Frames.{Frame, bytes, frame_text, AreInBounds, IsFrame}
 use Rattle.cal_script.specs.declared.frame.FirstFrame.{FirstFrame}
 use Rattle.cal_script.specs.declared.frame.FirstFrame.TheVariants.{Whole, Cut, Bad}
 

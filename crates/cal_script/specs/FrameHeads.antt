@@ -1,6 +1,6 @@
 -- The line at the front of a frame, and the numbers in it.
 use Rattle.std.specs.Prelude.{◌≡◌, ◌≢◌, ℕ, ◌<◌, ◌≤◌, ◌^◌, List, ◌∷◌, ◌++◌, length, slice_index, All, codes, decimal}
-use Rattle.cal_model.specs.Limits.{payload_limit, last_moment}
+use Rattle.cal_model.specs.Words.Limits.{payload_limit, last_moment}
 
 -- the octet stands nowhere in the text
 abbrev pub Lacks : ℕ → List ℕ → Type 0

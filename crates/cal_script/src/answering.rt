@@ -1,7 +1,7 @@
 //! Answering the frames of some octets.
 ghost use Rattle.std.specs.Prelude.{◌≡◌, ◌≤◌, OnOk, IsErrOf};
-ghost use Rattle.cal_base.specs.Outside.{Rose};
-ghost use Rattle.cal_model.specs.Limits.{last_moment};
+ghost use Rattle.cal_base.specs.World.Outside.{Rose};
+ghost use Rattle.cal_model.specs.Words.Limits.{last_moment};
 ghost use Rattle.cal_script.specs.Answered.{HasAnswered};
 ghost use Rattle.cal_script.specs.AnsweredFrames.{AnswersFrame, AnswersInPart};
 

@@ -1,7 +1,7 @@
 //! Frames of the output.
 ghost use Rattle.std.specs.Prelude.{◌≡◌, ℕ, ◌≤◌, ◌++◌, take, codes, decimal, string_bytes, OnOk, OnErr, IfOk, IsErrOf};
-ghost use Rattle.cal_base.specs.Outside.{Rose, Adds};
-ghost use Rattle.cal_model.specs.Frames.{reply_frame};
+ghost use Rattle.cal_base.specs.World.Outside.{Rose, Adds};
+ghost use Rattle.cal_model.specs.Scripts.Frames.{reply_frame};
 
 use crate::answering::Stop;
 use cal_base::{Failed, NoMemory, Octets, Sink, write_all};

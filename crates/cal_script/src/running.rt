@@ -1,6 +1,6 @@
 //! Running the frames of an input.
 ghost use Rattle.std.specs.Prelude.{◌≡◌, ◌+◌, ◌<◌, ◌≤◌, ◌^◌, [], length, drop, Some, IfOk, IsErrOf, if◌then◌else◌};
-ghost use Rattle.cal_base.specs.Outside.{Rose, Goes};
+ghost use Rattle.cal_base.specs.World.Outside.{Rose, Goes};
 ghost use Rattle.cal_script.specs.FrameEnds.{HasEnded};
 
 use crate::answering::{Answering, answer_frames};

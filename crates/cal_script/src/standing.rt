@@ -1,10 +1,10 @@
 //! Where a script stands, and what one of its frames is answered.
 ghost use Rattle.std.specs.Prelude.{◌≡◌, ◌≤◌, [], IfOk};
-ghost use Rattle.cal_model.specs.Limits.{last_moment};
-ghost use Rattle.cal_model.specs.Script.{at_start, Turn};
-ghost use Rattle.cal_model.specs.Frames.{bytes};
-ghost use Rattle.cal_model.specs.Step.{bare_reply};
-ghost use Rattle.cal_model.specs.UsersFile.{alice_alone};
+ghost use Rattle.cal_model.specs.Words.Limits.{last_moment};
+ghost use Rattle.cal_model.specs.Scripts.Script.{at_start, Turn};
+ghost use Rattle.cal_model.specs.Scripts.Frames.{bytes};
+ghost use Rattle.cal_model.specs.Server.Step.{bare_reply};
+ghost use Rattle.cal_model.specs.Scripts.UsersFile.{alice_alone};
 ghost use Rattle.cal_script.specs.Printed.{printed_of};
 
 use cal_base::{NoMemory, Octets};
@@ -24,7 +24,7 @@ pub(crate) struct Standing {
 
 impl Model for Standing {
     ghost use Rattle.std.specs.Prelude.{[], ◌∷◌, if◌then◌else◌};
-    ghost use Rattle.cal_model.specs.Script.{Standing as ScriptStanding};
+    ghost use Rattle.cal_model.specs.Scripts.Script.{Standing as ScriptStanding};
 
     ghost Value = { ScriptStanding };
 

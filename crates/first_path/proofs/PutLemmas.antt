@@ -1,6 +1,6 @@
 -- The octets of a PUT as its parts and what stands between them.
 use Rattle.std.proofs.Common.{◌≡◌, ℕ, ◌+◌, ◌<◌, ◌^◌, IsTrue, List, ◌∷◌, ◌++◌, length, codes, decimal, sym, ap, ◌∙◌, arith, append_assoc, length-append}
-use Rattle.cal_model.specs.EventTexts.{EventText, IsEventText, event_octets, put_head}
+use Rattle.cal_model.specs.FirstPath.EventTexts.{EventText, IsEventText, event_octets, put_head}
 use Rattle.first_path.specs.Cuts.{lacks}
 use Rattle.first_path.proofs.EventLemmas.{lacks_low, name_high, moment_is, before_uid, before_start, behind_summary, event_octets-parts}
 

@@ -1,7 +1,7 @@
 -- The octets of a query as its parts and what stands between them.
 use Rattle.std.proofs.Common.{◌≡◌, ℕ, IsTrue, List, ◌∷◌, ◌++◌, codes, refl, sym, ap, ◌∙◌, arith}
 use Rattle.std.proofs.lemmas.Int.{ints}
-use Rattle.cal_model.specs.QueryTexts.{QueryText, IsQueryText, query_head, query_body, query_octets}
+use Rattle.cal_model.specs.FirstPath.QueryTexts.{QueryText, IsQueryText, query_head, query_body, query_octets}
 use Rattle.cal_model.specs.declared.row.Range.{Range}
 use Rattle.first_path.specs.Cuts.{lacks}
 use Rattle.first_path.specs.Spans.{IsSpan}

@@ -1,5 +1,5 @@
 -- The parts of a text that vary.
-use Rattle.cal_model.specs.EventTexts.{EventText}
+use Rattle.cal_model.specs.FirstPath.EventTexts.{EventText}
 use Rattle.first_path.specs.declared.event.EventParts.{EventParts}
 
 -- the texts of an event's parts

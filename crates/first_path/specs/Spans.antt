@@ -1,8 +1,8 @@
 -- Two moments in order.
 use Rattle.std.specs.Prelude.{◌≡◌, ℕ, List, Some, ◌≤ℤ◌}
 use Rattle.cal_model.specs.declared.row.Range.{Range}
-use Rattle.cal_model.specs.Limits.{first_date, last_date}
-use Rattle.cal_model.specs.UtcTexts.{utc_of}
+use Rattle.cal_model.specs.Words.Limits.{first_date, last_date}
+use Rattle.cal_model.specs.Values.UtcTexts.{utc_of}
 
 -- the moments that two texts name, and their bounds; both may be the same
 pub record IsSpan (start end : List ℕ) (span : Range) : Type 0 where

@@ -3,7 +3,7 @@
 ghost use Rattle.std.specs.Prelude.{◌≡◌, ◌↔◌, ◌≤◌, length, IsTrue, IsSomeAnd, IfSome};
 ghost use Rattle.std.specs.Int.{IsInRange};
 ghost use Rattle.std.specs.List.{list_all};
-ghost use Rattle.cal_model.specs.EventTexts.{EventText, IsEventText, event_octets, is_name_octet as is_octet_of_name, is_printable as is_printable_octet};
+ghost use Rattle.cal_model.specs.FirstPath.EventTexts.{EventText, IsEventText, event_octets, is_name_octet as is_octet_of_name, is_printable as is_printable_octet};
 ghost use Rattle.first_path.specs.Parts.{text_of};
 
 use crate::moment::span_of;

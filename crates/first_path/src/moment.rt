@@ -1,7 +1,7 @@
 //! Moments in UTC, and the spans between two of them.
 
 ghost use Rattle.std.specs.Prelude.{◌≡◌, IfSome, option_map, pos, ◌+ℤ◌, ◌*ℤ◌};
-ghost use Rattle.cal_model.specs.UtcTexts.{utc_of as moment_of_text};
+ghost use Rattle.cal_model.specs.Values.UtcTexts.{utc_of as moment_of_text};
 ghost use Rattle.cal_model.specs.declared.row.Range.{Range as Span};
 ghost use Rattle.cal_moment.specs.declared.stamp.Utc.{Utc as Moment};
 ghost use Rattle.first_path.specs.Spans.{IsSpan};

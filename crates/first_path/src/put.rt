@@ -1,8 +1,8 @@
 //! The one form of PUT that is read: an event of the calendar of `alice`.
 
 ghost use Rattle.std.specs.Prelude.{◌≡◌, ◌↔◌, ◌++◌, List, ℕ, length, codes, decimal, IsTrue, IsSomeAnd, IfOk, IfSome, MatchOption};
-ghost use Rattle.cal_model.specs.EventTexts.{IsEventText, event_octets, put_head, put_request as put_request_of};
-ghost use Rattle.cal_model.specs.Requests.{SpellsPut};
+ghost use Rattle.cal_model.specs.FirstPath.EventTexts.{IsEventText, event_octets, put_head, put_request as put_request_of};
+ghost use Rattle.cal_model.specs.FirstPath.Requests.{SpellsPut};
 ghost use Rattle.cal_model.specs.declared.request.Request.{Request as Asked};
 ghost use Rattle.first_path.specs.Cuts.{lacks};
 ghost use Rattle.first_path.specs.Parts.{text_of};

@@ -1,10 +1,10 @@
 //! The reason phrases of statuses.
 
 ghost use Rattle.std.specs.Prelude.{◌≡◌};
-ghost use Rattle.cal_model.specs.Statuses.{reason};
+ghost use Rattle.cal_model.specs.Replies.Statuses.{reason};
 
 /// The reason phrase of a status (RFC 9110, 15), empty for one that has none.
-#[tactic(auto, unfolding(cal_model::specs::Statuses::reason))]
+#[tactic(auto, unfolding(cal_model::specs::Replies::Statuses::reason))]
 pub fn reason_phrase(status: u16) -> &'static [u8]
     ensures { result.now ≡ reason status }
 {

@@ -1,11 +1,11 @@
 //! The octets of replies (RFC 9112, 2.1 and 4).
 
 ghost use Rattle.std.specs.Prelude.{◌≡◌, ◌++◌, ◌==◌, ◌&&◌, IfOk, OnOk, codes, decimal, is_some, unsigned_abs};
-ghost use Rattle.cal_base.specs.Outside.{IsMoment};
-ghost use Rattle.cal_model.specs.DateField.{date_of_moment};
-ghost use Rattle.cal_model.specs.ReplyOctets.{field, field_if, methods as methods_of, allow_field, etag_field, type_field, has_content as is_with_content, content_type, content, content_length, fields, reply_octets};
-ghost use Rattle.cal_model.specs.Statuses.{status_line};
-ghost use Rattle.cal_model.specs.TextLines.{ended};
+ghost use Rattle.cal_base.specs.World.Outside.{IsMoment};
+ghost use Rattle.cal_model.specs.Replies.DateField.{date_of_moment};
+ghost use Rattle.cal_model.specs.Replies.ReplyOctets.{field, field_if, methods as methods_of, allow_field, etag_field, type_field, has_content as is_with_content, content_type, content, content_length, fields, reply_octets};
+ghost use Rattle.cal_model.specs.Replies.Statuses.{status_line};
+ghost use Rattle.cal_model.specs.Words.TextLines.{ended};
 
 use crate::reason::reason_phrase;
 use cal_base::{NoMemory, Octets};
@@ -205,7 +205,7 @@ fn push_content(out: &mut Octets, reply: &Reply, head_only: bool) -> Result<(), 
 
 /// The octets of a reply that is written at a moment, in seconds since 1970. `close` is whether the
 /// connection closes after it, `head_only` whether the request was HEAD (RFC 9110, 9.3.2).
-#[tactic(auto, unfolding(cal_model::specs::ReplyOctets::reply_octets))]
+#[tactic(auto, unfolding(cal_model::specs::Replies::ReplyOctets::reply_octets))]
 pub fn write_reply(
     alloc: Global,
     reply: &Reply,

@@ -7,9 +7,9 @@ use Rattle.std.proofs.lemmas.Bool.{cond-true, cond-false, cond_both, or_right, c
 use Rattle.std.proofs.lemmas.Str.{chars-encodes, chars-append, encodes-chars, IsUtf8-from_is_utf8, is_utf8-from_IsUtf8, IsUtf8-drop, IsUtf8-take, IsCharBoundary-past_char, IsCharBoundary-start, length-encode, len_utf8_bounds}
 use lib.Pointwise.{pointwise}
 use lib.Utf8.{encode, encodes, scalars}
-use Rattle.cal_base.specs.LineGrammar.{EndsLine}
-use Rattle.cal_base.specs.Octets.{line_feed, carriage_return, space}
-use Rattle.cal_base.specs.WrittenLines.{folded}
+use Rattle.cal_base.specs.Lines.LineGrammar.{EndsLine}
+use Rattle.cal_base.specs.Texts.Octets.{line_feed, carriage_return, space}
+use Rattle.cal_base.specs.Lines.WrittenLines.{folded}
 
 pub length-encode_le : (character : ℕ) → length (encode character) ≤ 4
 length-encode_le character = let bounds = len_utf8_bounds character in omega (arith, length-encode character)

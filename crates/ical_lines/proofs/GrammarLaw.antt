@@ -8,10 +8,10 @@ use Rattle.std.proofs.lemmas.List.{append-nil, length-map}
 use Rattle.std.proofs.lemmas.List.Elements.{All-nil, All-cons, All-head, All-tail}
 use Rattle.cal_base.specs.declared.line.Param.{Param}
 use Rattle.cal_base.specs.declared.line.Line.{Line}
-use Rattle.cal_base.specs.Octets.{double_quote, comma, colon, semicolon, equals_sign}
-use Rattle.cal_base.specs.Text.{raised_all}
-use Rattle.cal_base.specs.ContentLines.{every, unquoted_pieces, first_unquoted, is_name_octet, is_name, is_special, quoted_value, param_value, param_of_parts, param_of, line_of_pieces, line_of_parts, line_of}
-use Rattle.cal_base.specs.LineGrammar.{WrittenValue, WrittenParam, WrittenLine, is_value, IsParam, IsWritten, value_text, param_text, line_text, param_meant, line_meant, LinesAreTheGrammar}
+use Rattle.cal_base.specs.Texts.Octets.{double_quote, comma, colon, semicolon, equals_sign}
+use Rattle.cal_base.specs.Texts.Text.{raised_all}
+use Rattle.cal_base.specs.Lines.ContentLines.{every, unquoted_pieces, first_unquoted, is_name_octet, is_name, is_special, quoted_value, param_value, param_of_parts, param_of, line_of_pieces, line_of_parts, line_of}
+use Rattle.cal_base.specs.Lines.LineGrammar.{WrittenValue, WrittenParam, WrittenLine, is_value, IsParam, IsWritten, value_text, param_text, line_text, param_meant, line_meant, LinesAreTheGrammar}
 use Rattle.ical_lines.proofs.LineTexts.{map_behind_test}
 use Rattle.ical_lines.proofs.QuotedCuts.{first_unquoted-text, unquoted_pieces-some, unquoted_pieces-join, IsClear, clear_append, clear_found, join-pieces}
 

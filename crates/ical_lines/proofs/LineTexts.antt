@@ -5,9 +5,9 @@ use Rattle.std.specs.List.{list_any, AllByRecursion, cons_option}
 use Rattle.std.specs.Str.{is_utf8, chars}
 use Rattle.std.proofs.lemmas.Bool.{cond-true, cond-false, cond_both, or_parts, cases_Bool}
 use Rattle.cal_base.specs.declared.line.Line.{Line}
-use Rattle.cal_base.specs.Octets.{line_feed, colon, semicolon}
-use Rattle.cal_base.specs.ContentLines.{pieces, Physical, physical_from, physical_lines, groups, unfolded, place_of, least, lesser, is_refused, is_refused_character, Placed, placed_line, first_unquoted, unquoted_pieces, line_of_pieces, line_of_parts, line_of, line_fault, lines_of, logical_lines, is_outside_grammar}
-use Rattle.cal_base.specs.LineGrammar.{IsReadLine}
+use Rattle.cal_base.specs.Texts.Octets.{line_feed, colon, semicolon}
+use Rattle.cal_base.specs.Lines.ContentLines.{pieces, Physical, physical_from, physical_lines, groups, unfolded, place_of, least, lesser, is_refused, is_refused_character, Placed, placed_line, first_unquoted, unquoted_pieces, line_of_pieces, line_of_parts, line_of, line_fault, lines_of, logical_lines, is_outside_grammar}
+use Rattle.cal_base.specs.Lines.LineGrammar.{IsReadLine}
 use Rattle.ical_lines.proofs.Pieces.{IsInOneLine, pieces_one_line, all_unfolded}
 
 -- an answer behind a test, and through a map

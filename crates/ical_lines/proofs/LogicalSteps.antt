@@ -2,8 +2,8 @@
 use Rattle.std.proofs.Common.{◌≡◌, ℕ, true, false, List, ◌∷◌, ◌++◌, drop, Option, Result, sym, ap, ◌∙◌}
 use Rattle.std.specs.Option.{option_or}
 use Rattle.cal_base.specs.declared.line.Line.{Line}
-use Rattle.cal_base.specs.Octets.{line_feed}
-use Rattle.cal_base.specs.ContentLines.{Physical, pieces, physical_from, begins_with_blank, continues, groups}
+use Rattle.cal_base.specs.Texts.Octets.{line_feed}
+use Rattle.cal_base.specs.Lines.ContentLines.{Physical, pieces, physical_from, begins_with_blank, continues, groups}
 use Rattle.ical_lines.specs.GroupReading.{refused_place, read_groups, read_text, read_open}
 use Rattle.ical_lines.proofs.OpenLines.{open_at_first, open_at_fold, open_at_end}
 use Rattle.ical_lines.proofs.PhysicalLines.{continues-physical}

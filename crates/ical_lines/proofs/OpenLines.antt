@@ -3,7 +3,7 @@ use Rattle.std.proofs.Common.{◌≡◌, ℕ, Bool, true, false, cond, List, [],
 use Rattle.std.specs.Option.{option_or}
 use Rattle.std.proofs.lemmas.Bool.{cond-true, cond-false}
 use Rattle.cal_base.specs.declared.line.Line.{Line}
-use Rattle.cal_base.specs.ContentLines.{Physical, begins_with_blank, continues, joined, groups}
+use Rattle.cal_base.specs.Lines.ContentLines.{Physical, begins_with_blank, continues, joined, groups}
 use Rattle.ical_lines.specs.GroupReading.{refused_place, first_refused, read_groups, read_text, read_open}
 
 option_or-none : (o : Option ℕ) → option_or o None ≡ o

@@ -8,9 +8,9 @@ use Rattle.std.proofs.lemmas.List.Elements.{All-nil, All-cons}
 use Rattle.std.proofs.lemmas.List.Folds.{list_any-append}
 use Rattle.std.proofs.lemmas.Str.{IsUtf8-append, IsUtf8-drop, IsUtf8-nil, IsCharBoundary-after_ascii, chars-append, chars-nil, chars_past_char, encode_ascii, IsUtf8-from_is_utf8, is_utf8-from_IsUtf8}
 use Rattle.cal_base.specs.declared.line.Line.{Line}
-use Rattle.cal_base.specs.Octets.{space, tab}
-use Rattle.cal_base.specs.ContentLines.{Physical, physical_lines, is_refused_character, is_refused, begins_with_blank, continues, joined, groups, unfolded, place_of, least, is_outside_grammar, logical_lines, line_fault, lines_of, read_lines}
-use Rattle.cal_base.specs.LineGrammar.{IsReadLine}
+use Rattle.cal_base.specs.Texts.Octets.{space, tab}
+use Rattle.cal_base.specs.Lines.ContentLines.{Physical, physical_lines, is_refused_character, is_refused, begins_with_blank, continues, joined, groups, unfolded, place_of, least, is_outside_grammar, logical_lines, line_fault, lines_of, read_lines}
+use Rattle.cal_base.specs.Lines.LineGrammar.{IsReadLine}
 use Rattle.ical_lines.specs.GroupReading.{refused_place, read_groups, read_text}
 use Rattle.ical_lines.proofs.LineTexts.{IsOfItsText, lines_of-text, read_without_fault, one_physical, lesser_some, no_line-nil, IsOneLine}
 use Rattle.ical_lines.proofs.OpenLines.{open_at_first}

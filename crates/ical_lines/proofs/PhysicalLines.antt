@@ -7,8 +7,8 @@ use borrow.Author.Tests.{eq-eqb, ne_eqb, ltb-true, ltb-false, eqb-true}
 use Rattle.std.proofs.lemmas.Bool.{cond-true, cond-false, cond_both, false_from_ne_true, cases_Bool}
 use Rattle.std.proofs.lemmas.List.{drop_all}
 use Rattle.std.proofs.lemmas.Str.{is_utf8-from_IsUtf8, IsUtf8-from_is_utf8}
-use Rattle.cal_base.specs.Octets.{line_feed, carriage_return}
-use Rattle.cal_base.specs.ContentLines.{pieces, onto_first, without_return, physical_from, begins_with_blank, continues}
+use Rattle.cal_base.specs.Texts.Octets.{line_feed, carriage_return}
+use Rattle.cal_base.specs.Lines.ContentLines.{pieces, onto_first, without_return, physical_from, begins_with_blank, continues}
 use Rattle.ical_lines.proofs.Pieces.{onto_first-some}
 
 abbrev is_line_feed : ℕ → Bool

@@ -2,8 +2,8 @@
 use Rattle.std.proofs.Common.{◌≡◌, ℕ, ◌+◌, ◌<◌, arith, false, ◌==◌, List, [], ◌∷◌, ◌++◌, length, drop, flat_map, refl, ap, ◌∙◌}
 use Rattle.std.specs.List.{AllByRecursion}
 use Rattle.std.proofs.lemmas.Bool.{cond-false, cond_both}
-use Rattle.cal_base.specs.Octets.{line_feed, carriage_return}
-use Rattle.cal_base.specs.ContentLines.{pieces, onto_first, Physical, without_return, physical_from, physical_lines, joined, groups, continues, unfolded}
+use Rattle.cal_base.specs.Texts.Octets.{line_feed, carriage_return}
+use Rattle.cal_base.specs.Lines.ContentLines.{pieces, onto_first, Physical, without_return, physical_from, physical_lines, joined, groups, continues, unfolded}
 
 -- no octet is a line feed
 abbrev pub IsInOneLine : List ℕ → Type 0

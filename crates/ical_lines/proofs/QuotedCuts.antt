@@ -4,7 +4,7 @@ use Rattle.std.specs.List.{AllByRecursion, join_with_byte}
 use Rattle.std.proofs.lemmas.Bool.{and_parts, and_from}
 use borrow.Author.Tests.{not-true, eq-eqb, eqb-true}
 use Rattle.ical_lines.proofs.Pieces.{onto_first-some}
-use Rattle.cal_base.specs.ContentLines.{onto_first, quoted_after, unquoted_pieces, first_unquoted}
+use Rattle.cal_base.specs.Lines.ContentLines.{onto_first, quoted_after, unquoted_pieces, first_unquoted}
 
 -- what is found at an octet, and what in the octets behind it
 abbrev found_from : Bool → ℕ → List ℕ → Option (List ℕ × List ℕ) → Option (List ℕ × List ℕ)

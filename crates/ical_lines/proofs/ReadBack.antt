@@ -9,10 +9,10 @@ use Rattle.std.proofs.lemmas.Bool.{and_parts, or_parts, and_right, cond-true, co
 use Rattle.std.proofs.lemmas.Str.{chars-encodes, encodes-chars, scalars-chars, encodes-append, encode_ascii, IsUtf8-from_is_utf8, is_utf8-from_IsUtf8, length-encode, len_utf8_bounds}
 use Rattle.std.proofs.lemmas.List.{nil_from_length}
 use Rattle.cal_base.specs.declared.line.Line.{Line}
-use Rattle.cal_base.specs.Octets.{line_feed, carriage_return, space, tab, colon}
-use Rattle.cal_base.specs.ContentLines.{pieces, onto_first, Physical, without_return, physical_from, physical_lines, is_refused_character, begins_with_blank, continues, joined, groups, unfolded, place_of, is_name_octet, is_name, line_of, read_lines}
-use Rattle.cal_base.specs.WrittenLines.{folded, written}
-use Rattle.cal_base.specs.LineGrammar.{IsReadLine, EndsLine, param_text}
+use Rattle.cal_base.specs.Texts.Octets.{line_feed, carriage_return, space, tab, colon}
+use Rattle.cal_base.specs.Lines.ContentLines.{pieces, onto_first, Physical, without_return, physical_from, physical_lines, is_refused_character, begins_with_blank, continues, joined, groups, unfolded, place_of, is_name_octet, is_name, line_of, read_lines}
+use Rattle.cal_base.specs.Lines.WrittenLines.{folded, written}
+use Rattle.cal_base.specs.Lines.LineGrammar.{IsReadLine, EndsLine, param_text}
 use Rattle.ical_lines.specs.GroupReading.{refused_place, first_refused, text_fault, text_lines, read_groups, read_text, read_open}
 use Rattle.ical_lines.proofs.Folding.{length-encode_le, folded_fits, folded_over}
 use Rattle.ical_lines.proofs.GrammarLaw.{line_written, differs, end_octet}

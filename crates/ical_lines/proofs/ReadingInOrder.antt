@@ -5,8 +5,8 @@ use Rattle.std.specs.List.{AllByRecursion, cons_option}
 use Rattle.std.specs.Option.{option_or, option_to_list, option_map}
 use Rattle.std.proofs.lemmas.Bool.{cond-true, cond-false, cond_both, cases_Bool, and_parts}
 use Rattle.cal_base.specs.declared.line.Line.{Line}
-use Rattle.cal_base.specs.Octets.{line_feed}
-use Rattle.cal_base.specs.ContentLines.{pieces, Physical, physical_from, physical_lines, continues, joined, groups, unfolded, place_of, lesser, least, is_refused, is_outside_grammar, line_of, Placed, placed_line, read_lines}
+use Rattle.cal_base.specs.Texts.Octets.{line_feed}
+use Rattle.cal_base.specs.Lines.ContentLines.{pieces, Physical, physical_from, physical_lines, continues, joined, groups, unfolded, place_of, lesser, least, is_refused, is_outside_grammar, line_of, Placed, placed_line, read_lines}
 use Rattle.ical_lines.specs.GroupReading.{first_refused, is_no_line, text_lines, read_groups}
 use Rattle.ical_lines.proofs.LineTexts.{read_as}
 use Rattle.ical_lines.proofs.Pieces.{all_append}

@@ -3,7 +3,7 @@
 use Rattle.std.specs.Prelude.{ℕ, Bool, true, false, ◌&&◌, nat_lt, if◌then◌else◌, List, [], ◌∷◌, ◌++◌, length, drop, flat_map, Option, Some, None, Result, Ok, Err}
 use Rattle.std.specs.Option.{option_or, option_to_list}
 use Rattle.cal_base.specs.declared.line.Line.{Line}
-use Rattle.cal_base.specs.ContentLines.{Physical, continues, is_refused, unfolded, place_of, line_of}
+use Rattle.cal_base.specs.Lines.ContentLines.{Physical, continues, is_refused, unfolded, place_of, line_of}
 
 -- the place of a physical line, if it is refused
 abbrev pub refused_place : Physical → Option ℕ

@@ -1,7 +1,7 @@
 -- Parts of a text between separators outside double quotes, as the private functions take them one after another.
 use Rattle.std.specs.Prelude.{ℕ, ◌+◌, false, List, [], ◌++◌, length, Option, Some, None, option_map}
 use Rattle.std.specs.Borrow.{Bor}
-use Rattle.cal_base.specs.ContentLines.{unquoted_pieces}
+use Rattle.cal_base.specs.Lines.ContentLines.{unquoted_pieces}
 
 -- two borrowed texts as texts
 abbrev pub both_texts : Bor (List ℕ) × Bor (List ℕ) → List ℕ × List ℕ

@@ -1,8 +1,8 @@
 //! The text of a logical line, read by its grammar (RFC 5545, 3.1).
 ghost use Rattle.std.specs.Prelude.{◌≡◌, ◌==◌, map, IfOk};
 ghost use Rattle.std.specs.List.{list_any, list_all};
-ghost use Rattle.cal_base.specs.Octets.{comma, semicolon, double_quote};
-ghost use Rattle.cal_base.specs.ContentLines.{is_name_octet, is_name, is_special, quoted_value, param_value, every, param_of, line_of};
+ghost use Rattle.cal_base.specs.Texts.Octets.{comma, semicolon, double_quote};
+ghost use Rattle.cal_base.specs.Lines.ContentLines.{is_name_octet, is_name, is_special, quoted_value, param_value, every, param_of, line_of};
 ghost use Rattle.ical_lines.specs.UnquotedParts.{text_there, later_pieces};
 
 use crate::unquoted::{first_piece, split_unquoted};

@@ -2,8 +2,8 @@
 ghost use Rattle.std.specs.Prelude.{◌≡◌, ℕ, ◌+◌, ◌-◌, ◌<◌, ◌∷◌, ◌||◌, not, List, length, position, ◌==◌};
 ghost use Rattle.std.specs.List.{list_any};
 ghost use Rattle.std.specs.Str.{is_utf8, chars};
-ghost use Rattle.cal_base.specs.Octets.{line_feed};
-ghost use Rattle.cal_base.specs.ContentLines.{Physical, begins_with_blank, is_refused_character, pieces, physical_from, without_return};
+ghost use Rattle.cal_base.specs.Texts.Octets.{line_feed};
+ghost use Rattle.cal_base.specs.Lines.ContentLines.{Physical, begins_with_blank, is_refused_character, pieces, physical_from, without_return};
 
 use std::str;
 

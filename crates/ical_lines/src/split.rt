@@ -2,9 +2,9 @@
 ghost use Rattle.std.specs.Prelude.{◌≡◌, ℕ, ◌+◌, ◌-◌, ◌<◌, ◌^◌, List, [], All, length, Option, None, IfOk, IsErrOf, Ok, Err};
 ghost use Rattle.std.specs.Option.{option_or, option_to_list};
 ghost use Rattle.cal_base.specs.declared.line.Line.{Line};
-ghost use Rattle.cal_base.specs.Octets.{line_feed};
-ghost use Rattle.cal_base.specs.ContentLines.{pieces, physical_from, groups, read_lines};
-ghost use Rattle.cal_base.specs.LineGrammar.{IsReadLine, LinesAreTheGrammar};
+ghost use Rattle.cal_base.specs.Texts.Octets.{line_feed};
+ghost use Rattle.cal_base.specs.Lines.ContentLines.{pieces, physical_from, groups, read_lines};
+ghost use Rattle.cal_base.specs.Lines.LineGrammar.{IsReadLine, LinesAreTheGrammar};
 ghost use Rattle.ical_lines.specs.GroupReading.{refused_place, text_fault, text_lines, read_groups, read_text};
 
 use crate::line_text::read_line;

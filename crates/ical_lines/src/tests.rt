@@ -1,6 +1,6 @@
 //! What no clause says: that the definitions mean what the standard's examples show.
 ghost use Rattle.std.specs.Prelude.{All};
-ghost use Rattle.cal_base.specs.LineGrammar.{IsReadLine};
+ghost use Rattle.cal_base.specs.Lines.LineGrammar.{IsReadLine};
 
 use crate::{LineFault, split_lines, write_line};
 use cal_base::{Line, List, NoMemory, Octets};

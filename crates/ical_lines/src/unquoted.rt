@@ -1,6 +1,6 @@
 //! Cutting a text at separators that stand outside double quotes.
 ghost use Rattle.std.specs.Prelude.{◌≡◌, ◌<◌, Bool, false, ◌∷◌, length, option_map, IfSome};
-ghost use Rattle.cal_base.specs.ContentLines.{first_unquoted, quoted_after, unquoted_pieces};
+ghost use Rattle.cal_base.specs.Lines.ContentLines.{first_unquoted, quoted_after, unquoted_pieces};
 ghost use Rattle.ical_lines.specs.UnquotedParts.{both_texts, text_there, later_pieces};
 
 /// The text before the first separator outside double quotes, and the text behind it.

@@ -2,10 +2,10 @@
 ghost use Rattle.std.specs.Prelude.{◌≡◌, ℕ, ◌+◌, ◌<◌, ◌≤◌, ◌++◌, ◌∷◌, ◌↔◌, List, [], Ok, OnOk, OnErr, IsTrue, length, take, drop};
 ghost use Rattle.std.specs.Str.{is_utf8, chars};
 ghost use Rattle.cal_base.specs.declared.line.Line.{Line};
-ghost use Rattle.cal_base.specs.ContentLines.{read_lines};
-ghost use Rattle.cal_base.specs.LineGrammar.{IsLineText, IsReadLine, EndsLine};
-ghost use Rattle.cal_base.specs.Octets.{line_feed, carriage_return, space};
-ghost use Rattle.cal_base.specs.WrittenLines.{folded, written};
+ghost use Rattle.cal_base.specs.Lines.ContentLines.{read_lines};
+ghost use Rattle.cal_base.specs.Lines.LineGrammar.{IsLineText, IsReadLine, EndsLine};
+ghost use Rattle.cal_base.specs.Texts.Octets.{line_feed, carriage_return, space};
+ghost use Rattle.cal_base.specs.Lines.WrittenLines.{folded, written};
 
 use cal_base::{NoMemory, Octets};
 

@@ -6,13 +6,13 @@ use Rattle.std.proofs.lemmas.Bool.{le-leb, lt-leb}
 use Rattle.std.proofs.lemmas.List.{length-map}
 use Rattle.cal_base.specs.declared.line.Line.{Line}
 use Rattle.cal_base.specs.declared.line.Node.{Node}
-use Rattle.cal_base.specs.ComponentTrees.{is_begin, is_end, component_name, NestingFault, wrong_end, too_deep, or_else, Level, component, with_line, with_begin, levels_before, outermost}
+use Rattle.cal_base.specs.Lines.ComponentTrees.{is_begin, is_end, component_name, NestingFault, wrong_end, too_deep, or_else, Level, component, with_line, with_begin, levels_before, outermost}
 use Rattle.ical_objects.specs.declared.fault.TreeFault.TheVariants.{WrongEnd, TooDeep}
 use Rattle.ical_objects.specs.declared.stack.OpenComponent.{OpenComponent}
 use Rattle.ical_objects.specs.declared.from_lines.Progress.TheVariants.{Nothing, Within, Whole}
-use Rattle.cal_base.specs.Nesting.{Opening, fault_of_next, open_behind, fault_from}
+use Rattle.cal_base.specs.Lines.Nesting.{Opening, fault_of_next, open_behind, fault_from}
 use Rattle.ical_objects.specs.Building.{IsBehind, IsStep, IsStop, opening_of, openings, with_so_far, closed, tree_with, whole_node, ended}
-use Rattle.cal_base.proofs.NestingSteps.{begins, ends, neither, kind_of, open_behind_begin, open_behind_end, open_behind_own, fault_of_first, fault_of_stray, fault_of_later, fault_of_begin, fault_of_end, fault_of_own, before_begin, before_end, before_own}
+use Rattle.cal_base.proofs.Lines.NestingSteps.{begins, ends, neither, kind_of, open_behind_begin, open_behind_end, open_behind_own, fault_of_first, fault_of_stray, fault_of_later, fault_of_begin, fault_of_end, fault_of_own, before_begin, before_end, before_own}
 use Rattle.ical_objects.proofs.PrintedTrees.{IsSome_level, some_level, with_child, level_alone, with_begin-with_child}
 
 -- Faults

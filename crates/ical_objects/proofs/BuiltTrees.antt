@@ -7,12 +7,12 @@ use Rattle.std.proofs.lemmas.Bool.{leb-false, not-false}
 use Rattle.std.proofs.lemmas.Slice.Eq.{bytes_eq-Decides}
 use Rattle.cal_base.specs.declared.line.Line.{Line}
 use Rattle.cal_base.specs.declared.line.Node.{Node}
-use Rattle.cal_base.specs.ComponentTrees.{is_begin, is_end, component_name, NestingFault, wrong_end, too_deep, or_else, nesting_fault, tree_of, Level, nothing_more, component, with_line, with_begin, levels_before, outermost}
-use Rattle.cal_base.specs.LineGrammar.{IsComponent, whole, IsBody, empty, own_line, own_component, IsReadLine, IsBuilt}
-use Rattle.cal_base.specs.Nesting.{Opening, fault_of_next, open_behind, fault_from}
+use Rattle.cal_base.specs.Lines.ComponentTrees.{is_begin, is_end, component_name, NestingFault, wrong_end, too_deep, or_else, nesting_fault, tree_of, Level, nothing_more, component, with_line, with_begin, levels_before, outermost}
+use Rattle.cal_base.specs.Lines.LineGrammar.{IsComponent, whole, IsBody, empty, own_line, own_component, IsReadLine, IsBuilt}
+use Rattle.cal_base.specs.Lines.Nesting.{Opening, fault_of_next, open_behind, fault_from}
 use Rattle.ical_objects.specs.Printing.{IsPrintable, printable, ArePrintable, no_more, one_more, IsOwnLine}
-use Rattle.cal_base.proofs.NestingSteps.{Kind, begins, ends, neither, kind_of, open_behind_begin, open_behind_end, open_behind_own, fault_of_stray, fault_of_later, fault_of_begin, fault_of_end, before_begin, before_end, before_own}
-use Rattle.cal_base.proofs.FaultsFromFront.{nesting_fault-from_front}
+use Rattle.cal_base.proofs.Lines.NestingSteps.{Kind, begins, ends, neither, kind_of, open_behind_begin, open_behind_end, open_behind_own, fault_of_stray, fault_of_later, fault_of_begin, fault_of_end, before_begin, before_end, before_own}
+use Rattle.cal_base.proofs.Lines.FaultsFromFront.{nesting_fault-from_front}
 use Rattle.ical_objects.proofs.CleanTexts.{raised_all-raised_all}
 use Rattle.ical_objects.proofs.ComponentLines.{IsReadLine-begin_line, IsReadLine-end_line}
 

@@ -10,9 +10,9 @@ use Rattle.std.proofs.lemmas.Bool.{cases_lt, le-ltb, lt-leb, le-leb, ne_eqb, and
 use Rattle.std.proofs.lemmas.List.{map-append, length-append}
 use Rattle.std.proofs.lemmas.List.Folds.{list_any-append}
 use Rattle.std.proofs.lemmas.Str.{IsUtf8-from_is_utf8, is_utf8-from_IsUtf8, IsUtf8-take, IsUtf8-drop, IsCharBoundary-before_ascii, IsCharBoundary-after_ascii, encode_ascii, encodes-append, encodes_same, encodes-chars, scalars-chars, chars-encodes, inside_one}
-use Rattle.cal_base.specs.Text.{raised, raised_all}
-use Rattle.cal_base.specs.Octets.{line_feed, tab}
-use Rattle.cal_base.specs.ContentLines.{is_refused_character, pieces, onto_first}
+use Rattle.cal_base.specs.Texts.Text.{raised, raised_all}
+use Rattle.cal_base.specs.Texts.Octets.{line_feed, tab}
+use Rattle.cal_base.specs.Lines.ContentLines.{is_refused_character, pieces, onto_first}
 
 pub record IsClean (text : List ℕ) : Type 0 where
   pub characters : List ℕ

@@ -7,11 +7,11 @@ use Rattle.std.proofs.Math.Utf8.{encode}
 use Rattle.std.proofs.lemmas.Bool.{cases_Bool, or_parts, or_from, not-false, eqb-true, lt-ltb, ne_eqb, or_cases, and_parts}
 use Rattle.cal_base.specs.declared.line.Line.{Line}
 use Rattle.cal_base.specs.declared.line.Param.{Param}
-use Rattle.cal_base.specs.Text.{raised_all}
-use Rattle.cal_base.specs.Octets.{colon, semicolon, space, tab}
-use Rattle.cal_base.specs.ContentLines.{Physical, physical_from, physical_lines, is_refused, is_refused_character, is_outside_grammar, groups, joined, begins_with_blank, unfolded, place_of, logical_lines, quoted_after, first_unquoted, unquoted_pieces, every, param_of, is_name, line_of_pieces, line_of_parts, line_of, lesser, least, Placed, placed_line, line_fault, lines_of, read_lines}
-use Rattle.cal_base.specs.ComponentTrees.{component_name}
-use Rattle.cal_base.specs.LineGrammar.{IsReadLine}
+use Rattle.cal_base.specs.Texts.Text.{raised_all}
+use Rattle.cal_base.specs.Texts.Octets.{colon, semicolon, space, tab}
+use Rattle.cal_base.specs.Lines.ContentLines.{Physical, physical_from, physical_lines, is_refused, is_refused_character, is_outside_grammar, groups, joined, begins_with_blank, unfolded, place_of, logical_lines, quoted_after, first_unquoted, unquoted_pieces, every, param_of, is_name, line_of_pieces, line_of_parts, line_of, lesser, least, Placed, placed_line, line_fault, lines_of, read_lines}
+use Rattle.cal_base.specs.Lines.ComponentTrees.{component_name}
+use Rattle.cal_base.specs.Lines.LineGrammar.{IsReadLine}
 use Rattle.ical_objects.specs.Printing.{begin_line, end_line}
 use Rattle.ical_objects.proofs.CleanTexts.{IsClean, IsClean-nil, IsClean-from_tests, is_utf8-IsClean, allowed-IsClean, IsClean-append, IsClean-behind, IsClean-raised_all, pieces-IsClean}
 

@@ -11,10 +11,10 @@ use Rattle.cal_base.specs.declared.line.Line.{Line}
 use Rattle.cal_base.specs.declared.line.Node.{Node}
 use Rattle.cal_base.specs.declared.line.Node.TheViews.{out-Node, roll-Node, out-roll-Node}
 use Rattle.cal_base.specs.declared.line.Node.TheFolds.{fold_out-Node}
-use Rattle.cal_base.specs.ContentLines.{read_lines}
-use Rattle.cal_base.specs.ComponentTrees.{print_step, printed}
-use Rattle.cal_base.specs.WrittenLines.{written, written_line}
-use Rattle.cal_base.specs.LineGrammar.{IsReadLine, EndsLine}
+use Rattle.cal_base.specs.Lines.ContentLines.{read_lines}
+use Rattle.cal_base.specs.Lines.ComponentTrees.{print_step, printed}
+use Rattle.cal_base.specs.Lines.WrittenLines.{written, written_line}
+use Rattle.cal_base.specs.Lines.LineGrammar.{IsReadLine, EndsLine}
 use Rattle.ical_objects.specs.Printing.{begin_line, end_line, lines_step, lines_of_tree, AddsLines, IsOwnLine, IsPrintable, printable, ArePrintable, no_more, one_more}
 use Rattle.ical_objects.proofs.PrintedTrees.{lines_of_trees}
 

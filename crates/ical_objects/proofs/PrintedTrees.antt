@@ -7,12 +7,12 @@ use Rattle.std.proofs.lemmas.Slice.Eq.{bytes_eq-Decides}
 use Rattle.cal_base.specs.declared.line.Line.{Line}
 use Rattle.cal_base.specs.declared.line.Node.{Node}
 use Rattle.cal_base.specs.declared.line.Node.TheFolds.{fold-roll-Node}
-use Rattle.cal_base.specs.Text.{raised_all}
-use Rattle.cal_base.specs.ComponentTrees.{is_begin, is_end, component_name, wrong_end, too_deep, unclosed, or_else, nesting_fault, tree_of, Level, nothing_more, component, with_line, with_begin, levels_before, outermost}
-use Rattle.cal_base.specs.Nesting.{Opening, fault_of_next, open_behind, fault_from}
+use Rattle.cal_base.specs.Texts.Text.{raised_all}
+use Rattle.cal_base.specs.Lines.ComponentTrees.{is_begin, is_end, component_name, wrong_end, too_deep, unclosed, or_else, nesting_fault, tree_of, Level, nothing_more, component, with_line, with_begin, levels_before, outermost}
+use Rattle.cal_base.specs.Lines.Nesting.{Opening, fault_of_next, open_behind, fault_from}
 use Rattle.ical_objects.specs.Printing.{begin_line, end_line, lines_step, lines_of_tree, IsPrintable, printable, ArePrintable, no_more, one_more, IsOwnLine}
-use Rattle.cal_base.proofs.NestingSteps.{open_behind_own, fault_of_first, fault_of_begin, fault_of_end, fault_of_own, before_own}
-use Rattle.cal_base.proofs.FaultsFromFront.{nesting_fault-from_front}
+use Rattle.cal_base.proofs.Lines.NestingSteps.{open_behind_own, fault_of_first, fault_of_begin, fault_of_end, fault_of_own, before_own}
+use Rattle.cal_base.proofs.Lines.FaultsFromFront.{nesting_fault-from_front}
 
 -- the lines of the components of a list
 abbrev pub lines_of_trees : List Node → List Line

@@ -3,13 +3,13 @@
 use Rattle.std.specs.Prelude.{◌≡◌, ℕ, ◌<◌, suc, List, [], ◌∷◌, ◌++◌, map, Option, Some}
 use Rattle.cal_base.specs.declared.line.Line.{Line}
 use Rattle.cal_base.specs.declared.line.Node.{Node}
-use Rattle.cal_base.specs.ComponentTrees.{Level, with_begin, levels_before, outermost, tree_of, component}
+use Rattle.cal_base.specs.Lines.ComponentTrees.{Level, with_begin, levels_before, outermost, tree_of, component}
 use Rattle.ical_objects.specs.declared.fault.TreeFault.{TreeFault}
 use Rattle.ical_objects.specs.declared.stack.OpenComponent.{OpenComponent}
 use Rattle.ical_objects.specs.declared.from_lines.Progress.{Progress}
 use Rattle.ical_objects.specs.declared.from_lines.Progress.TheVariants.{Nothing, Within, Whole}
 use Rattle.ical_objects.specs.Faults.{IsFaultOf}
-use Rattle.cal_base.specs.Nesting.{Opening, fault_from}
+use Rattle.cal_base.specs.Lines.Nesting.{Opening, fault_from}
 
 abbrev pub opening_of : OpenComponent → Opening
 opening_of component = record { line = component.begin; name = component.name }

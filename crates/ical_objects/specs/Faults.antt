@@ -1,6 +1,6 @@
 -- The faults that `build` tells.
 use Rattle.std.specs.Prelude.{◌≡◌, Option, Some}
-use Rattle.cal_base.specs.ComponentTrees.{NestingFault, unclosed, wrong_end, too_deep}
+use Rattle.cal_base.specs.Lines.ComponentTrees.{NestingFault, unclosed, wrong_end, too_deep}
 use Rattle.ical_objects.specs.declared.fault.TreeFault.{TreeFault}
 use Rattle.ical_objects.specs.declared.fault.TreeFault.TheVariants.{Unclosed, WrongEnd, TooDeep, NoMemory}
 

@@ -5,10 +5,10 @@ use Rattle.cal_base.specs.declared.line.Line.{Line}
 use Rattle.cal_base.specs.declared.line.Node.{Node}
 use Rattle.cal_base.specs.declared.line.Node.TheOpen.{Node-F}
 use Rattle.cal_base.specs.declared.line.Node.TheFolds.{fold-Node}
-use Rattle.cal_base.specs.Text.{raised_all}
-use Rattle.cal_base.specs.ComponentTrees.{is_begin, is_end, Level, component}
-use Rattle.cal_base.specs.LineGrammar.{IsReadLine, EndsLine}
-use Rattle.cal_base.specs.ContentLines.{read_lines}
+use Rattle.cal_base.specs.Texts.Text.{raised_all}
+use Rattle.cal_base.specs.Lines.ComponentTrees.{is_begin, is_end, Level, component}
+use Rattle.cal_base.specs.Lines.LineGrammar.{IsReadLine, EndsLine}
+use Rattle.cal_base.specs.Lines.ContentLines.{read_lines}
 
 abbrev pub begin_line : List ℕ → Line
 begin_line name = record { name = codes "BEGIN"; params = []; value = name; raw = codes "BEGIN:" ++ name }

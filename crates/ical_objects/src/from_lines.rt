@@ -1,8 +1,8 @@
 //! From lines to a tree.
 ghost use Rattle.std.specs.Prelude.{◌≡◌, ℕ, ◌<◌, ◌^◌, [], length, None, Some, All, IfOk, IfErr, IsTrue, IsFalse};
-ghost use Rattle.cal_base.specs.ComponentTrees.{is_begin, is_end, component_name, nesting_fault, tree_of};
-ghost use Rattle.cal_base.specs.LineGrammar.{IsReadLine, IsComponent};
-ghost use Rattle.cal_base.specs.Nesting.{fault_from};
+ghost use Rattle.cal_base.specs.Lines.ComponentTrees.{is_begin, is_end, component_name, nesting_fault, tree_of};
+ghost use Rattle.cal_base.specs.Lines.LineGrammar.{IsReadLine, IsComponent};
+ghost use Rattle.cal_base.specs.Lines.Nesting.{fault_from};
 ghost use Rattle.ical_objects.specs.Faults.{IsFaultOf};
 ghost use Rattle.ical_objects.specs.Building.{IsBehind, IsStep, IsStop, whole_node, ended, openings, tree_with};
 

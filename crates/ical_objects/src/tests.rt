@@ -1,6 +1,6 @@
 //! Texts of the outside, read, built and printed.
 ghost use Rattle.std.specs.Prelude.{IfOk};
-ghost use Rattle.cal_base.specs.LineGrammar.{IsBuilt};
+ghost use Rattle.cal_base.specs.Lines.LineGrammar.{IsBuilt};
 
 use crate::{TreeFault, build, print};
 use cal_base::{List, Node};

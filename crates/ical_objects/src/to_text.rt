@@ -2,9 +2,9 @@
 ghost use Rattle.std.specs.Prelude.{◌≡◌, ℕ, [], ◌∷◌, ◌++◌, flat_map, IfOk, OnOk};
 ghost use Rattle.std.specs.List.{AllByRecursion};
 ghost use Rattle.cal_base.specs.declared.line.Line.{Line};
-ghost use Rattle.cal_base.specs.WrittenLines.{written, written_line};
-ghost use Rattle.cal_base.specs.ComponentTrees.{printed};
-ghost use Rattle.cal_base.specs.LineGrammar.{IsReadLine, IsLineText, IsBuilt, IsReadAs};
+ghost use Rattle.cal_base.specs.Lines.WrittenLines.{written, written_line};
+ghost use Rattle.cal_base.specs.Lines.ComponentTrees.{printed};
+ghost use Rattle.cal_base.specs.Lines.LineGrammar.{IsReadLine, IsLineText, IsBuilt, IsReadAs};
 ghost use Rattle.ical_objects.specs.Printing.{IsPrintable, IsOwnLine, AddsLines, lines_of_tree};
 
 use cal_base::{Line, Name, NoMemory, Node, Octets};

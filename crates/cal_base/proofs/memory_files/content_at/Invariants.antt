@@ -1,5 +1,5 @@
 use Rattle.std.proofs.Common.{◌≡◌, drop}
-use Rattle.cal_base.specs.Memory.{content_of}
+use Rattle.cal_base.specs.World.Memory.{content_of}
 use Rattle.cal_base.proofs.memory_files.content_at.Given as goal
 
 -- no file so far has the path

@@ -1,6 +1,6 @@
 use Rattle.std.proofs.Common.{◌≡◌, filter}
 use Rattle.std.specs.Ordering.{is_lt}
-use Rattle.cal_base.specs.NameMap.{name_order}
+use Rattle.cal_base.specs.Lists.NameMap.{name_order}
 use Rattle.cal_base.proofs.name_map.first_above.Given as goal
 
 -- no pair that was passed is above the name

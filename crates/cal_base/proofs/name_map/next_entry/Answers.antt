@@ -1,6 +1,6 @@
 use Rattle.std.proofs.Common.{◌∙◌, ap}
 use Rattle.std.specs.List.{slice_get}
-use Rattle.cal_base.proofs.NameMapLemmas.{entries_above-same}
+use Rattle.cal_base.proofs.Lists.NameMapLemmas.{entries_above-same}
 use Rattle.cal_base.proofs.name_map.next_entry.Goals as goal
 
 pub returns-in-Some : goal.returns-in-Some

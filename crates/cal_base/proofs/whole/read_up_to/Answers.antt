@@ -1,5 +1,5 @@
 use Rattle.std.proofs.Common.{◌+◌, arith, []}
-use Rattle.cal_base.proofs.Taking.{Goes-more, Goes-then, Goes-up_to}
+use Rattle.cal_base.proofs.World.Taking.{Goes-more, Goes-then, Goes-up_to}
 use Rattle.cal_base.proofs.whole.read_up_to.Goals as goal
 
 pub returns-in_err-take_piece-clause-taken : goal.returns-in_err-take_piece-clause-taken

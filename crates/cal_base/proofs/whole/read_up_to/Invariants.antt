@@ -1,5 +1,5 @@
 use Rattle.std.proofs.Common.{◌+◌, ◌<◌, ◌≤◌, ◌^◌, [], length}
-use Rattle.cal_base.specs.Outside.{Goes}
+use Rattle.cal_base.specs.World.Outside.{Goes}
 use Rattle.cal_base.proofs.whole.read_up_to.Given as goal
 
 -- what was taken is what was read, within the limit and all that a source may give, and the count never fell

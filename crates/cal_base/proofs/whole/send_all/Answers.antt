@@ -1,5 +1,5 @@
 use Rattle.std.proofs.Common.{ap, arith, length, length-drop}
-use Rattle.cal_base.proofs.Taking.{Adds-next}
+use Rattle.cal_base.proofs.World.Taking.{Adds-next}
 use Rattle.cal_base.proofs.whole.send_all.Goals as goal
 
 pub sending-preserved : goal.sending-preserved

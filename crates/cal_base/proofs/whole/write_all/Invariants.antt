@@ -1,5 +1,5 @@
 use Rattle.std.proofs.Common.{◌-◌, ◌≤◌, length, take}
-use Rattle.cal_base.specs.Outside.{Adds}
+use Rattle.cal_base.specs.World.Outside.{Adds}
 use Rattle.cal_base.proofs.whole.write_all.Given as goal
 
 -- so much of the piece was written, and the count never fell

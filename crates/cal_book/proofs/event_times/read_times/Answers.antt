@@ -1,10 +1,10 @@
 use Rattle.std.proofs.Common.{◌≡◌, ℕ, List, [], sym, ap, ◌∙◌, codes, option_map, option_and_then, find, Ok, Err, Option, ℤ}
 use Rattle.std.specs.Result.{result_unwrap_or}
 use Rattle.std.specs.Str.{bytes_eq}
-use Rattle.cal_base.specs.ContentLines.{read_lines}
+use Rattle.cal_base.specs.Lines.ContentLines.{read_lines}
 use Rattle.cal_base.specs.declared.line.Line.{Line}
-use Rattle.cal_model.specs.EventTimes.{start_of, end_of}
-use Rattle.cal_model.specs.UtcTexts.{utc_of}
+use Rattle.cal_model.specs.Server.EventTimes.{start_of, end_of}
+use Rattle.cal_model.specs.Values.UtcTexts.{utc_of}
 use Rattle.cal_book.proofs.event_times.read_times.Goals as goal
 
 -- the moment in the first of some lines that has a name

@@ -1,5 +1,5 @@
 use Rattle.std.proofs.Common.{◌++◌, codes, ap, ◌∙◌}
-use Rattle.cal_model.specs.Hrefs.{segment}
+use Rattle.cal_model.specs.Replies.Hrefs.{segment}
 use Rattle.cal_book.specs.XmlTags.{opening_tag}
 use Rattle.cal_book.proofs.XmlLemmas.{then_more}
 use Rattle.cal_book.proofs.MultistatusLemmas.{href_pieces}

@@ -1,6 +1,6 @@
 use Rattle.std.proofs.Common.{◌++◌, codes, ap, ◌∙◌}
-use Rattle.cal_model.specs.Etags.{etag_of, etag_text}
-use Rattle.cal_model.specs.XmlText.{element, xml_text}
+use Rattle.cal_model.specs.Replies.Etags.{etag_of, etag_text}
+use Rattle.cal_model.specs.Replies.XmlText.{element, xml_text}
 use Rattle.cal_book.specs.XmlTags.{opening_tag, closing_tag}
 use Rattle.cal_book.proofs.XmlLemmas.{then_more}
 use Rattle.cal_book.proofs.MultistatusLemmas.{propstat_pieces}

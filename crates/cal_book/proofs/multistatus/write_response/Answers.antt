@@ -1,8 +1,8 @@
 use Rattle.std.proofs.Common.{◌++◌, codes, ap, ◌∙◌}
 use Rattle.cal_model.specs.declared.path.Path.TheVariants.{Object as ObjectPath}
-use Rattle.cal_model.specs.Hrefs.{href}
-use Rattle.cal_model.specs.Multistatus.{object_properties}
-use Rattle.cal_model.specs.XmlText.{element, xml_text, propstat}
+use Rattle.cal_model.specs.Replies.Hrefs.{href}
+use Rattle.cal_model.specs.Server.Multistatus.{object_properties}
+use Rattle.cal_model.specs.Replies.XmlText.{element, xml_text, propstat}
 use Rattle.cal_book.specs.OneHome.{alice, calendar_name}
 use Rattle.cal_book.specs.XmlTags.{opening_tag}
 use Rattle.cal_book.proofs.XmlLemmas.{then_more}

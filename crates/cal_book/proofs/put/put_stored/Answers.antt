@@ -1,5 +1,5 @@
 use Rattle.std.proofs.Common.{ap, ap₂, ◌∙◌}
-use Rattle.cal_base.specs.NameMap.{with_value}
+use Rattle.cal_base.specs.Lists.NameMap.{with_value}
 use Rattle.cal_book.specs.StoredObjects.{octets_of}
 use Rattle.cal_book.proofs.StoredLemmas.{octets_of-with_value}
 use Rattle.cal_book.proofs.put.put_stored.Goals as goal

@@ -1,5 +1,5 @@
 use Rattle.std.proofs.Common.{◌≡◌, ◌++◌, drop}
-use Rattle.cal_model.specs.XmlText.{xml_text}
+use Rattle.cal_model.specs.Replies.XmlText.{xml_text}
 use Rattle.cal_book.proofs.xml.write_text.Given as goal
 
 -- with the text of the octets to come, the buffer will hold the whole text

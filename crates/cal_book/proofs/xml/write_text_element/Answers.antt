@@ -1,5 +1,5 @@
 use Rattle.std.proofs.Common.{◌++◌, codes, sym, ap, ◌∙◌}
-use Rattle.cal_model.specs.XmlText.{xml_text}
+use Rattle.cal_model.specs.Replies.XmlText.{xml_text}
 use Rattle.cal_book.specs.XmlTags.{opening_tag, closing_tag}
 use Rattle.cal_book.proofs.XmlLemmas.{then_more, element-no_text, element-text}
 use Rattle.cal_book.proofs.xml.write_text_element.Goals as goal

@@ -1,7 +1,7 @@
 use Rattle.std.proofs.Common.{rules, ◌∙◌, sym, arith, pos, to_z-of_z, FitsSigned, w32, w64, ◌<◌}
 use Rattle.cal_model.specs.declared.zone.Onset.{Onset}
-use Rattle.cal_model.specs.Zones.{offset_at}
-use Rattle.cal_model.proofs.Onsets.{offset_among_at}
+use Rattle.cal_model.specs.TimeZones.Zones.{offset_at}
+use Rattle.cal_model.proofs.TimeZones.Onsets.{offset_among_at}
 use Rattle.cal_model.proofs.zone_time.offset_at.Goals as goal
 
 none : Onset

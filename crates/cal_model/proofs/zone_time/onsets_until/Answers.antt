@@ -1,7 +1,7 @@
 use Rattle.std.proofs.Common.{rules, of_calls, int_le}
 use Rattle.std.proofs.lemmas.Fn.{always_returns_same}
 use Rattle.cal_model.specs.declared.zone.Onset.{Onset}
-use Rattle.cal_model.proofs.Onsets.{is_partitioned}
+use Rattle.cal_model.proofs.TimeZones.Onsets.{is_partitioned}
 use Rattle.cal_model.proofs.zone_time.onsets_until.Goals as goal
 
 pub returns-clause-before : goal.returns-clause-before

@@ -1,5 +1,5 @@
 use Rattle.std.proofs.Common.{rules, to_z-of_z, FitsSigned, w64}
-use Rattle.cal_model.proofs.Instants.{IsInstantOf-instant_of}
+use Rattle.cal_model.proofs.TimeZones.Instants.{IsInstantOf-instant_of}
 use Rattle.cal_model.proofs.zone_time.to_utc.Goals as goal
 
 pub returns-clause-meaning : goal.returns-clause-meaning

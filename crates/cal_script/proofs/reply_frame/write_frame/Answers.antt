@@ -1,6 +1,6 @@
 use Rattle.std.proofs.Common.{take, subst, ap, ◌∙◌}
 use Rattle.std.specs.Prelude.{◌++◌, codes, decimal}
-use Rattle.cal_base.specs.Outside.{Adds}
+use Rattle.cal_base.specs.World.Outside.{Adds}
 use Rattle.cal_script.proofs.AnsweredLemmas.{reply_frame-parts}
 use Rattle.cal_script.proofs.reply_frame.write_frame.Goals as goal
 

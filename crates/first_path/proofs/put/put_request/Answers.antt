@@ -3,7 +3,7 @@ use Rattle.std.specs.Prelude.{codes}
 use Rattle.cal_model.specs.declared.path.Path.TheVariants.{Object}
 use Rattle.cal_model.specs.declared.request.Content.TheVariants.{Put as PutContent}
 use Rattle.cal_model.specs.declared.request.Method.TheVariants.{Put}
-use Rattle.cal_model.specs.EventTexts.{event_octets, put_request}
+use Rattle.cal_model.specs.FirstPath.EventTexts.{event_octets, put_request}
 use Rattle.first_path.specs.Parts.{text_of}
 use Rattle.first_path.proofs.PutLemmas.{event_is_short}
 use Rattle.first_path.proofs.put.put_request.Goals as goal

@@ -1,6 +1,6 @@
 use Rattle.std.proofs.Common.{◌≡◌, ◌∙◌, sym, ap, subst}
 use Rattle.std.proofs.lemmas.Bool.{false≢true}
-use Rattle.cal_model.specs.EventTexts.{EventText, IsEventText, event_octets}
+use Rattle.cal_model.specs.FirstPath.EventTexts.{EventText, IsEventText, event_octets}
 use Rattle.first_path.specs.Parts.{text_of}
 use Rattle.first_path.proofs.PutLemmas.{name_lacks}
 use Rattle.first_path.proofs.put.read_put.Goals as goal

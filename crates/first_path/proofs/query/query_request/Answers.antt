@@ -2,7 +2,7 @@ use Rattle.std.proofs.Common.{None}
 use Rattle.cal_model.specs.declared.path.Path.TheVariants.{Calendar}
 use Rattle.cal_model.specs.declared.request.Content.TheVariants.{Report as ReportContent}
 use Rattle.cal_model.specs.declared.request.Method.TheVariants.{Report}
-use Rattle.cal_model.specs.QueryTexts.{query_request}
+use Rattle.cal_model.specs.FirstPath.QueryTexts.{query_request}
 use Rattle.first_path.proofs.query.query_request.Goals as goal
 
 pub returns : goal.returns

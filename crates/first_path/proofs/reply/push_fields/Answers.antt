@@ -1,7 +1,7 @@
 use Rattle.std.proofs.Common.{◌≡◌, ◌==◌, ◌&&◌, unsigned_abs, FitsSigned, w64, to_z, of_z, to_z-of_z, rules}
 use Rattle.std.specs.Prelude.{codes, is_some}
-use Rattle.cal_model.specs.DateField.{date_of_moment}
-use Rattle.cal_model.specs.ReplyOctets.{field, field_if, allow_field, etag_field, content_type, content_length, fields}
+use Rattle.cal_model.specs.Replies.DateField.{date_of_moment}
+use Rattle.cal_model.specs.Replies.ReplyOctets.{field, field_if, allow_field, etag_field, content_type, content_length, fields}
 use Rattle.first_path.proofs.Appends.{pushed}
 use Rattle.first_path.proofs.reply.push_fields.Goals as goal
 

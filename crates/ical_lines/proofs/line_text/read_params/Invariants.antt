@@ -1,6 +1,6 @@
 use Rattle.std.proofs.Common.{◌≡◌, map}
-use Rattle.cal_base.specs.Octets.{semicolon}
-use Rattle.cal_base.specs.ContentLines.{every, param_of}
+use Rattle.cal_base.specs.Texts.Octets.{semicolon}
+use Rattle.cal_base.specs.Lines.ContentLines.{every, param_of}
 use Rattle.ical_lines.specs.UnquotedParts.{later_pieces, preceded, text_left, text_there}
 use Rattle.ical_lines.proofs.line_text.read_params.Given as goal
 

@@ -1,6 +1,6 @@
 use Rattle.std.proofs.Common.{◌≡◌, map}
-use Rattle.cal_base.specs.Octets.{comma}
-use Rattle.cal_base.specs.ContentLines.{every, param_value}
+use Rattle.cal_base.specs.Texts.Octets.{comma}
+use Rattle.cal_base.specs.Lines.ContentLines.{every, param_value}
 use Rattle.ical_lines.specs.UnquotedParts.{later_pieces, preceded, text_left, text_there}
 use Rattle.ical_lines.proofs.line_text.read_values.Given as goal
 

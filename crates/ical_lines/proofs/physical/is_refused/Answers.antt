@@ -1,7 +1,7 @@
 use Rattle.std.proofs.Common.{ap, ◌∙◌}
 use Rattle.std.specs.List.{list_any}
 use Rattle.std.specs.Str.{chars}
-use Rattle.cal_base.specs.ContentLines.{is_refused_character}
+use Rattle.cal_base.specs.Lines.ContentLines.{is_refused_character}
 use Rattle.ical_lines.proofs.PhysicalLines.{refused-utf8, refused-other}
 use Rattle.ical_lines.proofs.physical.is_refused.Goals as goal
 

@@ -1,6 +1,6 @@
 use Rattle.std.proofs.Common.{◌-◌, length, arith, ap, ap₂, sym, ◌∙◌, ◌≡◌}
-use Rattle.cal_base.specs.Octets.{line_feed}
-use Rattle.cal_base.specs.ContentLines.{pieces, physical_from, groups}
+use Rattle.cal_base.specs.Texts.Octets.{line_feed}
+use Rattle.cal_base.specs.Lines.ContentLines.{pieces, physical_from, groups}
 use Rattle.ical_lines.specs.GroupReading.{read_groups}
 use borrow.Author.Tests.{true-eqb}
 use Rattle.std.proofs.lemmas.List.{nil_from_length}

@@ -1,6 +1,6 @@
 use Rattle.std.proofs.Common.{◌≡◌, ◌≤◌, ◌-◌, length}
-use Rattle.cal_base.specs.Octets.{line_feed}
-use Rattle.cal_base.specs.ContentLines.{pieces, physical_from, groups, read_lines}
+use Rattle.cal_base.specs.Texts.Octets.{line_feed}
+use Rattle.cal_base.specs.Lines.ContentLines.{pieces, physical_from, groups, read_lines}
 use Rattle.ical_lines.specs.GroupReading.{read_groups}
 use Rattle.ical_lines.proofs.split.split_lines.Given as goal
 

@@ -1,7 +1,7 @@
 use Rattle.std.proofs.Common.{◌≡◌, ◌<◌, ◌+◌, ◌-◌, List, length}
 use Rattle.cal_base.specs.declared.line.Line.{Line}
-use Rattle.cal_base.specs.Octets.{line_feed}
-use Rattle.cal_base.specs.ContentLines.{pieces, physical_from, groups}
+use Rattle.cal_base.specs.Texts.Octets.{line_feed}
+use Rattle.cal_base.specs.Lines.ContentLines.{pieces, physical_from, groups}
 use Rattle.ical_lines.specs.GroupReading.{read_groups, read_open}
 use Rattle.ical_lines.proofs.split.take_logical.Given as goal
 

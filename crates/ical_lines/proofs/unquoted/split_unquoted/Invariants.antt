@@ -1,5 +1,5 @@
 use Rattle.std.proofs.Common.{◌≡◌, false, take, drop}
-use Rattle.cal_base.specs.ContentLines.{first_unquoted}
+use Rattle.cal_base.specs.Lines.ContentLines.{first_unquoted}
 use Rattle.ical_lines.specs.UnquotedParts.{before_first}
 use Rattle.ical_lines.proofs.unquoted.split_unquoted.Given as goal
 

@@ -1,6 +1,6 @@
 use Rattle.std.proofs.Common.{◌≡◌, ◌≤◌, ◌++◌, true, length, take}
 use Rattle.std.specs.Str.{is_utf8, chars}
-use Rattle.cal_base.specs.WrittenLines.{folded, written}
+use Rattle.cal_base.specs.Lines.WrittenLines.{folded, written}
 use Rattle.ical_lines.proofs.write.append_folded.Given as goal
 
 -- what was appended, and what the rest is folded to, are the whole

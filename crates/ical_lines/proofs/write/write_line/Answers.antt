@@ -1,7 +1,7 @@
 use Rattle.std.proofs.Common.{sym, subst, ap, ◌∙◌}
 use Rattle.std.specs.Str.{is_utf8, chars}
-use Rattle.cal_base.specs.LineGrammar.{EndsLine}
-use Rattle.cal_base.specs.ContentLines.{read_lines}
+use Rattle.cal_base.specs.Lines.LineGrammar.{EndsLine}
+use Rattle.cal_base.specs.Lines.ContentLines.{read_lines}
 use Rattle.ical_lines.proofs.ReadBack.{written_is_read}
 use Rattle.ical_lines.proofs.Folding.{folded-EndsLine}
 use Rattle.ical_lines.proofs.LineTexts.{read_line_is_one}

@@ -1,12 +1,12 @@
 use Rattle.std.proofs.Common.{◌≡◌, [], ◌∷◌, length, refl, subst, sym, ap, ◌∙◌, rules, arith}
 use Rattle.std.specs.Vec.Iter.{into_iter_items}
 use Rattle.std.proofs.lemmas.Grind.{common_steps}
-use Rattle.cal_base.specs.ComponentTrees.{nesting_fault, tree_of}
-use Rattle.cal_base.specs.Nesting.{fault_from}
+use Rattle.cal_base.specs.Lines.ComponentTrees.{nesting_fault, tree_of}
+use Rattle.cal_base.specs.Lines.Nesting.{fault_from}
 use Rattle.ical_objects.specs.Building.{openings}
 use Rattle.ical_objects.specs.Faults.{IsFaultOf}
 use Rattle.ical_objects.proofs.BuiltTrees.{nested_tree}
-use Rattle.cal_base.proofs.FaultsFromFront.{nesting_fault-from_front}
+use Rattle.cal_base.proofs.Lines.FaultsFromFront.{nesting_fault-from_front}
 use Rattle.ical_objects.proofs.from_lines.build.Goals as goal
 
 pub lines-init : goal.lines-init

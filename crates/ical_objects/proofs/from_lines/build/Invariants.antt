@@ -1,7 +1,7 @@
 use Rattle.std.proofs.Common.{◌≡◌, ◌+◌, length}
 use Rattle.std.specs.Vec.Iter.{into_iter_items}
-use Rattle.cal_base.specs.ComponentTrees.{nesting_fault, tree_of}
-use Rattle.cal_base.specs.Nesting.{fault_from}
+use Rattle.cal_base.specs.Lines.ComponentTrees.{nesting_fault, tree_of}
+use Rattle.cal_base.specs.Lines.Nesting.{fault_from}
 use Rattle.ical_objects.specs.Building.{IsBehind, openings, tree_with}
 use Rattle.ical_objects.proofs.from_lines.build.Given as goal
 

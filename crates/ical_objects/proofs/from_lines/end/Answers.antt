@@ -1,8 +1,8 @@
 use Rattle.std.proofs.Common.{◌≡◌, true, subst, sym, ap, ◌∙◌}
 use Rattle.std.specs.Str.{bytes_eq}
 use Rattle.std.proofs.lemmas.Bool.{not-false}
-use Rattle.cal_base.specs.Text.{raised_all}
-use Rattle.cal_base.specs.ComponentTrees.{component_name}
+use Rattle.cal_base.specs.Texts.Text.{raised_all}
+use Rattle.cal_base.specs.Lines.ComponentTrees.{component_name}
 use Rattle.ical_objects.specs.declared.from_lines.Progress.TheVariants.{Within}
 use Rattle.ical_objects.specs.Building.{IsStep}
 use Rattle.ical_objects.proofs.BuildSteps.{step_end}

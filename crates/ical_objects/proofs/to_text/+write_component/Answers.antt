@@ -3,8 +3,8 @@ use Rattle.std.specs.Prelude.{flat_map}
 use Rattle.std.specs.List.{concat}
 use Rattle.std.proofs.lemmas.List.{take_all}
 use Rattle.cal_base.specs.declared.line.Node.TheViews.{out-Node}
-use Rattle.cal_base.specs.ComponentTrees.{printed}
-use Rattle.cal_base.specs.WrittenLines.{written_line}
+use Rattle.cal_base.specs.Lines.ComponentTrees.{printed}
+use Rattle.cal_base.specs.Lines.WrittenLines.{written_line}
 use Rattle.ical_objects.specs.Printing.{AddsLines, begin_line, end_line}
 use Rattle.ical_objects.proofs.PrintedTrees.{lines_of_trees}
 use Rattle.ical_objects.proofs.Printed.{IsPrintable_out, ArePrintable-at, text_more, lines_more, text_of_parts, lines_of_parts, OnOk-then}

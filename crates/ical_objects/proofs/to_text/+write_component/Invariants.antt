@@ -1,6 +1,6 @@
 use Rattle.std.proofs.Common.{◌≡◌, ◌++◌, take, map, ℕ, drop}
 use Rattle.std.specs.List.{concat}
-use Rattle.cal_base.specs.ComponentTrees.{printed}
+use Rattle.cal_base.specs.Lines.ComponentTrees.{printed}
 use Rattle.ical_objects.specs.Printing.{AddsLines, ArePrintable}
 use Rattle.ical_objects.proofs.PrintedTrees.{lines_of_trees}
 use Rattle.ical_objects.proofs.to_text.+write_component.Given as goal

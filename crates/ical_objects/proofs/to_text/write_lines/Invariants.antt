@@ -1,6 +1,6 @@
 use Rattle.std.proofs.Common.{◌≡◌, ◌++◌, take}
 use Rattle.std.specs.Prelude.{flat_map}
-use Rattle.cal_base.specs.WrittenLines.{written_line}
+use Rattle.cal_base.specs.Lines.WrittenLines.{written_line}
 use Rattle.ical_objects.specs.Printing.{AddsLines}
 use Rattle.ical_objects.proofs.to_text.write_lines.Given as goal
 

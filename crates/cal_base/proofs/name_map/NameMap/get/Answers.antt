@@ -1,6 +1,6 @@
 use Rattle.std.proofs.Common.{◌∙◌, sym, ap}
-use Rattle.cal_base.specs.NameMap.{value_at}
-use Rattle.cal_base.proofs.NameMapLemmas.{value_at-shown}
+use Rattle.cal_base.specs.Lists.NameMap.{value_at}
+use Rattle.cal_base.proofs.Lists.NameMapLemmas.{value_at-shown}
 use Rattle.cal_base.proofs.name_map.NameMap.get.Goals as goal
 
 pub returns : goal.returns

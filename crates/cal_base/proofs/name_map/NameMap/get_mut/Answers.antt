@@ -1,7 +1,7 @@
 use Rattle.std.proofs.Common.{◌∙◌, sym, ap, map}
 use borrow.Follows.Closed.{read_of}
 use Rattle.std.specs.Option.{ghost_name_of}
-use Rattle.cal_base.proofs.NameMapLemmas.{shown, value_at-shown, with_changed-shown}
+use Rattle.cal_base.proofs.Lists.NameMapLemmas.{shown, value_at-shown, with_changed-shown}
 use Rattle.cal_base.proofs.name_map.NameMap.get_mut.Goals as goal
 
 pub returns : goal.returns

@@ -1,6 +1,6 @@
 use Rattle.std.proofs.Common.{◌∙◌, sym, ap, map}
-use Rattle.cal_base.specs.NameMap.{with_value, value_at}
-use Rattle.cal_base.proofs.NameMapLemmas.{shown, value_at-shown, with_value-shown}
+use Rattle.cal_base.specs.Lists.NameMap.{with_value, value_at}
+use Rattle.cal_base.proofs.Lists.NameMapLemmas.{shown, value_at-shown, with_value-shown}
 use Rattle.cal_base.proofs.name_map.NameMap.insert.Goals as goal
 
 pub returns-clause-ok : goal.returns-clause-ok

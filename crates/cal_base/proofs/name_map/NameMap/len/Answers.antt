@@ -1,6 +1,6 @@
 use Rattle.std.proofs.Common.{subst}
-use Rattle.cal_base.specs.NameMap.{IsInOrder}
-use Rattle.cal_base.proofs.NameMapLemmas.{IsInOrder-shown}
+use Rattle.cal_base.specs.Lists.NameMap.{IsInOrder}
+use Rattle.cal_base.proofs.Lists.NameMapLemmas.{IsInOrder-shown}
 use Rattle.cal_base.proofs.name_map.NameMap.len.Goals as goal
 
 pub returns-clause-in_order : goal.returns-clause-in_order

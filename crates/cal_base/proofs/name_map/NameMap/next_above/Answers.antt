@@ -1,7 +1,7 @@
 use Rattle.std.proofs.Common.{◌∙◌, sym, ap, Some}
 use Rattle.std.specs.Option.{option_map}
-use Rattle.cal_base.specs.NameMap.{next_above}
-use Rattle.cal_base.proofs.NameMapLemmas.{shown, next_above-shown}
+use Rattle.cal_base.specs.Lists.NameMap.{next_above}
+use Rattle.cal_base.proofs.Lists.NameMapLemmas.{shown, next_above-shown}
 use Rattle.cal_base.proofs.name_map.NameMap.next_above.Goals as goal
 
 pub returns-in-Some : goal.returns-in-Some

@@ -1,6 +1,6 @@
 use Rattle.std.proofs.Common.{◌∙◌, sym, ap, map}
-use Rattle.cal_base.specs.NameMap.{value_at, without}
-use Rattle.cal_base.proofs.NameMapLemmas.{shown, value_at-shown, without-shown}
+use Rattle.cal_base.specs.Lists.NameMap.{value_at, without}
+use Rattle.cal_base.proofs.Lists.NameMapLemmas.{shown, value_at-shown, without-shown}
 use Rattle.cal_base.proofs.name_map.NameMap.remove.Goals as goal
 
 pub returns-clause-value : goal.returns-clause-value

@@ -1,0 +1,2 @@
+-- The map is seen as the list of its pairs.
+pub mod NameMapLemmas

@@ -1,0 +1,2 @@
+-- What several calls on a stream do one after the other.
+pub mod Taking

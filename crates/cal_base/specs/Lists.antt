@@ -1,0 +1,5 @@
+-- What contracts see of lists, maps and room.
+-- Given: nothing.
+pub mod Reserved
+pub mod NameMap
+pub mod NameMapLends

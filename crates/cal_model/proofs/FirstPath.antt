@@ -1,0 +1,4 @@
+-- Octets are one request at most.
+pub mod EventLemmas
+pub mod QueryLemmas
+pub mod RequestLemmas

@@ -1,0 +1,6 @@
+-- Passing moments one after the other, day by day and period by period.
+pub mod PassingMoments
+pub mod Days
+pub mod Periods
+pub mod Rising
+pub mod RecurrenceSetLemmas

@@ -1,0 +1,2 @@
+-- An input has one cut into frames.
+pub mod FrameLemmas

@@ -1,0 +1,3 @@
+-- What is shown depends on no other rows than those that overlap.
+pub mod PickLaws
+pub mod CalendarDataLaws

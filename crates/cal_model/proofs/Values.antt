@@ -1,0 +1,15 @@
+-- Values are those that their texts spell, and the place of a bad one is the least; from fronts of numbers up to fronts of rules.
+pub mod CutLemmas
+pub mod ValueLaws
+pub mod LengthLaws
+pub mod UtcLemmas
+pub mod BadValueLaws
+pub mod NumberFronts
+pub mod ListFronts
+pub mod DayFronts
+pub mod UntilFronts
+pub mod RuleRows
+pub mod RuleTable
+pub mod PartFronts
+pub mod RuleFronts
+pub mod ValuePlaces

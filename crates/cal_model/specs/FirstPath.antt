@@ -1,0 +1,4 @@
+-- The two requests that are read so far, octet for octet. The crates that read any request take this chapter's place.
+pub mod EventTexts
+pub mod QueryTexts
+pub mod Requests

@@ -1,0 +1,176 @@
+-- The instances of an object as rows: overrides, ids, order, and the rows of a window. From RFC 5545, 3.8.4.4, and RFC 4791, 4.1.
+-- One list of all rows. A window is a filter over it; how the rows of one window are found without the others stands elsewhere. Each definition takes the list of moments over which rules are taken: the rows themselves are those over `every_moment`.
+use Rattle.std.specs.Prelude.{ℕ, ◌+◌, Bool, true, false, not, nat_le, if◌then◌else◌, List, [], ◌∷◌, ◌++◌, map, filter, filter_map, flat_map, option_to_list, option_and_then, slice_get, ℤ, pos, int_lt, Option, Some, None, is_some, is_none}
+use Rattle.std.specs.Int.{int_div_euclid}
+use Rattle.std.specs.List.{list_any}
+use Rattle.cal_moment.specs.declared.stamp.Stamp.{Stamp}
+use Rattle.cal_model.specs.declared.zone.ZoneTable.{ZoneTable}
+use Rattle.cal_model.specs.declared.object.Component.{Component}
+use Rattle.cal_model.specs.declared.object.Object.{Object}
+use Rattle.cal_model.specs.declared.row.Row.{Row}
+use Rattle.cal_model.specs.declared.row.RowKind.{RowKind}
+use Rattle.cal_model.specs.declared.row.RowKind.TheVariants as kind
+use Rattle.cal_model.specs.Words.Numbers.{same_int, first_or_else}
+use Rattle.cal_model.specs.Recurrence.RecurrenceSet.{every_moment}
+use Rattle.cal_model.specs.Instances.Alignment.{Aligned, at, on_day, align, reading_of, value_of, kind_of, names_start}
+pub use Rattle.cal_model.specs.Instances.Starts.{is_date, start_or_due, own_start, end_from, end_of_extent, end_of_instance, starts_of, ascending, has_fine_rule}
+
+-- Components by number: the place in the object, counted from 0.
+
+pub record Numbered : Type 0 where
+  pub number : ℕ
+  pub component : Component
+
+abbrev pub numbered_from : ℕ → List Component → List Numbered
+numbered_from n [] = []
+numbered_from n (c ∷ cs) = record { number = n; component = c } ∷ numbered_from (n + 1) cs
+
+abbrev pub numbered : Object → List Numbered
+numbered object = numbered_from 0 object.components
+
+-- an override has a RECURRENCE-ID
+abbrev pub has_id : Numbered → Bool
+has_id n = is_some n.component.recurrence_id
+
+abbrev pub overrides : Object → List Numbered
+overrides object = filter has_id (numbered object)
+
+-- the component without one, of which an object has one at most
+abbrev pub masters : Object → List Numbered
+masters object = filter (λ n. not (has_id n)) (numbered object)
+
+-- Ids.
+
+abbrev pub first_of : List Stamp → Option Stamp
+first_of [] = None
+first_of (x ∷ xs) = Some x
+
+abbrev pub master_stamp : Numbered → Option Stamp
+master_stamp n = start_or_due n.component.kind n.component.start n.component.extent
+
+-- the stamp beside which ids are aligned: the master's DTSTART, or of a VTODO without it DUE, else the first RECURRENCE-ID
+abbrev pub ids_start : Object → Option Stamp
+ids_start object =
+    first_of (filter_map master_stamp (masters object) ++ filter_map (λ (n : Numbered). n.component.recurrence_id) (overrides object))
+
+-- what an override's RECURRENCE-ID says
+abbrev pub named_by : List ZoneTable → Stamp → Numbered → List Aligned
+named_by zones ids n = map (λ x. align zones x ids) (option_to_list n.component.recurrence_id)
+
+-- some override names a start
+abbrev pub is_named : Object → Stamp → ℤ → Bool
+is_named object ids r =
+    list_any (λ n. list_any (names_start (reading_of object.zones ids) r) (named_by object.zones ids n)) (overrides object)
+
+-- the id of an override's row beside all starts: what its RECURRENCE-ID says; of a local day the first start that it names, else the day's midnight
+abbrev pub id_of_override : Object → Stamp → List ℤ → Aligned → ℤ
+id_of_override object ids all (at v) = v
+id_of_override object ids all (on_day midnight) =
+    first_or_else ((reading_of object.zones ids).instant midnight) (filter (λ r. names_start (reading_of object.zones ids) r (on_day midnight)) all)
+
+-- Rows.
+
+abbrev pub row_of : ℤ → ℤ → ℤ → ℕ → RowKind → RowKind → Row
+row_of id start end number id_kind its_kind = record { id = id; start = start; end = end; component = number; id_kind = id_kind; kind = its_kind }
+
+abbrev pub undated_row : Numbered → Row
+undated_row n = row_of (pos 0) (pos 0) (pos 0) n.number kind.Undated kind.Undated
+
+-- the rows of the components that have no start, by component
+abbrev pub undated_rows : Object → List Row
+undated_rows object = map undated_row (filter (λ (n : Numbered). is_none (own_start n.component)) (numbered object))
+
+-- all starts of an object, in order
+abbrev pub starts : List ℕ → Object → List ℤ
+starts moments object = flat_map (λ (n : Numbered). starts_of moments object.zones n.component) (masters object)
+
+-- the row of a master at a start, which is its id
+abbrev pub master_row : List ℕ → Object → Stamp → ℤ → Numbered → List Row
+master_row moments object ids r n =
+    map (λ s. row_of r r (end_of_instance moments object.zones s n.component r) n.number (kind_of ids) (kind_of s)) (option_to_list (own_start n.component))
+
+-- the row of a start, as far as no override names it. RANGE=THISANDFUTURE changes this one definition, to `later_row_at`
+abbrev pub row_at : List ℕ → Object → Stamp → List ℤ → ℤ → List Row
+row_at moments object ids all r = flat_map (master_row moments object ids r) (masters object)
+
+-- the row of an override, if it has a start of its own: from that start, with its own length
+abbrev pub override_row_from : Object → Stamp → List ℤ → Numbered → Stamp → ℤ → List Row
+override_row_from object ids all n s start =
+    map (λ x. row_of (id_of_override object ids all x) start (end_from object.zones n.component start) n.number (kind_of ids) (kind_of s)) (named_by object.zones ids n)
+
+abbrev pub override_row : Object → Stamp → List ℤ → Numbered → List Row
+override_row object ids all n =
+    flat_map (λ s. override_row_from object ids all n s (value_of object.zones s)) (option_to_list (own_start n.component))
+
+-- rows are ordered by id, then component
+abbrev pub comes_before : Row → Row → Bool
+comes_before a b =
+    if int_lt a.id b.id then true else (if same_int a.id b.id then nat_le a.component b.component else false)
+
+abbrev pub put_row : Row → List Row → List Row
+put_row row [] = row ∷ []
+put_row row (x ∷ xs) = if comes_before row x then row ∷ x ∷ xs else x ∷ put_row row xs
+
+abbrev pub in_order : List Row → List Row
+in_order [] = []
+in_order (row ∷ rows) = put_row row (in_order rows)
+
+-- the overrides' rows in place of the instances that they name, or added where they name none. One without a start takes away what it names.
+abbrev pub merged : Object → Stamp → List ℤ → List Row → List Row
+merged object ids all instances =
+    in_order (flat_map (override_row object ids all) (overrides object) ++ filter (λ (r : Row). not (is_named object ids r.id)) instances)
+
+-- the same over the instances alone, whose ids are their starts
+abbrev pub merged_with : Object → List Row → List Row
+merged_with object instances =
+    flat_map (λ ids. merged object ids (map (λ (r : Row). r.id) instances) instances) (option_to_list (ids_start object))
+
+-- the rows that have a date, where `row` gives that of a start beside all starts
+abbrev pub dated_rows : (Stamp → List ℤ → ℤ → List Row) → List ℕ → Object → Stamp → List Row
+dated_rows row moments object ids =
+    let all = starts moments object in merged object ids all (flat_map (row ids all) all)
+
+-- the Undated rows first, then the others by id and component
+abbrev pub rows_by : (Stamp → List ℤ → ℤ → List Row) → List ℕ → Object → List Row
+rows_by row moments object = undated_rows object ++ flat_map (dated_rows row moments object) (option_to_list (ids_start object))
+
+abbrev pub rows_over : List ℕ → Object → List Row
+rows_over moments object = rows_by (row_at moments object) moments object
+
+-- the rows of an object
+abbrev pub rows : Object → List Row
+rows = rows_over every_moment
+
+abbrev pub has_date : RowKind → Bool
+has_date kind.Undated = false
+has_date other = true
+
+abbrev pub is_dated : Row → Bool
+is_dated row = has_date row.kind
+
+-- Windows of 64 days, counted from 1970.
+
+abbrev pub window_seconds : ℤ
+window_seconds = pos 5_529_600
+
+-- a start by the digits of the clock beside which its component starts
+abbrev pub nominal_beside : List ZoneTable → ℤ → Option Stamp → ℤ
+nominal_beside zones start None = start
+nominal_beside zones start (Some s) = (reading_of zones s).local start
+
+-- the start of a row in local time: where its component's start is zoned, in that zone
+abbrev pub nominal_start : Object → Row → ℤ
+nominal_start object row = nominal_beside object.zones row.start (option_and_then own_start (slice_get object.components row.component))
+
+abbrev pub window_of : Object → Row → ℤ
+window_of object row = int_div_euclid (nominal_start object row) window_seconds
+
+-- Undated rows lie in no window
+abbrev pub lies_in_window : Object → ℤ → Row → Bool
+lies_in_window object window row = if is_dated row then same_int (window_of object row) window else false
+
+abbrev pub rows_in_over : List ℕ → Object → ℤ → List Row
+rows_in_over moments object window = filter (lies_in_window object window) (rows_over moments object)
+
+abbrev pub rows_in : Object → ℤ → List Row
+rows_in = rows_in_over every_moment

@@ -1,0 +1,127 @@
+-- What it costs to find the rows of an object in a window, and in which windows they are looked for. From RFC 4791, 7.8 and 9.9.
+-- A count over the whole list of moments, and a sum of three lengths. No walk over periods or windows is retraced.
+use Rattle.std.specs.Prelude.{ℕ, suc, ◌+◌, ◌*◌, Bool, false, ◌&&◌, ◌||◌, nat_le, if◌then◌else◌, List, [], ◌∷◌, map, filter_map, flat_map, option_to_list, length, sum, count_by, max, ℤ, pos, ◌+ℤ◌, ◌-ℤ◌, ◌*ℤ◌, int_lt, unsigned_abs, Option, Some, None}
+use Rattle.cal_moment.specs.Calendar.{epoch_day, day_of_moment, moment_of_seconds}
+use Rattle.cal_moment.specs.declared.stamp.Stamp.{Stamp}
+use Rattle.cal_moment.specs.declared.stamp.Period.{Period}
+use Rattle.cal_moment.specs.declared.stamp.PeriodEnd.{PeriodEnd}
+use Rattle.cal_moment.specs.declared.stamp.PeriodEnd.TheVariants.{At, After}
+use Rattle.cal_model.specs.declared.rule.Rule.{Rule}
+use Rattle.cal_model.specs.declared.zone.ZoneTable.{ZoneTable}
+use Rattle.cal_model.specs.declared.object.Component.{Component}
+use Rattle.cal_model.specs.declared.object.Object.{Object}
+use Rattle.cal_model.specs.declared.object.Extent.{Extent}
+use Rattle.cal_model.specs.declared.object.Extent.TheVariants as extent
+use Rattle.cal_model.specs.declared.object.Alarm.{Alarm}
+use Rattle.cal_model.specs.declared.object.Trigger.{Trigger}
+use Rattle.cal_model.specs.declared.object.Trigger.TheVariants as trigger
+use Rattle.cal_model.specs.declared.row.Range.{Range}
+use Rattle.std.specs.Int.{int_div_euclid}
+use Rattle.std.specs.List.{list_any}
+use Rattle.cal_model.specs.Words.Numbers.{same_int}
+use Rattle.cal_model.specs.Recurrence.Passing.{passes, period_number}
+use Rattle.cal_model.specs.Recurrence.RecurrenceSet.{every_moment}
+use Rattle.cal_model.specs.Instances.Alignment.{Aligned, at, on_day, reading_of, value_of, written_moment}
+use Rattle.cal_model.specs.Ranges.Overlap.{seconds_of}
+use Rattle.cal_model.specs.Instances.Rows.{Numbered, is_date, own_start, overrides, ids_start, named_by, window_seconds}
+
+-- Cost.
+
+-- the moments that pass, existing or not, in the periods that don't begin after a day
+abbrev pub passing_up_to : List ℕ → Rule → Stamp → ℕ → ℕ
+passing_up_to moments rule s day =
+    let last = period_number rule.freq rule.week_start (86400 * day + 86399) in
+    count_by (λ m. if nat_le (period_number rule.freq rule.week_start m) last then passes rule (written_moment s) (is_date s) m else false) moments
+
+-- a rule counts two, and its moments where its component has a start
+abbrev pub rule_cost : List ℕ → Option Stamp → ℕ → Rule → ℕ
+rule_cost moments None day rule = 2
+rule_cost moments (Some s) day rule = 2 + passing_up_to moments rule s day
+
+abbrev pub dates_of : Component → ℕ
+dates_of c = length c.dates + length c.periods
+
+abbrev pub component_cost : List ℕ → ℕ → Component → ℕ
+component_cost moments day c = dates_of c + (length (option_to_list c.recurrence_id) + sum (map (rule_cost moments c.start day) c.rules))
+
+-- the days that RECURRENCE-IDs of kind DATE name beside a start that is a DATE-TIME
+abbrev pub day_named : Aligned → Option ℕ
+day_named (at v) = None
+day_named (on_day midnight) = Some (day_of_moment (moment_of_seconds midnight))
+
+abbrev pub days_named_from : Object → Option Stamp → List ℕ
+days_named_from object None = []
+days_named_from object (Some ids) = filter_map day_named (flat_map (named_by object.zones ids) (overrides object))
+
+abbrev pub greatest : List ℕ → ℕ
+greatest [] = 0
+greatest (n ∷ ns) = max n (greatest ns)
+
+-- the last day of a window of 64 days
+abbrev pub last_of_window : ℤ → ℕ
+last_of_window window = unsigned_abs (window *ℤ pos 64 +ℤ pos (63 + epoch_day))
+
+-- the last day on which a period may begin. RANGE=THISANDFUTURE changes this one definition, to `later_last_day`
+abbrev pub last_day : Object → ℤ → ℕ
+last_day object window = max (last_of_window window) (greatest (days_named_from object (ids_start object)))
+
+-- one, and what each component counts up to a day
+abbrev pub cost_up_to : List ℕ → Object → ℕ → ℕ
+cost_up_to moments object day = suc (sum (map (component_cost moments day) object.components))
+
+abbrev pub cost_over : List ℕ → Object → ℤ → ℕ
+cost_over moments object window = cost_up_to moments object (last_day object window)
+
+abbrev pub cost : Object → ℤ → ℕ
+cost = cost_over every_moment
+
+-- Margin, in seconds.
+
+-- the size of the length that a component writes: of DURATION, or from its start to DTEND or DUE. A day that no line writes is none.
+abbrev pub extent_length : List ZoneTable → Option Stamp → Extent → ℕ
+extent_length zones s (extent.Lasting length) = unsigned_abs (seconds_of length)
+extent_length zones (Some s) (extent.End e) = unsigned_abs (value_of zones e -ℤ value_of zones s)
+extent_length zones (Some s) (extent.Due e) = unsigned_abs (value_of zones e -ℤ value_of zones s)
+extent_length zones s other = 0
+
+abbrev pub length_to : List ZoneTable → Stamp → PeriodEnd → ℕ
+length_to zones start (At e) = unsigned_abs (value_of zones e -ℤ value_of zones start)
+length_to zones start (After length) = unsigned_abs (seconds_of length)
+
+abbrev pub trigger_length : Trigger → ℕ
+trigger_length (trigger.At u) = 0
+trigger_length (trigger.From r length) = unsigned_abs (seconds_of length)
+
+abbrev pub alarm_reach : Alarm → ℕ
+alarm_reach alarm = trigger_length alarm.trigger + alarm.repeat * unsigned_abs (seconds_of alarm.gap)
+
+abbrev pub lengths : List ZoneTable → Component → List ℕ
+lengths zones c = extent_length zones (own_start c) c.extent ∷ map (λ (p : Period). length_to zones p.start p.end) c.periods
+
+-- the greatest length that the object writes, and the greatest reach of its alarms
+abbrev pub longest : Object → ℕ
+longest object = greatest (flat_map (lengths object.zones) object.components)
+
+abbrev pub alarms_reach : Object → ℕ
+alarms_reach object = greatest (flat_map (λ (c : Component). map alarm_reach c.alarms) object.components)
+
+-- how far from a row's nominal start a range may lie that meets it: four days, and these two
+abbrev pub margin : Object → ℕ
+margin object = 345_600 + (longest object + alarms_reach object)
+
+-- a window meets a range that is widened on both sides
+abbrev pub window_meets : ℕ → Range → ℤ → Bool
+window_meets by range window =
+    int_lt (range.start.0 -ℤ pos by) ((window +ℤ pos 1) *ℤ window_seconds) && int_lt (window *ℤ window_seconds) (range.end.0 +ℤ pos by)
+
+-- the start of some override lies in a window
+abbrev pub start_window : List ZoneTable → Stamp → ℤ
+start_window zones s = int_div_euclid ((reading_of zones s).local (value_of zones s)) window_seconds
+
+abbrev pub holds_override : Object → ℤ → Bool
+holds_override object window =
+    list_any (λ (n : Numbered). list_any (λ s. same_int (start_window object.zones s) window) (option_to_list (own_start n.component))) (overrides object)
+
+-- the windows in which the rows that matter for a range are looked for: those that the range meets once it is widened by the margin, and those that hold the start of an override
+abbrev pub is_looked_at : Object → Range → ℤ → Bool
+is_looked_at object range window = window_meets (margin object) range window || holds_override object window

@@ -1,0 +1,6 @@
+-- Words that all other chapters share: numbers and lists, lines of text, the namespaces, and the limits of this server.
+-- Given: nothing. No word here is of calendars.
+pub mod Numbers
+pub mod TextLines
+pub mod Namespaces
+pub mod Limits
