@@ -7,7 +7,7 @@
 
 mod fault;
 mod from_lines;
-mod stack;
+mod open_component;
 #[cfg(test)]
 mod tests;
 mod to_text;

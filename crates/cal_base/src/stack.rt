@@ -1,19 +1,11 @@
-//! The components that are open at a line.
-ghost use Rattle.std.specs.Prelude.{◌≡◌, [], ◌∷◌, length, OnOk, OnErr, MatchOption};
+//! A stack that contracts see as the list of its items.
+ghost use Rattle.std.specs.Prelude.{◌≡◌, [], ◌∷◌, length, slice_get, OnOk, OnErr, MatchOption};
+ghost use Rattle.std.specs.Option.{option_copied};
 
-use cal_base::{Line, List, Name, NoMemory, Node};
+use crate::list::List;
+use crate::no_memory::NoMemory;
 use std::alloc::Global;
 use std::marker::Model;
-
-/// A component whose END has not come, with what stands in it so far.
-#[derive(Drop)]
-pub struct OpenComponent {
-    /// The number of its BEGIN.
-    pub begin: u32,
-    pub name: Name,
-    pub lines: List<Line>,
-    pub children: List<Node>,
-}
 
 /// A stack, which contracts see as the list of its items, the last one that came first.
 #[derive(Drop)]
@@ -49,7 +41,7 @@ impl<T> Stack<T> {
         self.items.len()
     }
 
-    /// Puts an item on top. Without memory it is dropped.
+    /// Puts an item on top. Without memory the stack stays as it was, and the item is dropped.
     pub fn push(&mut self, item: T) -> Result<(), NoMemory>
     where
         T: Drop,
@@ -64,5 +56,16 @@ impl<T> Stack<T> {
         ensures { MatchOption result ((self.old ≡ []) × (self.new ≡ [])) (λ item. self.old ≡ item ∷ self.new) }
     {
         self.items.pop()
+    }
+
+    /// The item at a depth, counted from the top.
+    pub fn at(&self, depth: usize) -> Option<&T>
+        ensures { option_copied result ≡ slice_get self.now depth }
+    {
+        if depth < self.items.len() {
+            self.items.get(self.items.len() - 1 - depth)
+        } else {
+            None
+        }
     }
 }
