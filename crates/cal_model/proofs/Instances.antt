@@ -5,3 +5,4 @@ pub mod RisingLists
 pub mod RowsInOrder
 pub mod MergedParts
 pub mod LeastStarts
+pub mod ServedStarts
