@@ -3,6 +3,7 @@ pub mod LineTests
 pub mod PlacedComponents
 pub mod ReadingSteps
 pub mod ComponentStamps
+pub mod WrittenDates
 pub mod RuleBounds
 pub mod ServedDates
 pub mod ShortLengths

@@ -3,3 +3,5 @@ pub mod RowBounds
 pub mod NearRows
 pub mod NearRanges
 pub mod WindowLaws
+pub mod WindowStretches
+pub mod CostLaws

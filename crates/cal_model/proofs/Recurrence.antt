@@ -4,3 +4,5 @@ pub mod Days
 pub mod Periods
 pub mod Rising
 pub mod RecurrenceSetLemmas
+pub mod SetStretches
+pub mod DateFields

@@ -4,3 +4,4 @@ pub mod Instants
 pub mod StretchLemmas
 pub mod ZoneTableLaws
 pub mod NearTimes
+pub mod ConversionLaws

@@ -26,6 +26,7 @@ use Rattle.cal_model.specs.Objects.LineValues.{is_of_periods, stamps_in, periods
 use Rattle.cal_model.specs.Objects.ZoneReading.{dates_of_line, part_dates, part_with, part_of_lines, has_fine_rule}
 use Rattle.cal_model.proofs.Objects.LineTests.{period_by}
 use Rattle.cal_model.specs.Values.StampTexts.{local_digits, stamp_of_time, time_stamp, utc_stamp, stamp_of, stamps_in_grammar, is_named as is_one_of, utc_names, is_date_text, zone_of, items_of, period_of_ends, period_end, period_with, period_of, periods_in_grammar}
+use Rattle.cal_model.proofs.Objects.WrittenDates.{date_read, date_time_read, moment_of_digits}
 use Rattle.cal_model.proofs.Objects.RuleBounds.{map_value, and_then_value, each_read, IsUsable-rule_of}
 use Rattle.cal_moment.specs.Texts.{digits, sign_text, signed, date_text, time_text, utc_text, local_of_seconds}
 use Rattle.cal_model.specs.Values.UtcTexts.{number_at}
@@ -55,58 +56,6 @@ offset_within text offset is =
 
 -- Stamps, as digits of the years 1 to 9999
 
-day_within : (y m d : ℕ) → is_date y m d ≡ true → (366 ≤ day_of_date y m d) × (day_of_date y m d ≤ 3_652_424)
-day_within y m d is =
-    let a = both_hold (nat_le 1 y && nat_le y 9999 && nat_le 1 m && nat_le m 12 && nat_le 1 d) (nat_le d (month_length y m)) is in
-    let b = both_hold (nat_le 1 y && nat_le y 9999 && nat_le 1 m && nat_le m 12) (nat_le 1 d) a.0 in
-    let c = both_hold (nat_le 1 y && nat_le y 9999 && nat_le 1 m) (nat_le m 12) b.0 in
-    let e = both_hold (nat_le 1 y && nat_le y 9999) (nat_le 1 m) c.0 in
-    let f = both_hold (nat_le 1 y) (nat_le y 9999) e.0 in
-    let low : first_of_year 1 ≤ first_of_year y = first_of_year-le 1 y (leb-true 1 y f.0) in
-    let high : first_of_year (y + 1) ≤ first_of_year 10000 = first_of_year-le (y + 1) 10000 (omega (arith, leb-true y 9999 f.1)) in
-    let below : day_of_date y m d < first_of_year (y + 1) = day_of_date-within y m d (leb-true 1 m e.1, leb-true m 12 c.1) (leb-true 1 d b.1, leb-true d (month_length y m) a.1) in
-    (omega (arith, low), omega (arith, high, below))
-
-date_read : (text : List ℕ) (day : Day) → date_of text ≡ Some day → IsBetween (neg_ℤ (pos 719_162)) (pos 2_932_896) day.0
-unfolding date_of
-date_read text day is =
-    let y = number_at 0 4 text in
-    let m = number_at 4 2 text in
-    let d = number_at 6 2 text in
-    let found = cond_some (is_date y m d && bytes_eq text (date_text y m d)) (record { 0 = day_since_1970 (day_of_date y m d) }) day is in
-    let dated = day_within y m d (both_hold (is_date y m d) (bytes_eq text (date_text y m d)) found.0).0 in
-    subst (λ (x : Day). IsBetween (neg_ℤ (pos 719_162)) (pos 2_932_896) x.0) found.1 (omega (arith, ints, dated.0), omega (arith, ints, dated.1))
-
-time_read : (text : List ℕ) (second : ℕ) → time_of text ≡ Some second → second < 86_400
-unfolding time_of
-time_read text second is =
-    let h = number_at 0 2 text in
-    let m = number_at 2 2 text in
-    let s = number_at 4 2 text in
-    let found = cond_some (is_time h m s && bytes_eq text (time_text h m s)) (3600 * h + 60 * m + min s 59) second is in
-    let a = both_hold (is_time h m s) (bytes_eq text (time_text h m s)) found.0 in
-    let b = both_hold (nat_le h 23 && nat_le m 59) (nat_le s 60) a.0 in
-    let c = both_hold (nat_le h 23) (nat_le m 59) b.0 in
-    subst (λ n. n < 86_400) found.1 (omega (arith, leb-true h 23 c.0, leb-true m 59 c.1))
-
-local_case : (utc : Bool) (date : Option Day) (time : Option ℕ) (value : Local × Bool) → local_time utc date time ≡ Some value →
-    ((day : Day) → date ≡ Some day → IsBetween (neg_ℤ (pos 719_162)) (pos 2_932_896) day.0) → ((second : ℕ) → time ≡ Some second → second < 86_400) → IsWritten value.0
-local_case utc None time value is dates times = absurd (none-some value is)
-local_case utc (Some day) None value is dates times = absurd (none-some value is)
-local_case utc (Some day) (Some second) value is dates times =
-    subst (λ (v : Local × Bool). IsWritten v.0) (ap (λ o. unwrap_or o value) is)
-    (record { from_first = (dates day refl).0; to_last = (dates day refl).1; second_below = times second refl })
-
-date_time_read : (text : List ℕ) (value : Local × Bool) → date_time_of text ≡ Some value → IsWritten value.0
-unfolding date_time_of
-date_time_read text value is =
-    let utc = bytes_eq (drop 15 text) (codes "Z") in
-    local_if (bytes_eq (drop 8 text) (codes "T" ++ (take 6 (drop 9 text) ++ utc_text utc))) is
-  where
-    local_if : (b : Bool) → (if b then local_time (bytes_eq (drop 15 text) (codes "Z")) (date_of (take 8 text)) (time_of (take 6 (drop 9 text))) else None) ≡ Some value → IsWritten value.0
-    local_if true found = local_case (bytes_eq (drop 15 text) (codes "Z")) (date_of (take 8 text)) (time_of (take 6 (drop 9 text))) value found (date_read (take 8 text)) (time_read (take 6 (drop 9 text)))
-    local_if false found = absurd (none-some value found)
-
 -- a moment of these years, as its digits in UTC
 moment_within : (z : ℤ) → IsCalendarMoment z → (31_622_400 ≤ moment_of_seconds z) × (moment_of_seconds z ≤ 315_569_519_999)
 moment_within z within =
@@ -118,9 +67,6 @@ digits_of_moment m low high =
     let first : 366 ≤ day_of_moment m = omega arith in
     let last : day_of_moment m ≤ 3_652_424 = omega arith in
     record { from_first = omega (arith, ints, first); to_last = omega (arith, ints, last); second_below = omega arith }
-
-moment_of_digits : (day : ℤ) (second : ℕ) → neg_ℤ (pos 719_162) ≤ℤ day → day ≤ℤ pos 2_932_896 → second < 86_400 → IsCalendarMoment (day *ℤ pos 86400 +ℤ pos second)
-moment_of_digits day second low high below = (omega (arith, ints), omega (arith, ints))
 
 IsWritten-utc : (local : Local) → IsWritten local → IsWritten (local_of_seconds (utc_of_local local).0)
 IsWritten-utc local written =

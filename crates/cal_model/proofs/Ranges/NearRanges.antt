@@ -307,3 +307,8 @@ busy_near object zone range near short row of t dated here inside =
 pub busy_rows-near : (moments : List ℕ) (object : Object) (zone : ZoneTable) (range : Range) → HasNearRows object → HasShortOffsets zone → All (IsBusyNear object zone range) (rows_over moments object)
 busy_rows-near moments object zone range near short =
     All-weaker (λ row. is_dated row ≡ true → IsRowOf object row) (IsBusyNear object zone range) (busy_near object zone range near short) (rows_over moments object) (rows-of_components moments object near)
+
+-- the same where overrides move all later instances
+pub later_busy_rows-near : (future : Numbered → Bool) (moments : List ℕ) (object : Object) (zone : ZoneTable) (range : Range) → HasNearRows object → HasShortOffsets zone → All (IsBusyNear object zone range) (later_rows_over future moments object)
+later_busy_rows-near future moments object zone range near short =
+    All-weaker (λ row. is_dated row ≡ true → IsRowOf object row) (IsBusyNear object zone range) (busy_near object zone range near short) (later_rows_over future moments object) (later_rows-of_components future moments object near)

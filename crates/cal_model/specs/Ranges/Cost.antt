@@ -1,7 +1,7 @@
 -- What it costs to find the rows of an object in a window, and in which windows they are looked for. From RFC 4791, 7.8 and 9.9.
 -- A count over the whole list of moments, and a sum of three lengths. No walk over periods or windows is retraced.
 use Rattle.std.specs.Prelude.{ℕ, suc, ◌+◌, ◌*◌, Bool, false, ◌&&◌, ◌||◌, nat_le, if◌then◌else◌, List, [], ◌∷◌, map, filter_map, flat_map, option_to_list, length, sum, count_by, max, ℤ, pos, ◌+ℤ◌, ◌-ℤ◌, ◌*ℤ◌, int_lt, unsigned_abs, Option, Some, None}
-use Rattle.cal_moment.specs.Calendar.{epoch_day, day_of_moment, moment_of_seconds}
+use Rattle.cal_moment.specs.Calendar.{epoch_day}
 use Rattle.cal_moment.specs.declared.stamp.Stamp.{Stamp}
 use Rattle.cal_moment.specs.declared.stamp.Period.{Period}
 use Rattle.cal_moment.specs.declared.stamp.PeriodEnd.{PeriodEnd}
@@ -18,7 +18,7 @@ use Rattle.cal_model.specs.declared.object.Trigger.TheVariants as trigger
 use Rattle.cal_model.specs.declared.row.Range.{Range}
 use Rattle.std.specs.Int.{int_div_euclid}
 use Rattle.std.specs.List.{list_any}
-use Rattle.cal_model.specs.Words.Numbers.{same_int}
+use Rattle.cal_model.specs.Words.Numbers.{same_int, natural_part}
 use Rattle.cal_model.specs.Recurrence.Passing.{passes, period_number}
 use Rattle.cal_model.specs.Recurrence.RecurrenceSet.{every_moment}
 use Rattle.cal_model.specs.Instances.Alignment.{Aligned, at, on_day, reading_of, value_of, written_moment}
@@ -44,10 +44,14 @@ dates_of c = length c.dates + length c.periods
 abbrev pub component_cost : List ℕ → ℕ → Component → ℕ
 component_cost moments day c = dates_of c + (length (option_to_list c.recurrence_id) + sum (map (rule_cost moments c.start day) c.rules))
 
+-- the number of a day that is counted from 1970; a day before the year 0 costs no more than its first
+abbrev pub number_of_day : ℤ → ℕ
+number_of_day day = natural_part (day +ℤ pos epoch_day)
+
 -- the days that RECURRENCE-IDs of kind DATE name beside a start that is a DATE-TIME
 abbrev pub day_named : Aligned → Option ℕ
 day_named (at v) = None
-day_named (on_day midnight) = Some (day_of_moment (moment_of_seconds midnight))
+day_named (on_day midnight) = Some (number_of_day (int_div_euclid midnight (pos 86400)))
 
 abbrev pub days_named_from : Object → Option Stamp → List ℕ
 days_named_from object None = []
@@ -59,7 +63,7 @@ greatest (n ∷ ns) = max n (greatest ns)
 
 -- the last day of a window of 64 days
 abbrev pub last_of_window : ℤ → ℕ
-last_of_window window = unsigned_abs (window *ℤ pos 64 +ℤ pos (63 + epoch_day))
+last_of_window window = number_of_day (window *ℤ pos 64 +ℤ pos 63)
 
 -- the last day on which a period may begin. RANGE=THISANDFUTURE changes this one definition, to `later_last_day`
 abbrev pub last_day : Object → ℤ → ℕ
