@@ -4,7 +4,7 @@ use Rattle.std.proofs.lemmas.Int.{ints}
 use Rattle.std.specs.Prelude.{◌≡◌, refl, ℕ, List, [], ◌∷◌, ◌++◌, length, slice_index, codes, pos}
 use Rattle.std.specs.Fmt.{digits}
 use Rattle.cal_model.specs.declared.row.Range.{Range}
-use Rattle.cal_model.specs.Replies.DateField.{civil_after}
+use Rattle.cal_moment.specs.Calendar.{year_of, month_of, day_of_month}
 use Rattle.cal_model.specs.FirstPath.EventTexts.{EventText, event_octets, put_head, put_octets, put_request}
 use Rattle.cal_model.specs.Scripts.Frames.{bytes, reply_frame}
 use Rattle.cal_model.specs.FirstPath.QueryTexts.{QueryText, IsQueryText, query_head, query_body, query_request}
@@ -44,7 +44,7 @@ turned_away = codes "reply 0 107\nHTTP/1.1 501 Not Implemented\r\nDate: Mon, 10 
 
 -- after it the connection is closed, and nothing more is answered
 pub one_octet_twice : Follows alice_alone (at_start alice_alone) (bytes 0 moment (codes "x") ∷ bytes 0 moment (codes "x") ∷ []) turned_away
-unfolding reply_frame reply_octets fields reason civil_after digits
+unfolding reply_frame reply_octets fields reason year_of month_of day_of_month digits
 one_octet_twice = (
   turned_away,
   [],
@@ -104,11 +104,11 @@ missed_answer = codes "reply 0 243\nHTTP/1.1 207 Multi-Status\r\nDate: Mon, 10 M
 
 -- the frame of a reply with status 207 and this body
 found_in_frame : open_reply 0 moment (found_reply found_body) ≡ found_answer
-unfolding reply_frame reply_octets fields reason civil_after digits
+unfolding reply_frame reply_octets fields reason year_of month_of day_of_month digits
 found_in_frame = refl
 
 missed_in_frame : open_reply 0 moment (found_reply empty_body) ≡ missed_answer
-unfolding reply_frame reply_octets fields reason civil_after digits
+unfolding reply_frame reply_octets fields reason year_of month_of day_of_month digits
 missed_in_frame = refl
 
 -- where the script stands after the PUT
@@ -116,7 +116,7 @@ abbrev stored : Standing
 stored = record { server = with_stand_up; closed = [] }
 
 put_turn : Turn alice_alone (at_start alice_alone) (bytes 0 moment put_text) put_answer stored
-unfolding outcome put_request event_octets found_calendar opening_state reply_frame reply_octets fields reason civil_after digits etag_of encode_with first_words schedule rounds compress hash_after digest_bytes sha256
+unfolding outcome put_request event_octets found_calendar opening_state reply_frame reply_octets fields reason year_of month_of day_of_month digits etag_of encode_with first_words schedule rounds compress hash_after digest_bytes sha256
 put_turn = inr (inl (record { is_open = refl; request = put_request stand_up; asked = inl put_spelled; answered = inl (refl, refl) }))
 
 -- a query of the calendar, whose reply has this body
