@@ -1,5 +1,5 @@
 -- Whole replies, octet for octet, and what they come to in all.
-use Rattle.std.specs.Prelude.{◌≡◌, refl, ℕ, true, false, length, Some, None, codes, pos}
+use Rattle.std.specs.Prelude.{◌≡◌, refl, ℕ, [], true, false, length, Some, None, codes, pos}
 use Rattle.std.specs.Fmt.{digits}
 use Rattle.cal_model.specs.declared.path.Path.TheVariants.{Home}
 use Rattle.cal_model.specs.declared.reply.Media.TheVariants.{Calendar as CalendarMedia}
@@ -69,6 +69,11 @@ found_octets = refl
 pub found_head : reply_octets found (pos moment) false true ≡ codes "HTTP/1.1 200 OK\r\nDate: Mon, 10 Mar 2025 09:46:40 GMT\r\nETag: \"e2b908a58297f6090922388fbe2f52e0c09d7f6986555b4ac3424e3347f2b4e5\"\r\nContent-Type: text/calendar; charset=utf-8\r\nContent-Length: 5\r\n\r\n"
 unfolding reply_octets fields reason year_of month_of day_of_month digits
 found_head = refl
+
+-- what the client has already: its tag, and neither a type nor a length
+pub not_modified : reply_octets (record found { status = 304; body = [] }) (pos moment) false false ≡ codes "HTTP/1.1 304 Not Modified\r\nDate: Mon, 10 Mar 2025 09:46:40 GMT\r\nETag: \"e2b908a58297f6090922388fbe2f52e0c09d7f6986555b4ac3424e3347f2b4e5\"\r\n\r\n"
+unfolding reply_octets fields reason year_of month_of day_of_month digits
+not_modified = refl
 
 -- OPTIONS of a home says what the server can do; 405 says the methods alone
 abbrev options : ℕ → Reply

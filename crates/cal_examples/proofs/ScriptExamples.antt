@@ -14,6 +14,7 @@ use Rattle.cal_model.specs.Scripts.Script.{Standing, event_of, open_reply, Follo
 use Rattle.cal_model.specs.Replies.Statuses.{reason}
 use Rattle.cal_model.specs.Scripts.UsersFile.{alice_alone}
 use Rattle.cal_model.specs.Values.UtcTexts.{utc_of}
+use Rattle.cal_model.specs.Values.ValueTexts.{date_of, time_of, date_time_of}
 use Rattle.cal_examples.proofs.Samples.{stand_up, stand_up_octets, range_of, eight, nine, ten, eleven, moment}
 use Rattle.cal_examples.proofs.StepExamples.{with_stand_up, found_reply, found_body, empty_body}
 use Rattle.cal_examples.proofs.QueryExamples.{queried, found, missed_after, missed_before}
@@ -64,7 +65,7 @@ pub put_length : length put_text ≡ 335
 put_length = refl
 
 pub put_spelled : SpellsPut put_text (put_request stand_up)
-unfolding put_head event_octets digits utc_of
+unfolding put_head event_octets digits utc_of date_time_of date_of time_of
 put_spelled = record {
   event = stand_up;
   bounds = record {
@@ -140,15 +141,15 @@ abbrev at_hour : List ℕ → List ℕ → QueryText
 at_hour start end = record { start = start; end = end }
 
 in_bounds : IsQueryText (at_hour (codes "20250310T090000Z") (codes "20250310T100000Z")) (range_of nine ten)
-unfolding utc_of
+unfolding utc_of date_time_of date_of time_of
 in_bounds = record { start_is = refl; end_is = refl; not_too_early = omega (arith, ints); in_order = omega (arith, ints); not_too_late = omega (arith, ints) }
 
 after_in_bounds : IsQueryText (at_hour (codes "20250310T100000Z") (codes "20250310T110000Z")) (range_of ten eleven)
-unfolding utc_of
+unfolding utc_of date_time_of date_of time_of
 after_in_bounds = record { start_is = refl; end_is = refl; not_too_early = omega (arith, ints); in_order = omega (arith, ints); not_too_late = omega (arith, ints) }
 
 before_in_bounds : IsQueryText (at_hour (codes "20250310T080000Z") (codes "20250310T090000Z")) (range_of eight nine)
-unfolding utc_of
+unfolding utc_of date_time_of date_of time_of
 before_in_bounds = record { start_is = refl; end_is = refl; not_too_early = omega (arith, ints); in_order = omega (arith, ints); not_too_late = omega (arith, ints) }
 
 -- the whole script

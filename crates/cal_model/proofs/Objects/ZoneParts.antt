@@ -28,8 +28,7 @@ use Rattle.cal_model.proofs.Objects.LineTests.{period_by}
 use Rattle.cal_model.specs.Values.StampTexts.{local_digits, stamp_of_time, time_stamp, utc_stamp, stamp_of, stamps_in_grammar, is_named as is_one_of, utc_names, is_date_text, zone_of, items_of, period_of_ends, period_end, period_with, period_of, periods_in_grammar}
 use Rattle.cal_model.proofs.Objects.RuleBounds.{map_value, and_then_value, each_read, IsUsable-rule_of}
 use Rattle.cal_moment.specs.Texts.{digits, sign_text, signed, date_text, time_text, utc_text, local_of_seconds}
-use Rattle.cal_model.specs.Values.UtcTexts.{number_at}
-use Rattle.cal_model.specs.Values.ValueTexts.{is_date, is_time, date_of, time_of, date_time_of, local_time, utc_of_local, moment_of, cut, offset_of, is_negative, second_text}
+use Rattle.cal_model.specs.Values.ValueTexts.{number_at, is_date, is_time, date_of, time_of, date_time_of, local_time, utc_of_local, moment_of, cut, offset_of, is_negative, second_text}
 use Rattle.cal_model.proofs.Words.EachLemmas.{both_hold, each_of_any, each-map, each-append, each-flat_map, each-filter_map}
 
 signed_within : (negative : Bool) (n : ℕ) → n ≤ 86_399 → IsBetween (neg_ℤ (pos 86_399)) (pos 86_399) (signed negative n)
