@@ -6,6 +6,7 @@ pub mod ComponentStamps
 pub mod RuleBounds
 pub mod ServedDates
 pub mod ShortLengths
+pub mod AlarmBounds
 pub mod TimedPeriods
 pub mod ZoneParts
 pub mod ReadObjectLaws
