@@ -11,6 +11,7 @@ use Rattle.cal_model.specs.declared.object.Component.{Component}
 use Rattle.cal_model.specs.declared.object.Kind.TheVariants.{Event, Todo}
 use Rattle.cal_model.specs.declared.object.Extent.TheVariants as extent
 use Rattle.cal_model.specs.declared.object.Object.{Object}
+use Rattle.cal_model.specs.declared.rule.Freq.TheVariants.{Daily}
 use Rattle.cal_model.specs.declared.row.Range.{Range}
 use Rattle.cal_model.specs.declared.row.Row.{Row}
 use Rattle.cal_model.specs.declared.row.RowKind.TheVariants.{Instant, Floating, Date, Undated}
@@ -36,6 +37,7 @@ use Rattle.cal_model.specs.TimeZones.Zones.{exists_in, instant_of, offset_at}
 use Rattle.cal_model.proofs.Filters.FilterLemmas.{name_of_roll, lines_of_roll, children_of_roll, printed_roll, picked_roll, plain_roll, busy_limited_roll}
 use Rattle.cal_examples.proofs.MatchingExamples.{line, node}
 use Rattle.cal_examples.proofs.OverrideExamples.{moved}
+use Rattle.cal_examples.proofs.PassingExamples.{each}
 use Rattle.cal_examples.proofs.RecurrenceSetExamples.{daily_at}
 use Rattle.cal_examples.proofs.RowExamples.{event, date, instant_row, meeting, days_and_time, utc}
 use Rattle.cal_examples.proofs.ZoneExamples.{new_york, written}
@@ -193,6 +195,21 @@ no_master : left_out (record plan { components = record moved { child = 2 } ∷ 
 unfolding exists_in instant_of offset_at
 no_master = refl
 
+-- an override that names a day has the id of the instance on that day: here the 12th at 09:00, which lasts an hour
+abbrev pub each_day : Object
+each_day = record plan {
+  zones = [];
+  components = record (event (Some (utc 2025 3 10 9 0)) (extent.End (utc 2025 3 10 10 0))) { child = 1; rules = each Daily ∷ [] }
+      ∷ record (event (Some (utc 2025 3 20 15 0)) (extent.End (utc 2025 3 20 16 0))) { child = 2; recurrence_id = Some (date 2025 3 12) } ∷ [];
+}
+
+abbrev pub at_minutes : ℕ → ℕ → Range
+at_minutes from to = record { start = record { 0 = written 2025 3 12 9 from 0 }; end = record { 0 = written 2025 3 12 9 to 0 } }
+
+kept_by_day : left_out each_day (instant_row (written 2025 3 12 9 0 0) (written 2025 3 20 15 0 0) (written 2025 3 20 16 0 0) 1 ∷ []) utc_zone (at_minutes 30 45) ≡ []
+unfolding exists_in instant_of offset_at
+kept_by_day = refl
+
 -- the text keeps the zone and the master as they are
 limited_text : shown [] plan plan_rows (asked (Limit (range 3 4 3 5))) utc_zone
     ≡ codes "BEGIN:VCALENDAR\r\nVERSION:2.0\r\nBEGIN:VTIMEZONE\r\nTZID:NY\r\nEND:VTIMEZONE\r\nBEGIN:VEVENT\r\nUID:meet\r\nDTSTART;TZID=NY:20250304T100000\r\nDTEND;TZID=NY:20250304T110000\r\nRRULE:FREQ=WEEKLY;COUNT=5\r\nEXDATE;TZID=NY:20250318T100000\r\nSUMMARY:Plan\r\nEND:VEVENT\r\nEND:VCALENDAR\r\n"
@@ -249,6 +266,30 @@ end_of_period : (in_one with_period period_lines (instant_row (written 2025 3 5 
     ≡ codes "DTSTART:20250304T090000Z" ∷ codes "RECURRENCE-ID:20250304T090000Z" ∷ codes "SUMMARY:x" ∷ [])
 unfolding year_of month_of day_of_month exists_in instant_of offset_at
 end_of_period = (refl, refl)
+
+-- a line DUE says an end in any kind: no DTEND is added beside it, and it gets the period's end
+due_in_event : in_one with_period (at_nine ∷ line (codes "DUE") (codes "20250304T093000Z") ∷ line (codes "RDATE") (codes "20250305T090000Z/PT2H") ∷ [])
+    (instant_row (written 2025 3 5 9 0 0) (written 2025 3 5 9 0 0) (written 2025 3 5 11 0 0) 0)
+    ≡ codes "DTSTART:20250305T090000Z" ∷ codes "RECURRENCE-ID:20250305T090000Z" ∷ codes "DUE:20250305T110000Z" ∷ []
+unfolding year_of month_of day_of_month exists_in instant_of offset_at
+due_in_event = refl
+
+-- so does a line DTEND in a to-do, which without DUE and DURATION ends where it starts
+end_in_to_do : in_one (record (event (Some (utc 2025 3 4 9 0)) extent.Point) { kind = Todo; rules = record (each Daily) { count = Some 2 } ∷ [] })
+    (at_nine ∷ line (codes "DTEND") (codes "20250304T100000Z") ∷ line (codes "RRULE") (codes "FREQ=DAILY;COUNT=2") ∷ [])
+    (instant_row (written 2025 3 5 9 0 0) (written 2025 3 5 9 0 0) (written 2025 3 5 9 0 0) 0)
+    ≡ codes "DTSTART:20250305T090000Z" ∷ codes "RECURRENCE-ID:20250305T090000Z" ∷ codes "DTEND:20250305T090000Z" ∷ []
+unfolding year_of month_of day_of_month exists_in instant_of offset_at
+end_in_to_do = refl
+
+-- an override alone makes an object recur: the master's instance says which one it is
+abbrev pub with_override : Object
+with_override = record (alone (lasting 3600)) { components = lasting 3600 ∷ record (lasting 3600) { recurrence_id = Some (utc 2025 3 14 9 0) } ∷ [] }
+
+recurs_by_override : raws (instance_lines with_override (lasting 3600) (instant_row (written 2025 3 4 9 0 0) (written 2025 3 4 9 0 0) (written 2025 3 4 10 0 0) 0) (at_nine ∷ line (codes "DURATION") (codes "PT1H") ∷ []))
+    ≡ codes "DTSTART:20250304T090000Z" ∷ codes "RECURRENCE-ID:20250304T090000Z" ∷ codes "DTEND:20250304T100000Z" ∷ []
+unfolding year_of month_of day_of_month exists_in instant_of offset_at
+recurs_by_override = refl
 
 -- a component without a date keeps its lines but for those of recurrence
 no_date : in_one (record (event None extent.None) { kind = Todo }) (line (codes "RRULE") (codes "FREQ=DAILY") ∷ line (codes "DURATION") (codes "PT1H") ∷ []) (row_of (pos 0) (pos 0) (pos 0) 0 Undated Undated) ≡ codes "DURATION:PT1H" ∷ []

@@ -165,6 +165,16 @@ stored_from_9 = record (event None extent.None) { kind = FreeBusy; stored_busy =
 free_busy_stored : (overlaps stored_from_9 (instance 0 0) (from_to 8 9) ≡ false) × (overlaps stored_from_9 (instance 0 0) (minutes 599 610) ≡ true) × (overlaps stored_from_9 (instance 0 0) (from_to 10 11) ≡ false)
 free_busy_stored = (refl, refl, refl)
 
+-- DURATION is no DTEND there: a VFREEBUSY of the first day with a period at 9 on the third counts by that period alone
+abbrev pub lasting_from_0 : Component
+lasting_from_0 = record (event (Some (at_hour 0)) (extent.Lasting (days_and_time (pos 1) (pos 0)))) {
+  kind = FreeBusy;
+  stored_busy = (None, record { start = at_hour 57; end = After (days_and_time (pos 0) (pos 3600)) }) ∷ [];
+}
+
+free_busy_lasting : (overlaps lasting_from_0 (instance 0 0) (minutes 3450 3465) ≡ true) × (overlaps lasting_from_0 (instance 0 0) (from_to 0 24) ≡ false)
+free_busy_lasting = (refl, refl)
+
 -- COMPLETED and CREATED, here at 9 and 12: either may lie before, in or after
 abbrev pub done_and_made : Component
 done_and_made = record bare { completed = Some (record { 0 = hour 12 }); created = Some (record { 0 = hour 9 }) }

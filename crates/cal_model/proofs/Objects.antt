@@ -7,6 +7,7 @@ pub mod WrittenDates
 pub mod RuleBounds
 pub mod ServedDates
 pub mod ShortLengths
+pub mod AlarmBounds
 pub mod TimedPeriods
 pub mod ZoneParts
 pub mod ReadObjectLaws

@@ -1,17 +1,19 @@
 -- What holds of each calendar object that was read, and of each zone.
 use Rattle.std.proofs.Common.{◌≡◌, ℕ, ◌<◌, ◌≤◌, List, [], ◌∷◌, ◌++◌, map, length, arith, refl, ap, sym, ◌∙◌, Bool, true, false, subst, ◌+◌}
-use Rattle.std.specs.Prelude.{nat_lt, ◌||◌, not, bytes_eq, unwrap_or, All, Option, Some, None, is_some, Result, Ok, Err, is_ok, find, filter, filter_map, option_map, codes, take, if◌then◌else◌}
+use Rattle.std.specs.Prelude.{nat_lt, ◌||◌, not, bytes_eq, unwrap_or, All, Option, Some, None, is_some, Result, Ok, Err, is_ok, find, filter, filter_map, option_map, codes, take, if◌then◌else◌, int_lt, pos}
 use Rattle.std.specs.List.{AllByRecursion as Each, cons_option, list_any, enumerate_from}
 use Rattle.std.proofs.lemmas.Bool.{false≢true, ltb-false}
 use Rattle.std.proofs.lemmas.List.Elements.{All-from_recursion}
 use Rattle.std.proofs.lemmas.Slice.Eq.{bytes_eq-Decides}
-use Rattle.std.proofs.lemmas.Option.{none-some}
+use Rattle.std.proofs.lemmas.Option.{none-some, same_Some}
 use Rattle.std.specs.Result.{result_unwrap_or}
 use Rattle.cal_base.specs.declared.line.Node.{Node}
 use Rattle.cal_base.specs.Lines.ContentLines.{placed_lines, line_fault, Placed}
 use Rattle.cal_base.specs.Lines.ComponentTrees.{nesting_fault, tree_of, first}
 use Rattle.cal_base.specs.declared.line.Line.{Line}
+use Rattle.cal_moment.specs.declared.stamp.Length.{Length}
 use Rattle.cal_moment.specs.declared.stamp.Period.{Period}
+use Rattle.cal_moment.specs.declared.stamp.Stamp.{Stamp}
 use Rattle.cal_model.specs.declared.object.Class.{Class}
 use Rattle.cal_model.specs.declared.object.Component.{Component}
 use Rattle.cal_model.specs.declared.object.Kind.{Kind}
@@ -27,6 +29,7 @@ use Rattle.cal_model.specs.declared.zone.ZonePart.{ZonePart}
 use Rattle.cal_model.specs.Objects.LineValues.{periods_at, stamp_at, value_at, rules_of, lines_in, own_fault}
 use Rattle.cal_model.specs.Objects.ZoneReading.{zones_of, zone_names, are_many, zone_table, is_zone, parts_of, has_zone_fault, has_fine_rule, is_part, part_of_lines, are_too_many}
 use Rattle.cal_model.specs.Values.ValueTexts.{length_of}
+use Rattle.cal_model.specs.Ranges.Overlap.{seconds_of}
 use Rattle.cal_model.specs.Words.Numbers.{is_empty}
 use Rattle.cal_model.specs.Instances.Rows.{masters}
 use Rattle.cal_model.specs.Recurrence.RecurrenceSet.{every_moment}
@@ -35,17 +38,18 @@ use Rattle.cal_model.specs.Ranges.Nearness.{IsTimed}
 use Rattle.cal_model.specs.Values.RuleTexts.{rule_of}
 use Rattle.cal_model.proofs.Objects.RuleBounds.{IsUsable-rule_of}
 use Rattle.cal_model.specs.Objects.ComponentLines.{all_of, name_of, children_of, kind_named, kind_of, lines_of, has, is_named}
-use Rattle.cal_model.specs.Objects.ComponentReading.{stored_busy_of, extent_of, component_of}
-use Rattle.cal_model.specs.Objects.ReadObjects.{stamps_of, IsKnown, IsReadComponent, IsZone, IsReadObject, IsRead, IsServed, IsShort, HasShortEnd, lengths_of_extent}
+use Rattle.cal_model.specs.Objects.ComponentReading.{stored_busy_of, extent_of, alarm_of, is_alarm, component_of}
+use Rattle.cal_model.specs.Objects.ReadObjects.{stamps_of, IsKnown, IsReadComponent, IsZone, IsReadObject, IsRead, IsServed, IsShort, IsForward, HasShortEnd, IsReadAlarm, lengths_of_extent}
 use Rattle.cal_model.proofs.Objects.LineTests.{IsTested}
 use Rattle.cal_model.proofs.Objects.PlacedComponents.{tree_at}
 use Rattle.cal_model.proofs.Words.EachLemmas.{neither, none_of_map, each_of_find, each_of_any, each-weaker, each-filter, each_passes, each_of_map, each-filter_map, each-both}
-use Rattle.cal_model.specs.Objects.ObjectFaults.{Child, children_in, kinds_among, component_fault, resource_fault, component_of_child, dated_stamps, lacks_zone, object_of, has_component_fault, is_bad_end, is_bad_period, is_bad_length, has_two_ends, are_different, resource_faults, child_at, child_places, zones_among, zone_fault, is_bad_zone}
+use Rattle.cal_model.specs.Objects.ObjectFaults.{Child, children_in, kinds_among, component_fault, resource_fault, component_of_child, dated_stamps, lacks_zone, object_of, has_component_fault, is_bad_end, is_bad_period, is_bad_length, is_part_of_day, has_two_ends, are_different, resource_faults, child_at, child_places, zones_among, zone_fault, is_bad_zone}
 use Rattle.cal_model.specs.Objects.ObjectReading.{Unread, not_resource, first_there, calendar_faults, read_lines_by, read_zone_tree, read_zone, not_calendar, place_at}
 use Rattle.cal_model.proofs.Objects.ReadingSteps.{after_lines, after_nesting, of_tree, after_tree, read_from, is_sound, IsChildOf, children_are, head_none, tail_none}
 use Rattle.cal_model.proofs.Objects.ComponentStamps.{is_made, IsNamed, known_by_test, lines_known, each_stamp}
-use Rattle.cal_model.proofs.Objects.ServedDates.{child_served}
-use Rattle.cal_model.proofs.Objects.ShortLengths.{child_tested, extent_short, periods_short, busy_short}
+use Rattle.cal_model.proofs.Objects.ServedDates.{not_before, child_served}
+use Rattle.cal_model.proofs.Objects.ShortLengths.{child_tested, extent_lengths, extent_short, periods_short, busy_short}
+use Rattle.cal_model.proofs.Objects.AlarmBounds.{AlarmsAreKnown, child_alarms, alarms_bounded}
 use Rattle.cal_model.proofs.Objects.TimedPeriods.{periods_timed}
 
 -- Rows of the table that do not hold
@@ -108,6 +112,24 @@ few_rules zones lines sound =
     let d = (neither (many || twice) end c).0 in
     few_of_test (rules_of lines) (neither many twice d).0
 
+-- the DURATION of a component does not go backwards
+forward_length : (start : Option Stamp) (found : Option Length) → is_bad_length start found ≡ false → (length : Length) → found ≡ Some length → IsForward length
+forward_length start None sound length is = absurd (none-some length is)
+forward_length start (Some one) sound length is =
+    let test = (neither (int_lt (seconds_of one) (pos 0)) (is_part_of_day start one) sound).0 in
+    subst IsForward (same_Some one length is) (not_before (seconds_of one) (pos 0) test)
+
+extent_forward : (zones : List ZoneTable) (lines : List Line) (kind : Kind) → has_component_fault zones lines ≡ false → Each IsForward (lengths_of_extent (extent_of (zone_names zones) kind lines))
+extent_forward zones lines kind sound =
+    let names = zone_names zones in
+    let start = stamp_at names (codes "DTSTART") lines in
+    let due = is_bad_end zones start (stamp_at names (codes "DUE") lines) in
+    let end = is_bad_end zones start (stamp_at names (codes "DTEND") lines) in
+    let periods = list_any (is_bad_period zones) (periods_at names (codes "RDATE") lines ++ periods_at names (codes "FREEBUSY") lines) in
+    let length = is_bad_length start (value_at length_of (codes "DURATION") lines) in
+    let good = (neither (are_many (rules_of lines) || has_two_ends lines || end || due || periods) length sound).1 in
+    extent_lengths IsForward names kind lines (forward_length start (value_at length_of (codes "DURATION") lines) good)
+
 usable_rules : (lines : List Line) → All IsUsable (rules_of lines)
 usable_rules lines =
     All-from_recursion IsUsable (rules_of lines)
@@ -135,6 +157,7 @@ record IsSoundChild (all : List Line) (tree : Node) (zones : List ZoneTable) (na
   known : lacks_zone (zone_names zones) (lines_of child.tree) ≡ false
   named : name ≡ name_of child.tree
   served : (kind : Kind) → kind_of child.tree ≡ Some kind → Each (λ line. Each IsServed (dated_stamps (zone_names zones) line)) (lines_of child.tree)
+  alarms : (kind : Kind) → kind_of child.tree ≡ Some kind → AlarmsAreKnown all child.tree
 
 component_facts : (all : List Line) (tree : Node) (zones : List ZoneTable) (name : List ℕ) (kind : Kind) (object : Object) → object.kind ≡ kind → object.tree ≡ tree → object.zones ≡ zones → kind_named name ≡ Some kind →
     (child : Child) (component : Component) → IsSoundChild all tree zones name child → component_of_child (zone_names zones) child ≡ Some component → IsReadComponent object component
@@ -154,9 +177,11 @@ component_facts all tree zones name kind object object_kind object_tree object_z
       known_zones = rw (object_zones, source.is) (All-from_recursion (IsKnown zones) (stamps_of (component_of (zone_names zones) child.number source.kind child.tree)) (each_stamp (IsNamed (zone_names zones)) (zone_names zones) child.number source.kind child.tree (lines_known (zone_names zones) (lines_of child.tree) facts.known)));
       served = rw source.is (All-from_recursion IsServed (stamps_of (component_of (zone_names zones) child.number source.kind child.tree)) (each_stamp IsServed (zone_names zones) child.number source.kind child.tree (facts.served source.kind source.of_kind)));
       short_extent = rw source.is (All-from_recursion IsShort (lengths_of_extent (extent_of (zone_names zones) source.kind (lines_of child.tree))) (extent_short (zone_names zones) all (lines_of child.tree) source.kind facts.tested));
+      forward_extent = rw source.is (All-from_recursion IsForward (lengths_of_extent (extent_of (zone_names zones) source.kind (lines_of child.tree))) (extent_forward zones (lines_of child.tree) source.kind facts.sound));
       short_periods = rw source.is (All-from_recursion HasShortEnd (periods_at (zone_names zones) (codes "RDATE") (lines_of child.tree)) (periods_short (zone_names zones) all (lines_of child.tree) facts.tested));
       timed_periods = rw source.is (All-from_recursion IsTimed (periods_at (zone_names zones) (codes "RDATE") (lines_of child.tree)) (periods_timed (zone_names zones) (codes "RDATE") (lines_of child.tree)));
       short_busy = rw source.is (All-from_recursion (λ (entry : Option Class × Period). HasShortEnd entry.1) (stored_busy_of (zone_names zones) (lines_of child.tree)) (busy_short (zone_names zones) all (lines_of child.tree) facts.tested));
+      alarms = rw source.is (All-from_recursion IsReadAlarm (filter_map alarm_of (filter is_alarm (children_of child.tree))) (alarms_bounded all child.tree (facts.alarms source.kind source.of_kind)));
     }
 
 -- the facts of all children together
@@ -166,11 +191,20 @@ sound_children : (all : List Line) (tree : Node) (zones : List ZoneTable) (name 
     Each (λ (child : Child). name ≡ name_of child.tree) children →
     ((child : Child) (kind : Kind) → IsChildOf (children_of tree) child → kind_of child.tree ≡ Some kind → Each (λ line. Each IsServed (dated_stamps (zone_names zones) line)) (lines_of child.tree)) →
     ((child : Child) → IsChildOf (children_of tree) child → Each (IsTested all) (lines_of child.tree)) →
+    ((child : Child) (kind : Kind) → IsChildOf (children_of tree) child → kind_of child.tree ≡ Some kind → AlarmsAreKnown all child.tree) →
     Each (IsSoundChild all tree zones name) children
-sound_children all tree zones name [] numbers sound known named served tested = tt
-sound_children all tree zones name (child ∷ children) numbers sound known named served tested = (
-  record { tested = tested child numbers.0; child_of_tree = numbers.0; sound = sound.0; known = known.0; named = named.0; served = λ kind of_kind. served child kind numbers.0 of_kind },
-  sound_children all tree zones name children numbers.1 sound.1 known.1 named.1 served tested,
+sound_children all tree zones name [] numbers sound known named served tested alarms = tt
+sound_children all tree zones name (child ∷ children) numbers sound known named served tested alarms = (
+  record {
+    tested = tested child numbers.0;
+    child_of_tree = numbers.0;
+    sound = sound.0;
+    known = known.0;
+    named = named.0;
+    served = λ kind of_kind. served child kind numbers.0 of_kind;
+    alarms = λ kind of_kind. alarms child kind numbers.0 of_kind;
+  },
+  sound_children all tree zones name children numbers.1 sound.1 known.1 named.1 served tested alarms,
 )
 
 -- the parts of a zone without fault
@@ -221,9 +255,10 @@ whole_object : (all : List Line) (tree : Node) (zones : List ZoneTable) (childre
     component_fault zones children ≡ None → resource_fault (object_of zones tree children) children ≡ None →
     ((child : Child) (kind : Kind) → IsChildOf (children_of tree) child → kind_of child.tree ≡ Some kind → Each (λ line. Each IsServed (dated_stamps (zone_names zones) line)) (lines_of child.tree)) →
     ((child : Child) → IsChildOf (children_of tree) child → Each (IsTested all) (lines_of child.tree)) →
+    ((child : Child) (kind : Kind) → IsChildOf (children_of tree) child → kind_of child.tree ≡ Some kind → AlarmsAreKnown all child.tree) →
     IsReadObject (object_of zones tree children)
-whole_object all tree zones [] tables numbers kinds sound stored served tested = absurd (false≢true (sym (is_storable (object_of zones tree []) [] stored).some))
-whole_object all tree zones (child ∷ children) tables numbers kinds sound stored served tested =
+whole_object all tree zones [] tables numbers kinds sound stored served tested alarms = absurd (false≢true (sym (is_storable (object_of zones tree []) [] stored).some))
+whole_object all tree zones (child ∷ children) tables numbers kinds sound stored served tested alarms =
     let names = zone_names zones in
     let object = object_of zones tree (child ∷ children) in
     let rows = is_storable object (child ∷ children) stored in
@@ -234,7 +269,7 @@ whole_object all tree zones (child ∷ children) tables numbers kinds sound stor
     let named = each_of_map (λ other. name ≡ other) (λ (c : Child). name_of c.tree) (child ∷ children) (each_first name (map (λ (c : Child). name_of c.tree) children) rows.one_kind) in
     let standing = each_of_find (λ (c : Child). has_component_fault zones (lines_of c.tree)) (child ∷ children)
     (none_of_map (λ (c : Child). c.place) (find (λ (c : Child). has_component_fault zones (lines_of c.tree)) (child ∷ children)) sound) in
-    let facts = sound_children all tree zones name (child ∷ children) numbers standing rows.zones named served tested in
+    let facts = sound_children all tree zones name (child ∷ children) numbers standing rows.zones named served tested alarms in
     let kind = first_kind (component_of_child names child) (filter_map (component_of_child names) children) (component_of names child.number its_kind.0 child.tree) made in
     record {
       some = some_made (component_of_child names child) (filter_map (component_of_child names) children) (component_of names child.number its_kind.0 child.tree) made;
@@ -259,7 +294,8 @@ IsReadObject-read object read =
     (each_passes (λ (child : Child). is_some (kind_of child.tree)) (children_in placed tree))
     sound.component sound.resource
     (λ child kind is_child of_kind. child_served (zone_names (zones_of every_moment tree)) (lines_in placed) tree child kind sound.outside (tree_at (lines_in placed) tree found.1.nested found.1.built) is_child of_kind)
-    (λ child is_child. child_tested placed tree child sound.own (tree_at (lines_in placed) tree found.1.nested found.1.built) is_child))
+    (λ child is_child. child_tested placed tree child sound.own (tree_at (lines_in placed) tree found.1.nested found.1.built) is_child)
+    (λ child kind is_child of_kind. child_alarms placed (zone_names (zones_of every_moment tree)) tree child kind sound.own sound.outside (tree_at (lines_in placed) tree found.1.nested found.1.built) is_child of_kind))
 
 -- The zone of a text
 

@@ -8,16 +8,12 @@ use Rattle.cal_moment.specs.declared.stamp.Day.{Day}
 use Rattle.cal_moment.specs.declared.stamp.Local.{Local}
 use Rattle.cal_moment.specs.Calendar.{IsDate, month_length, day_of_date, day_since_1970}
 use Rattle.cal_moment.specs.Texts.{digits, date_text, time_text, utc_text, sign_text, signed, SpellsDate, SpellsTime, SpellsDateTime, SpellsSecond, SpellsOffset}
-use Rattle.cal_model.specs.Values.UtcTexts.{number_at}
-use Rattle.cal_model.specs.Values.ValueTexts.{is_date, is_time, date_of, time_of, local_time, date_time_of, is_negative, second_text, offset_of}
+use Rattle.cal_moment.proofs.CalendarLaws.{month_length-bounds}
+use Rattle.cal_model.specs.Values.ValueTexts.{number_at, is_date, is_time, date_of, time_of, local_time, date_time_of, is_negative, second_text, offset_of}
 use Rattle.cal_model.proofs.Values.CutLemmas.{if_some, same_text, is_same_text}
 
 abbrev as_day : ℤ → Day
 as_day n = record { 0 = n }
-
--- a month has at most 31 days
-month_is_short : (y m : ℕ) → month_length y m ≤ 31
-month_is_short y m = grind arith
 
 -- DATE
 
@@ -51,7 +47,7 @@ pub date_of-date_text : (y m d : ℕ) → IsDate y m d → date_of (date_text y 
 unfolding date_of
 date_of-date_text y m d date =
     let text = date_text y m d in
-    let short = month_is_short y m in
+    let short = (month_length-bounds y m).1 in
     let y4 : y < 10000 = omega (arith, date.0.1) in
     let m2 : m < 100 = omega (arith, date.1.1) in
     let d2 : d < 100 = omega (arith, date.2.1, short) in

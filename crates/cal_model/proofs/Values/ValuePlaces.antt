@@ -18,8 +18,6 @@ use Rattle.cal_model.specs.Values.RuleTexts.{rule_in_grammar, is_within_bound, l
 use Rattle.cal_model.specs.Values.BadValues.{Reads, IsBadRuleAt}
 use Rattle.cal_model.specs.Values.RuleTrial.{can_go_on}
 use Rattle.cal_moment.specs.declared.stamp.Utc.{Utc}
-use Rattle.cal_model.specs.Values.UtcTexts.{utc_of}
-use Rattle.cal_model.proofs.Values.UtcLemmas.{SpellsDateTime-utc_of}
 use Rattle.cal_model.proofs.Values.BadValueLaws.{joined, firsts, final, first_piece, pieces-append, pieces-lacks, bad_by_same, bad_by_next}
 use Rattle.cal_model.proofs.Values.CutLemmas.{option_map_some, Lacks, lacks-append}
 use Rattle.cal_model.proofs.Values.LengthLaws.{length_of-SpellsLength, SpellsLength-length_of}
@@ -212,13 +210,3 @@ stamp_lacks_comma zones line text is =
                 time_lacks_comma text (time.0, SpellsDateTime-date_time_of text time.0 time.1))
           ])
     ]
-
--- The moment of a text with its Z is the one that is read with or without it.
-pub moment_of-utc_of : (text : List ℕ) (at : ℤ) → utc_of text ≡ Some at → moment_of text ≡ Some (record { 0 = at })
-moment_of-utc_of text at e =
-    let local = SpellsDateTime-utc_of text at e in
-    ap (option_map (λ (time : Local × Bool). utc_of_local time.0)) (date_time_of-SpellsDateTime text (local.0, true) local.1)
-    ∙ ap (λ n. Some (as_moment n)) (sym local.2)
-  where
-    as_moment : ℤ → Utc
-    as_moment n = record { 0 = n }

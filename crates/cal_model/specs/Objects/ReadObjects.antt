@@ -1,19 +1,24 @@
 -- What holds of each calendar object that was read (RFC 5545, 3.6; RFC 4791, 4.1), and what the crates above rest on. How an object is read stands in `ObjectReading`.
-use Rattle.std.specs.Prelude.{◌≡◌, ℕ, ◌<◌, ◌≤◌, true, List, [], ◌∷◌, ◌++◌, flat_map, length, option_to_list, slice_get, Option, Some, Ok, All, ◌≤ℤ◌}
+use Rattle.std.specs.Prelude.{◌≡◌, ℕ, ◌<◌, ◌≤◌, true, List, [], ◌∷◌, ◌++◌, flat_map, length, option_to_list, slice_get, Option, Some, Ok, All, pos, ◌≤ℤ◌}
 use Rattle.cal_base.specs.declared.line.Node.{Node}
 use Rattle.cal_moment.specs.declared.stamp.Stamp.{Stamp}
+use Rattle.cal_moment.specs.declared.stamp.Stamp.TheVariants.{Utc}
 use Rattle.cal_moment.specs.declared.stamp.Length.{Length}
 use Rattle.cal_moment.specs.declared.stamp.Period.{Period}
+use Rattle.cal_model.specs.declared.object.Alarm.{Alarm}
 use Rattle.cal_model.specs.declared.object.Class.{Class}
 use Rattle.cal_model.specs.declared.object.Component.{Component}
 use Rattle.cal_model.specs.declared.object.Extent.{Extent}
 use Rattle.cal_model.specs.declared.object.Extent.TheVariants as extent
 use Rattle.cal_model.specs.declared.object.Object.{Object}
+use Rattle.cal_model.specs.declared.object.Trigger.{Trigger}
+use Rattle.cal_model.specs.declared.object.Trigger.TheVariants.{At, From}
 use Rattle.cal_model.specs.declared.zone.ZonePart.{ZonePart}
 use Rattle.cal_model.specs.declared.zone.ZoneTable.{ZoneTable}
 use Rattle.cal_model.specs.Words.Limits.{first_date, last_date}
 use Rattle.cal_model.specs.Instances.Alignment.{written_value}
 use Rattle.cal_model.specs.Ranges.Nearness.{IsTimed}
+use Rattle.cal_model.specs.Ranges.Overlap.{seconds_of}
 use Rattle.cal_model.specs.Recurrence.NextPassing.{IsUsable}
 use Rattle.cal_model.specs.Values.StampTexts.{is_known}
 use Rattle.cal_model.specs.TimeZones.TableBounds.{IsPart}
@@ -61,12 +66,26 @@ pub record IsServed (stamp : Stamp) : Type 0 where
 abbrev pub IsShort : Length → Type 0
 IsShort length = is_short length ≡ true
 
+-- not backwards
+abbrev pub IsForward : Length → Type 0
+IsForward length = pos 0 ≤ℤ seconds_of length
+
 abbrev pub HasShortEnd : Period → Type 0
 HasShortEnd period = is_short_end period.end ≡ true
 
 abbrev pub lengths_of_extent : Extent → List Length
 lengths_of_extent (extent.Lasting length) = length ∷ []
 lengths_of_extent other = []
+
+-- a trigger is a short length, or a moment that is served
+abbrev pub IsBoundedTrigger : Trigger → Type 0
+IsBoundedTrigger (At moment) = IsServed (Utc moment)
+IsBoundedTrigger (From related length) = IsShort length
+
+-- an alarm, and the gaps between its repeats
+pub record IsReadAlarm (alarm : Alarm) : Type 0 where
+  pub trigger : IsBoundedTrigger alarm.trigger
+  pub gap : IsShort alarm.gap
 
 -- what holds of each component of an object
 pub record IsReadComponent (object : Object) (component : Component) : Type 0 where
@@ -77,9 +96,11 @@ pub record IsReadComponent (object : Object) (component : Component) : Type 0 wh
   pub known_zones : All (IsKnown object.zones) (stamps_of component)
   pub served : All IsServed (stamps_of component)
   pub short_extent : All IsShort (lengths_of_extent component.extent)
+  pub forward_extent : All IsForward (lengths_of_extent component.extent)
   pub short_periods : All HasShortEnd component.periods
   pub timed_periods : All IsTimed component.periods
   pub short_busy : All (λ (entry : Option Class × Period). HasShortEnd entry.1) component.stored_busy
+  pub alarms : All IsReadAlarm component.alarms
 
 -- a table is that of some parts that were read, and so has all that such tables have
 pub record IsZone (zone : ZoneTable) : Type 0 where

@@ -1,7 +1,7 @@
 -- The values that whole texts spell (RFC 5545, 3.3), as functions that compute; a text outside its grammar has none.
 -- What a date, a time, a length and an offset are stands in `cal_moment`. Here a date, a time or an offset is a text of the numbers
 -- at its places, and a length is cut at its letters; no reader goes on from octet to octet.
-use Rattle.std.specs.Prelude.{ℕ, ◌+◌, ◌*◌, ◌^◌, min, Bool, true, false, ◌&&◌, ◌||◌, ◌==◌, nat_lt, nat_le, if◌then◌else◌, List, [], ◌∷◌, ◌++◌, length, take, drop, bytes_eq, codes, Option, Some, None, option_map, option_and_then, ℤ, pos, ◌+ℤ◌, ◌*ℤ◌}
+use Rattle.std.specs.Prelude.{ℕ, ◌+◌, ◌-◌, ◌*◌, ◌^◌, min, Bool, true, false, ◌&&◌, ◌||◌, ◌==◌, nat_lt, nat_le, if◌then◌else◌, List, [], ◌∷◌, ◌++◌, length, take, drop, fold, bytes_eq, codes, Option, Some, None, option_map, option_and_then, ℤ, pos, ◌+ℤ◌, ◌*ℤ◌}
 use Rattle.cal_base.specs.Lines.ComponentTrees.{or_else}
 use Rattle.cal_moment.specs.declared.stamp.Day.{Day}
 use Rattle.cal_moment.specs.declared.stamp.Length.{Length}
@@ -9,7 +9,10 @@ use Rattle.cal_moment.specs.declared.stamp.Local.{Local}
 use Rattle.cal_moment.specs.declared.stamp.Utc.{Utc}
 use Rattle.cal_moment.specs.Calendar.{month_length, day_of_date, day_since_1970}
 use Rattle.cal_moment.specs.Texts.{digits, date_text, time_text, utc_text, sign_text, signed}
-use Rattle.cal_model.specs.Values.UtcTexts.{number_at}
+
+-- the number whose digits are so many octets of a text from a place on
+abbrev pub number_at : ℕ → ℕ → List ℕ → ℕ
+number_at place count text = fold (λ n octet. n * 10 + (octet - 48)) 0 (take count (drop place text))
 
 -- Dates and times (RFC 5545, 3.3.4 and 3.3.5)
 
