@@ -9,6 +9,7 @@ pub mod Filters
 pub mod Selections
 pub mod Busy
 pub mod Reports
+pub mod Pieces
 mod Access
 mod Replies
 pub mod FirstPath

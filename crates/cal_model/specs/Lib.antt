@@ -9,6 +9,7 @@ pub mod Filters
 pub mod Selections
 pub mod Busy
 pub mod Reports
+pub mod Pieces
 pub mod Access
 pub mod Server
 pub mod Replies

@@ -12,6 +12,7 @@
 pub mod filter;
 pub mod object;
 pub mod path;
+pub mod piece;
 pub mod privilege;
 pub mod property;
 pub mod reply;
@@ -32,6 +33,7 @@ pub use filter::{
 };
 pub use object::{Alarm, Class, Component, Extent, Kind, NotResource, Object, Related, Trigger};
 pub use path::{ObjectPath, Path};
+pub use piece::Piece;
 pub use privilege::{Acl, Grant, PrivilegeSet, Who};
 pub use property::{PropName, PropSet, Props};
 pub use reply::{Cond, Etag, Media, Refusal, Reply, date_value};
