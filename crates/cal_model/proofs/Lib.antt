@@ -11,5 +11,9 @@ pub mod Busy
 pub mod Reports
 mod Access
 mod Replies
+pub mod Streams
+pub mod Paths
+pub mod Bodies
+pub mod Requests
 pub mod FirstPath
 pub mod Scripts

@@ -12,5 +12,10 @@ pub mod Reports
 pub mod Access
 pub mod Server
 pub mod Replies
+pub mod Streams
+pub mod Paths
+pub mod Users
+pub mod Bodies
+pub mod Requests
 pub mod FirstPath
 pub mod Scripts
