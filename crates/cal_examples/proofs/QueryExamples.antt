@@ -8,10 +8,10 @@ use Rattle.sha2.specs.Sha256.{first_words, schedule, rounds, compress, hash_afte
 use Rattle.std.proofs.Common.{arith}
 use Rattle.std.proofs.lemmas.Int.{ints}
 use Rattle.cal_model.specs.FirstPath.QueryTexts.{query_head, query_body, query_octets, query_request}
-use Rattle.cal_model.specs.FirstPath.Requests.{SpellsQuery}
+use Rattle.cal_model.specs.FirstPath.FirstPathRequests.{SpellsQuery}
 use Rattle.cal_model.specs.Server.ServerState.{found_calendar}
 use Rattle.cal_model.specs.Server.Step.{outcome, unchanged, refused}
-use Rattle.cal_model.specs.Scripts.UsersFile.{alice_alone}
+use Rattle.cal_model.specs.FirstPath.FirstPathUsersFile.{alice_alone}
 use Rattle.cal_model.proofs.FirstPath.QueryLemmas.{query_range-event_query}
 use Rattle.cal_model.specs.Server.Multistatus.{query_reply, object_response}
 use Rattle.cal_model.specs.declared.row.Range.{Range}

@@ -9,10 +9,10 @@ use Rattle.cal_model.specs.FirstPath.EventTexts.{EventText, event_octets, put_he
 use Rattle.cal_model.specs.Scripts.Frames.{bytes, reply_frame}
 use Rattle.cal_model.specs.FirstPath.QueryTexts.{QueryText, IsQueryText, query_head, query_body, query_request}
 use Rattle.cal_model.specs.Replies.ReplyOctets.{fields, reply_octets}
-use Rattle.cal_model.specs.FirstPath.Requests.{SpellsPut, SpellsQuery, SpellsNone}
+use Rattle.cal_model.specs.FirstPath.FirstPathRequests.{SpellsPut, SpellsQuery, SpellsNone}
 use Rattle.cal_model.specs.Scripts.Script.{Standing, event_of, open_reply, Follows, Turn, at_start}
 use Rattle.cal_model.specs.Replies.Statuses.{reason}
-use Rattle.cal_model.specs.Scripts.UsersFile.{alice_alone}
+use Rattle.cal_model.specs.FirstPath.FirstPathUsersFile.{alice_alone}
 use Rattle.cal_model.specs.Values.UtcTexts.{utc_of}
 use Rattle.cal_model.specs.Values.ValueTexts.{date_of, time_of, date_time_of}
 use Rattle.cal_examples.proofs.Samples.{stand_up, stand_up_octets, range_of, eight, nine, ten, eleven, moment}

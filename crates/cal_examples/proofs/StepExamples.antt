@@ -13,7 +13,7 @@ use Rattle.cal_model.specs.Server.EventTimes.{start_of, end_of, overlaps}
 use Rattle.cal_model.specs.Words.Limits.{home_limit}
 use Rattle.cal_model.specs.Server.ServerState.{ServerState, opening_state, first_calendar, found_calendar}
 use Rattle.cal_model.specs.Server.Step.{accepted, refused, outcome}
-use Rattle.cal_model.specs.Scripts.UsersFile.{alice_alone}
+use Rattle.cal_model.specs.FirstPath.FirstPathUsersFile.{alice_alone}
 use Rattle.cal_model.specs.Values.UtcTexts.{utc_of}
 use Rattle.cal_model.specs.Values.ValueTexts.{date_of, time_of, date_time_of}
 use Rattle.cal_examples.proofs.Samples.{stand_up, stand_up_octets, stand_up_etag, range_of, eight, nine, ten, eleven, event_at}

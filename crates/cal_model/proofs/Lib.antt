@@ -12,5 +12,9 @@ pub mod Reports
 pub mod Pieces
 mod Access
 mod Replies
+pub mod Streams
+pub mod Paths
+pub mod Bodies
+pub mod Requests
 pub mod FirstPath
 pub mod Scripts

@@ -13,5 +13,10 @@ pub mod Pieces
 pub mod Access
 pub mod Server
 pub mod Replies
+pub mod Streams
+pub mod Paths
+pub mod Users
+pub mod Bodies
+pub mod Requests
 pub mod FirstPath
 pub mod Scripts

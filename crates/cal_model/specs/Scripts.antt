@@ -1,5 +1,4 @@
--- Scripts: frames, the users file, and what a script prints. They are this project's own.
+-- Scripts: frames, and what a script prints. They are this project's own.
 -- Given: octets of a script. Script is the promise that the program keeps.
 pub mod Frames
-pub mod UsersFile
 pub mod Script

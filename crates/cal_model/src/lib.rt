@@ -25,6 +25,7 @@ pub mod selection;
 pub mod store;
 #[cfg(test)]
 mod tests;
+pub mod wire;
 pub mod zone;
 mod zone_time;
 
@@ -44,5 +45,6 @@ pub use rule::{DayPart, Freq, Rule, Until};
 pub use rules::Rules;
 pub use selection::{CompPick, PropPick, Recur, Selection};
 pub use store::CalendarData;
+pub use wire::{WireFault, WireRequest};
 pub use zone::{Onset, ZonePart, ZoneTable};
 pub use zone_time::{exists, offset_at, to_utc};

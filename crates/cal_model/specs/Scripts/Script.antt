@@ -9,7 +9,7 @@ use Rattle.cal_model.specs.Server.ServerState.{Directory, ServerState, opening_s
 use Rattle.cal_model.specs.Server.Step.{bare_reply}
 use Rattle.cal_model.specs.Server.Answer.{reply_to, state_after}
 use Rattle.cal_model.specs.Replies.ReplyOctets.{reply_octets}
-use Rattle.cal_model.specs.FirstPath.Requests.{SpellsRequest, SpellsNone}
+use Rattle.cal_model.specs.FirstPath.FirstPathRequests.{SpellsRequest, SpellsNone}
 use Rattle.cal_model.specs.Scripts.Frames.{Frame, bytes, frames_text, IsFrame, IsCutInto, reply_frame}
 
 -- where a script stands: the state of the server, and the connections that were closed

@@ -1,5 +1,4 @@
--- The users file: one line for each user, with the name and the SHA-256 of the password. It is this project's own.
--- So far it has one content alone: the user alice with the password `abc`.
+-- The users file that the first path takes: it has one content alone, the user alice with the password `abc`. The chapter Users has the file in its lasting form.
 use Rattle.std.specs.Prelude.{◌≡◌, ℕ, List, [], ◌∷◌, codes}
 use Rattle.cal_model.specs.Server.ServerState.{Directory}
 
