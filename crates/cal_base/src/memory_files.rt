@@ -5,7 +5,7 @@ ghost use Rattle.cal_base.specs.World.Memory.{no_calls, content_of, files_read_f
 
 use crate::files::{FileFault, Files};
 use crate::list::{List, Octets};
-use crate::memory_calls::MemoryCalls;
+use crate::failing_calls::FailingCalls;
 use std::alloc::Global;
 use std::marker::Model;
 
@@ -14,7 +14,7 @@ use std::marker::Model;
 #[derive(Drop)]
 pub struct MemoryFiles {
     files: List<(Octets, Octets)>,
-    calls: MemoryCalls,
+    calls: FailingCalls,
 }
 
 impl Model for MemoryFiles {
@@ -33,7 +33,7 @@ impl MemoryFiles {
     {
         MemoryFiles {
             files,
-            calls: MemoryCalls::new(failing),
+            calls: FailingCalls::new(failing),
         }
     }
 }

@@ -69,10 +69,6 @@ mutual
     own_line : (first : Line) (body lines : List Line) (children : List Node) → IsFalse (is_begin first) → IsFalse (is_end first) → IsBody body lines children → IsBody (first ∷ body) (first ∷ lines) children
     own_component : (part body lines : List Line) (first : Node) (children : List Node) → IsComponent part first → IsBody body lines children → IsBody (part ++ body) lines (first ∷ children)
 
--- the tree of lines without a fault is nested so
-abbrev pub TreesAreNested : Type 0
-TreesAreNested = (lines : List Line) (node : Node) → nesting_fault lines ≡ None → tree_of lines ≡ Some node → IsComponent lines node
-
 -- Writing and printing
 
 -- a line that is read from its own text
