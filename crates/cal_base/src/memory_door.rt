@@ -6,8 +6,8 @@ ghost use Rattle.cal_base.specs.World.Memory.{is_listed, new_door, door_after_fa
 use crate::clock::Clock;
 use crate::door::{Door, Gate};
 use crate::failed::Failed;
-use crate::list::List;
 use crate::failing_calls::FailingCalls;
+use crate::list::List;
 use crate::memory_clock::FixedClock;
 use crate::memory_link::MemoryLink;
 use std::alloc::Global;

@@ -3,9 +3,9 @@ ghost use Rattle.std.specs.Prelude.{◌≡◌, ◌<◌, ◌≤◌, ◌↔◌, �
 ghost use Rattle.std.specs.Option.{option_copied};
 ghost use Rattle.cal_base.specs.World.Memory.{no_calls, content_of, files_read_fails, files_after_fault, files_after_read};
 
+use crate::failing_calls::FailingCalls;
 use crate::files::{FileFault, Files};
 use crate::list::{List, Octets};
-use crate::failing_calls::FailingCalls;
 use std::alloc::Global;
 use std::marker::Model;
 

@@ -3,8 +3,8 @@ ghost use Rattle.std.specs.Prelude.{◌≡◌, ◌≤◌, ◌^◌, ◌↔◌, �
 ghost use Rattle.cal_base.specs.World.Memory.{no_calls, given_len, is_listed, link_read_fails, link_after_fault, link_after_read, link_after_write};
 
 use crate::failed::Failed;
-use crate::list::{List, Octets};
 use crate::failing_calls::FailingCalls;
+use crate::list::{List, Octets};
 use crate::octet_supply::OctetSupply;
 use crate::stream::Link;
 use std::alloc::Global;

@@ -3,8 +3,8 @@ ghost use Rattle.std.specs.Prelude.{◌≡◌, ◌≤◌, [], length, Some, IsTr
 ghost use Rattle.cal_base.specs.World.Memory.{no_calls, is_listed, sink_after_fault, sink_after_write};
 
 use crate::failed::Failed;
-use crate::list::{List, Octets};
 use crate::failing_calls::FailingCalls;
+use crate::list::{List, Octets};
 use crate::stream::Sink;
 use std::alloc::Global;
 use std::marker::Model;

@@ -3,8 +3,8 @@ ghost use Rattle.std.specs.Prelude.{◌≡◌, ◌≤◌, ◌^◌, ◌↔◌, �
 ghost use Rattle.cal_base.specs.World.Memory.{no_calls, given_len, source_read_fails, source_after_fault, source_after_read};
 
 use crate::failed::Failed;
-use crate::list::{List, Octets};
 use crate::failing_calls::FailingCalls;
+use crate::list::{List, Octets};
 use crate::octet_supply::OctetSupply;
 use crate::stream::Source;
 use std::marker::Model;
