@@ -10,7 +10,6 @@ use Rattle.cal_base.specs.Xml.XmlMarkup.{begins, markup_size, markups, markup_of
 use Rattle.cal_base.specs.Xml.XmlScopes.{piece_octets, value_octets}
 use Rattle.cal_base.specs.Xml.CanonicalXml.{value_octet, attribute_text}
 use Rattle.cal_base.proofs.Xml.XmlMarkupLemmas.{markups-append}
-
 use Rattle.cal_base.proofs.Xml.XmlTagLemmas.{pick, skip, markups-marked}
 
 -- Tests of numbers

@@ -9,13 +9,13 @@ use std::marker::Model;
 /// The numbers of the calls that fail, counted from 0, how many calls there were, and how many of
 /// them failed. Both counts stay at the last value of a u64.
 #[derive(Drop)]
-pub(crate) struct MemoryCalls {
+pub(crate) struct FailingCalls {
     failing: List<u64>,
     made: u64,
     faults: u64,
 }
 
-impl Model for MemoryCalls {
+impl Model for FailingCalls {
     ghost use Rattle.cal_base.specs.World.Memory.{Calls};
 
     ghost Value = { Calls };
@@ -23,12 +23,12 @@ impl Model for MemoryCalls {
     ghost view = { λ c. record { failing = c.failing; made = c.made; faults = c.faults } };
 }
 
-impl MemoryCalls {
+impl FailingCalls {
     /// Before the first call.
-    pub(crate) fn new(failing: List<u64>) -> MemoryCalls
+    pub(crate) fn new(failing: List<u64>) -> FailingCalls
         ensures { result ≡ no_calls failing }
     {
-        MemoryCalls {
+        FailingCalls {
             failing,
             made: 0,
             faults: 0,

@@ -1,6 +1,6 @@
 use Rattle.std.proofs.Common.{◌≡◌, ◌-◌, ◌≤◌, length, take}
 use Rattle.cal_base.specs.World.Outside.{Adds}
-use Rattle.cal_base.proofs.whole.send_all.Given as goal
+use Rattle.cal_base.proofs.write_whole.send_all.Given as goal
 
 -- so much of the piece was written, nothing was read, and the count never fell
 abbrev pub invariant-sending : goal.invariant-sending

@@ -1,11 +1,11 @@
-//! Reading a source to its end, and writing a whole piece.
-ghost use Rattle.std.specs.Prelude.{◌≡◌, ℕ, ◌+◌, ◌<◌, ◌≤◌, ◌^◌, List, [], length, take, drop, Some, IfOk, OnOk, OnErr, IfSome, IsErrOf};
-ghost use Rattle.cal_base.specs.World.Outside.{Rose, TakesUpTo, Goes, Adds};
+//! Reading a source to its end.
+ghost use Rattle.std.specs.Prelude.{◌≡◌, ℕ, ◌+◌, ◌<◌, ◌≤◌, ◌^◌, List, [], length, min, Some, IfOk, OnOk, IfSome, IsErrOf};
+ghost use Rattle.cal_base.specs.World.Outside.{Rose, TakesUpTo, Goes};
 
 use crate::failed::Failed;
 use crate::list::Octets;
 use crate::no_memory::NoMemory;
-use crate::stream::{Link, Sink, Source};
+use crate::stream::Source;
 use std::alloc::Global;
 
 /// How many octets are asked for at a time.
@@ -41,10 +41,34 @@ pub fn read_up_to<S: Source>(alloc: Global, source: &mut S, limit: u64) -> Resul
     let Ok(mut piece) = make_piece(alloc) else {
         return Err(ReadEnd::NoMemory);
     };
+    match read_all(source, piece.as_mut_slice(), limit, &mut all) {
+        Ok(()) => Ok(all),
+        Err(end) => Err(end),
+    }
+}
+
+/// Puts all that is left in a source, if it is at most `limit` octets, into an empty list.
+fn read_all<S: Source>(
+    source: &mut S,
+    piece: &mut [u8],
+    limit: u64,
+    all: &mut Octets,
+) -> Result<(), ReadEnd>
+    requires room { 0 < length piece.old }
+    requires empty { all.old ≡ [] }
+    ensures whole { OnOk result (IfSome (S.left source.old) (λ octets. all.new ≡ octets)) }
+    ensures within { OnOk result (length all.new ≤ limit) }
+    ensures ended { OnOk result (S.left source.new ≡ Some []) }
+    ensures too_long { IsErrOf result ReadEnd.TooLong → IfSome (S.left source.old) (λ octets. limit < length octets) }
+    ensures limited { IsErrOf result ReadEnd.TooLong → limit < 2 ^ 62 }
+    ensures failed { IsErrOf result ReadEnd.Failed → Rose (S.faults source.old) (S.faults source.new) }
+    ensures never_falls { S.faults source.old ≤ S.faults source.new }
+    ensures taken { TakesUpTo (limit + 1) (S.left source.old) (S.left source.new) }
+{
     'reading: loop {
-        let spare = limit - all.len() as u64;
-        if take_piece(source, piece.as_mut_slice(), spare, &mut all)? == 0 {
-            return Ok(all);
+        let room = wanted(limit - all.len() as u64, piece.len());
+        if take_piece(source, &mut piece[..room], all)? == 0 {
+            return Ok(());
         }
         if limit < all.len() as u64 {
             return Err(ReadEnd::TooLong);
@@ -52,18 +76,28 @@ pub fn read_up_to<S: Source>(alloc: Global, source: &mut S, limit: u64) -> Resul
     }
 }
 
-/// One read of at most `spare` + 1 octets, which go to the end of `all`.
+/// How many octets are asked for: as many as fit, but no more than one past what is spare.
+fn wanted(spare: u64, room: usize) -> usize
+    ensures { result ≡ min (spare + 1) room }
+{
+    if spare < room as u64 {
+        spare as usize + 1
+    } else {
+        room
+    }
+}
+
+/// One read, whose octets go to the end of `all`.
 fn take_piece<S: Source>(
     source: &mut S,
     piece: &mut [u8],
-    spare: u64,
     all: &mut Octets,
 ) -> Result<usize, ReadEnd>
     requires { 0 < length piece.old }
-    ensures taken { TakesUpTo (spare + 1) (S.left source.old) (S.left source.new) }
+    ensures taken { TakesUpTo (length piece.old) (S.left source.old) (S.left source.new) }
     ensures goes { IfOk result (λ n. Goes (S.left source.old) (S.left source.new) all.old all.new) }
     ensures longer { IfOk result (λ n. length all.new ≡ length all.old + n) }
-    ensures within { IfOk result (λ n. n ≤ spare + 1) }
+    ensures within { IfOk result (λ n. n ≤ length piece.old) }
     ensures at_end { IfOk result (λ n. n ≡ 0 → S.left source.new ≡ Some []) }
     ensures allowed { IfOk result (λ n. n + S.allowance source.new ≤ S.allowance source.old) }
     ensures bounded { S.allowance source.old ≤ 2 ^ 62 }
@@ -71,12 +105,7 @@ fn take_piece<S: Source>(
     ensures too_long { ¬ IsErrOf result ReadEnd.TooLong }
     ensures never_falls { S.faults source.old ≤ S.faults source.new }
 {
-    let room = if spare < piece.len() as u64 {
-        spare as usize + 1
-    } else {
-        piece.len()
-    };
-    let Ok(n) = source.read(&mut piece[..room]) else {
+    let Ok(n) = source.read(piece) else {
         return Err(ReadEnd::Failed);
     };
     if all.extend_from_slice(&piece[..n]).is_err() {
@@ -93,43 +122,4 @@ fn make_piece(alloc: Global) -> Result<Vec<u8>, NoMemory>
         Ok(piece) => Ok(piece),
         Err(_) => Err(NoMemory),
     }
-}
-
-/// Writes all of a piece. After a failure a front of it was written.
-pub fn write_all<K: Sink>(sink: &mut K, piece: &[u8]) -> Result<(), Failed>
-    ensures whole { OnOk result (Adds (K.written sink.old) piece.now (K.written sink.new)) }
-    ensures front { (n : ℕ) × (n ≤ length piece.now) × Adds (K.written sink.old) (take n piece.now) (K.written sink.new) }
-    ensures failed { OnErr result (Rose (K.faults sink.old) (K.faults sink.new)) }
-    ensures never_falls { K.faults sink.old ≤ K.faults sink.new }
-{
-    let mut done = 0;
-    'writing: while done < piece.len() {
-        done += sink.write(behind(piece, done))?;
-    }
-    Ok(())
-}
-
-/// Writes all of a piece to a link, of which nothing is read. After a failure a front of the piece
-/// was written.
-pub fn send_all<L: Link>(link: &mut L, piece: &[u8]) -> Result<(), Failed>
-    ensures whole { OnOk result (Adds (L.written link.old) piece.now (L.written link.new)) }
-    ensures front { (n : ℕ) × (n ≤ length piece.now) × Adds (L.written link.old) (take n piece.now) (L.written link.new) }
-    ensures left_kept { L.left link.new ≡ L.left link.old }
-    ensures allowance_kept { L.allowance link.new ≡ L.allowance link.old }
-    ensures failed { OnErr result (Rose (L.faults link.old) (L.faults link.new)) }
-    ensures never_falls { L.faults link.old ≤ L.faults link.new }
-{
-    let mut done = 0;
-    'sending: while done < piece.len() {
-        done += link.write(behind(piece, done))?;
-    }
-    Ok(())
-}
-
-/// What lies behind a place.
-pub(crate) fn behind(text: &[u8], place: usize) -> &[u8]
-    requires { place ≤ length text.now }
-    ensures { result.now ≡ drop place text.now }
-{
-    &text[place..]
 }

@@ -1,6 +1,6 @@
 use Rattle.std.proofs.Common.{ap, arith, length, length-drop}
 use Rattle.cal_base.proofs.World.Taking.{Adds-next}
-use Rattle.cal_base.proofs.whole.send_all.Goals as goal
+use Rattle.cal_base.proofs.write_whole.send_all.Goals as goal
 
 pub sending-preserved : goal.sending-preserved
 sending-preserved g c = record {

@@ -1,20 +1,20 @@
-//! What an implementation in memory has left to read.
+//! Octets that an implementation in memory still has to give.
 ghost use Rattle.std.specs.Prelude.{◌≡◌, ◌==◌, ◌++◌, length, take, drop, min};
 ghost use Rattle.cal_base.specs.World.Memory.{given_len, supply_behind};
 
 use crate::list::Octets;
-use crate::whole::behind;
+use crate::write_whole::behind;
 use std::marker::Model;
 
 /// What is left to read, and how many octets of it may still be given.
 #[derive(Drop)]
-pub(crate) struct MemorySupply {
+pub(crate) struct OctetSupply {
     octets: Octets,
     place: usize,
     allowed: u64,
 }
 
-impl Model for MemorySupply {
+impl Model for OctetSupply {
     ghost use Rattle.std.specs.Prelude.{drop, length, ◌≤◌};
     ghost use Rattle.cal_base.specs.World.Memory.{Supply};
 
@@ -25,12 +25,12 @@ impl Model for MemorySupply {
     ghost invariant = { λ s. s.place ≤ length s.octets };
 }
 
-impl MemorySupply {
+impl OctetSupply {
     /// All of the octets, of which so many may be given.
-    pub(crate) fn new(octets: Octets, allowance: u64) -> MemorySupply
+    pub(crate) fn new(octets: Octets, allowance: u64) -> OctetSupply
         ensures { result ≡ record { rest = octets; allowance = allowance } }
     {
-        MemorySupply {
+        OctetSupply {
             octets,
             place: 0,
             allowed: allowance,

@@ -1,6 +1,6 @@
 use Rattle.std.proofs.Common.{ap, arith, length, length-drop}
 use Rattle.cal_base.proofs.World.Taking.{Adds-next}
-use Rattle.cal_base.proofs.whole.write_all.Goals as goal
+use Rattle.cal_base.proofs.write_whole.write_all.Goals as goal
 
 pub writing-preserved : goal.writing-preserved
 writing-preserved g c = record {

@@ -1,6 +1,6 @@
 use Rattle.std.proofs.Common.{◌-◌, ◌≤◌, length, take}
 use Rattle.cal_base.specs.World.Outside.{Adds}
-use Rattle.cal_base.proofs.whole.write_all.Given as goal
+use Rattle.cal_base.proofs.write_whole.write_all.Given as goal
 
 -- so much of the piece was written, and the count never fell
 abbrev pub invariant-writing : goal.invariant-writing
