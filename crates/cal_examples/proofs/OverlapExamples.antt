@@ -150,6 +150,11 @@ event_days : row_overlaps (event (Some (date 2025 1 6)) (extent.End (date 2025 1
 unfolding instant_of offset_at
 event_days = refl
 
+-- the row's own end would say otherwise, so the test takes the row
+journal_by_its_end : (overlaps (journal (extent.End (date 2025 1 8))) (fixed (of_days 6 8) new_york) (on 7 5 7 6) ≡ true) × (row_overlaps (journal (extent.End (date 2025 1 8))) (of_days 6 8) (on 7 5 7 6) new_york ≡ false)
+unfolding instant_of offset_at
+journal_by_its_end = (refl, refl)
+
 -- a journal at a time counts at its start alone
 journal_at_time : (overlaps (record meeting { kind = Journal }) (instance 9 10) (from_to 9 10) ≡ true) × (overlaps (record meeting { kind = Journal }) (instance 9 10) (minutes 541 560) ≡ false)
 journal_at_time = (refl, refl)
