@@ -24,7 +24,7 @@ use Rattle.cal_model.specs.Filters.DateProperties.{DatedLine, date_of_line}
 use Rattle.cal_model.specs.Instances.Rows.{row_of}
 use Rattle.cal_model.specs.Values.StampTexts.{stamps_in_grammar}
 use Rattle.cal_model.specs.Values.ValueTexts.{date_of, time_of, date_time_of}
-use Rattle.cal_model.specs.Ranges.Overlap.{overlaps, row_overlaps, alarm_overlaps, is_in, date_in, effective_end}
+use Rattle.cal_model.specs.Ranges.Overlap.{overlaps, row_overlaps, fixed, alarm_overlaps, is_in, date_in, effective_end}
 
 abbrev pub hour : ℕ → ℤ
 hour h = pos (3600 * h)
