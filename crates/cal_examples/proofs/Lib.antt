@@ -16,6 +16,7 @@ mod RowExamples
 mod ObjectExamples
 mod ObjectFaultExamples
 mod CostExamples
+mod DayExamples
 mod OverlapExamples
 mod PassingExamples
 mod RecurrenceSetExamples

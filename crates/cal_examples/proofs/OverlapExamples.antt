@@ -24,7 +24,7 @@ use Rattle.cal_model.specs.Filters.DateProperties.{DatedLine, date_of_line}
 use Rattle.cal_model.specs.Instances.Rows.{row_of}
 use Rattle.cal_model.specs.Values.StampTexts.{stamps_in_grammar}
 use Rattle.cal_model.specs.Values.ValueTexts.{date_of, time_of, date_time_of}
-use Rattle.cal_model.specs.Ranges.Overlap.{overlaps, row_overlaps, alarm_overlaps, is_in, date_in, effective_end}
+use Rattle.cal_model.specs.Ranges.Overlap.{overlaps, row_overlaps, fixed, alarm_overlaps, is_in, date_in, effective_end}
 
 abbrev pub hour : ℕ → ℤ
 hour h = pos (3600 * h)
@@ -149,6 +149,11 @@ journal_day = (refl, refl, refl, refl)
 event_days : row_overlaps (event (Some (date 2025 1 6)) (extent.End (date 2025 1 8))) (of_days 6 8) (on 7 5 7 6) new_york ≡ true
 unfolding instant_of offset_at
 event_days = refl
+
+-- the row's own end would say otherwise, so the test takes the row
+journal_by_its_end : (overlaps (journal (extent.End (date 2025 1 8))) (fixed (of_days 6 8) new_york) (on 7 5 7 6) ≡ true) × (row_overlaps (journal (extent.End (date 2025 1 8))) (of_days 6 8) (on 7 5 7 6) new_york ≡ false)
+unfolding instant_of offset_at
+journal_by_its_end = (refl, refl)
 
 -- a journal at a time counts at its start alone
 journal_at_time : (overlaps (record meeting { kind = Journal }) (instance 9 10) (from_to 9 10) ≡ true) × (overlaps (record meeting { kind = Journal }) (instance 9 10) (minutes 541 560) ≡ false)

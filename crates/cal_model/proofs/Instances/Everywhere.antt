@@ -5,19 +5,9 @@ use Rattle.std.proofs.lemmas.Bool.{cases_Bool}
 use Rattle.std.proofs.lemmas.List.Elements.{All-head, All-tail, All-nil, All-cons, All-append, All-weaker}
 use Rattle.cal_model.specs.declared.object.Component.{Component}
 use Rattle.cal_model.specs.declared.row.Row.{Row}
-use Rattle.cal_model.specs.Words.Numbers.{same_int}
 use Rattle.cal_model.specs.Ranges.Cost.{greatest}
+pub use Rattle.cal_model.proofs.TimeZones.Instants.{same_int-self, same_int-true}
 use Rattle.cal_model.specs.Instances.Rows.{Numbered, numbered_from, comes_before, put_row, in_order}
-
-pub same_int-self : (z : ℤ) → same_int z z ≡ true
-same_int-self (pos n) = grind arith
-same_int-self (negsuc n) = grind arith
-
-pub same_int-true : (a b : ℤ) → same_int a b ≡ true → a ≡ b
-same_int-true (pos a) (pos b) h = ap pos (grind (arith, h))
-same_int-true (pos a) (negsuc b) h = absurd cc
-same_int-true (negsuc a) (pos b) h = absurd cc
-same_int-true (negsuc a) (negsuc b) h = ap negsuc (grind (arith, h))
 
 pub All-everywhere : {X : Type 0} (P : X → Type 0) → ((x : X) → P x) → (xs : List X) → All P xs
 All-everywhere P h [] = All-nil P

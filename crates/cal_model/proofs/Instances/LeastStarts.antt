@@ -3,9 +3,9 @@ use Rattle.std.proofs.Common.{◌≡◌, ℕ, zero, suc, List, [], ◌∷◌, re
 use Rattle.std.specs.Prelude.{All, AllPairs, Contains, filter, int_lt, if◌then◌else◌}
 use Rattle.std.proofs.lemmas.Int.{ints, by_lt_z}
 use Rattle.std.proofs.lemmas.Bool.{cases_Bool}
-use Rattle.std.proofs.lemmas.List.Elements.{All-head, All-tail, All-cons}
+use Rattle.std.proofs.lemmas.List.Elements.{All-head, All-tail, All-cons, All-contains}
 use Rattle.cal_model.specs.Words.Numbers.{greatest_of, first_or_else}
-use Rattle.cal_model.proofs.Instances.RisingLists.{IsBelow, Contains-split, Contains-there, AllPairs-head, AllPairs-tail, All-member}
+use Rattle.cal_model.proofs.Instances.RisingLists.{IsBelow, Contains-split, Contains-there, AllPairs-head, AllPairs-tail}
 
 here : (x y : ℤ) (xs : List ℤ) → x ≡ y → Contains (x ∷ xs) y
 here x y xs e = (0, omega arith, e)
@@ -39,7 +39,7 @@ first_passing none p [] r up c passes least = let below = c.1 in absurd (omega (
 first_passing none p (x ∷ xs) r up c passes least = elim (cases_Bool (p x)) [
   | inl w ↦ rw w (elim (Contains-split x r xs c) [
     | inl same ↦ same
-    | inr later ↦ (let before = All-member (IsBelow x) xs r (AllPairs-head IsBelow x xs up) later in let le = least x (here x x xs refl) w in absurd (omega (arith, ints, before, le)))
+    | inr later ↦ (let before = All-contains (IsBelow x) xs r (AllPairs-head IsBelow x xs up) later in let le = least x (here x x xs refl) w in absurd (omega (arith, ints, before, le)))
   ])
   | inr w ↦ rw w (elim (Contains-split x r xs c) [
     | inl same ↦ absurd (let fails : p r ≡ false = rw same at w in cc)

@@ -122,7 +122,8 @@ period_end-near zones s first (At e) all timed moment later =
     (aligned-near zones s first all timed moment) (aligned-near zones s e all timed later)
 period_end-near zones s first (After length) all timed moment later = plus_length-near zones s (date_start zones s first) length all
 
-wider : (m n : ℕ) (x y : ℤ) → m ≤ n → IsNear (172800 + m) x y → IsNear (172800 + n) x y
+-- what is near by so much is near by more
+pub wider : (m n : ℕ) (x y : ℤ) → m ≤ n → IsNear (172800 + m) x y → IsNear (172800 + n) x y
 wider m n x y le near = (omega (arith, ints, le, near), omega (arith, ints, le, near))
 
 -- the ends of the periods that start at r

@@ -96,8 +96,3 @@ found_moments-passing rule start reading (m ∷ ms) = elim (cases_Bool (passes r
   ]
   | inr failing ↦ rw failing (found_moments-passing rule start reading ms)
 ]
-
--- without COUNT and BYSETPOS a list that is cut gives what its pieces give, so a stretch of time needs no moments before it
-pub later_moments-append : (rule : Rule) (start : ℕ) (reading : Reading) (xs ys : List ℕ) → rule.count ≡ None → is_empty rule.by_set_pos ≡ true →
-    later_moments rule start reading (xs ++ ys) ≡ later_moments rule start reading xs ++ later_moments rule start reading ys
-later_moments-append rule start reading xs ys no_count no_places = rw (no_count, no_places) (simp filter-append refl)

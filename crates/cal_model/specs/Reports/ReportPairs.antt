@@ -1,7 +1,6 @@
 -- The windows in which a report may have to look at the rows of an object. Windows are 64 days, counted from 1 January 1970.
 -- The standards know no windows: these bound what a report expands, and say nothing of its answer.
 use Rattle.std.specs.Prelude.{◌+◌, Bool, ◌&&◌, ◌||◌, not, List, map, filter, filter_map, option_map, ℤ, pos, ◌+ℤ◌, ◌-ℤ◌, int_le, nat_abs, Option, Some}
-use Rattle.std.specs.Int.{int_div_euclid}
 use Rattle.std.specs.List.{list_any}
 use Rattle.cal_moment.specs.declared.stamp.Stamp.{Stamp}
 use Rattle.cal_model.specs.declared.object.Object.{Object}
@@ -12,11 +11,7 @@ use Rattle.cal_model.specs.Ranges.Cost.{margin, window_meets}
 use Rattle.cal_model.specs.Words.Limits.{first_date, last_date}
 use Rattle.cal_model.specs.Reports.NamedRanges.{ranges_named}
 use Rattle.cal_model.specs.Words.Numbers.{is_empty, same_int, numbers_between}
-use Rattle.cal_model.specs.Instances.Rows.{Numbered, overrides, own_start, nominal_beside, window_seconds}
-
--- the window that holds a moment
-abbrev pub window_at : ℤ → ℤ
-window_at seconds = int_div_euclid seconds window_seconds
+use Rattle.cal_model.specs.Instances.Rows.{Numbered, overrides, own_start, nominal_beside, window_at}
 
 -- the windows between the first and the last stated date, in order
 abbrev pub first_window : ℤ

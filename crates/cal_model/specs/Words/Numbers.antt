@@ -19,11 +19,6 @@ same_int (pos a) (negsuc b) = false
 same_int (negsuc a) (pos b) = false
 same_int (negsuc a) (negsuc b) = a == b
 
--- a whole number from 0 on, and 0 for one below it
-abbrev pub natural_part : ℤ → ℕ
-natural_part (pos n) = n
-natural_part (negsuc n) = 0
-
 -- a written number names a place of so many: 1 is the first and -1 the last
 abbrev pub names_place : ℕ → ℕ → ℤ → Bool
 names_place place size (pos n) = n == place
