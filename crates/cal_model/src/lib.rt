@@ -1,12 +1,13 @@
 //! The data that all layers share, and what the server is held to.
 //!
 //! Given: the base types and the dates of the crates below. Gives: the types of calendar objects,
-//! recurrence, filters, requests, replies and stored collections, the conversions of time zones, and
-//! in `specs/` the definitions that every public call above is measured by: what texts of values and
-//! rules spell, which calendar object octets are, its instances and which of them a range meets,
-//! filters, calendar data, busy time and privileges; and the state of the server, what a request does
-//! to it and what the reply to it is, the octets of a reply, and what a script prints. Used by: every
-//! crate above.
+//! recurrence, filters, requests as they come and as they are understood, replies and stored
+//! collections, the conversions of time zones, and in `specs/` the definitions that every public call
+//! above is measured by: what texts of values and rules spell, which calendar object octets are, its
+//! instances and which of them a range meets, filters, calendar data, busy time and privileges; which
+//! requests the octets of a connection are, who sent them and what they ask for; and the state of the
+//! server, what a request does to it and what the reply to it is, the octets of a reply, and what a
+//! script prints. Used by: every crate above.
 #![tactic(auto)]
 
 pub mod filter;

@@ -1,5 +1,5 @@
 -- How much a content lists: four for each item of a list, and the octets of the items' values.
--- What a body of so many octets is read to lists no more than that.
+-- Given: a content. The laws say that what an element is read to lists no more than the element holds, and so no more than the body has octets.
 use Rattle.std.specs.Prelude.{ℕ, ◌+◌, ◌*◌, ◌≤◌, Bool, List, [], length, sum_by, Option, Some, None}
 use Rattle.cal_base.specs.declared.element.Element.{Element}
 use Rattle.cal_base.specs.Xml.XmlSizes.{element_size}

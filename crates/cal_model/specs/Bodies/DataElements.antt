@@ -13,11 +13,11 @@ use Rattle.cal_model.specs.declared.selection.Selection.{Selection}
 use Rattle.cal_model.specs.Bodies.ElementParts.{nested, lacks_name, name_of, says, says_other, each, only, has}
 use Rattle.cal_model.specs.Bodies.RangeElements.{stated}
 
--- Calendar data (9.6)
-
+-- a property that is kept, perhaps without its value (9.6.4)
 abbrev pub prop_pick : Element → PropPick
 prop_pick pick = record { name = name_of pick; no_value = says (codes "novalue") (codes "yes") pick }
 
+-- a component that is kept, and what of it (9.6.1), to a depth that no body reaches
 abbrev pub comp_pick_to : ℕ → Element → CompPick
 comp_pick_to zero pick = roll-CompPick (record { name = []; all_props = false; props = []; all_comps = false; comps = [] })
 comp_pick_to (suc depth) pick = roll-CompPick (record {
@@ -31,18 +31,21 @@ comp_pick_to (suc depth) pick = roll-CompPick (record {
 abbrev pub comp_pick : Element → CompPick
 comp_pick pick = comp_pick_to greatest_depth pick
 
--- all picks of a calendar-data
+-- all such components within a calendar-data, at any depth
 abbrev pub picks : Element → List Element
 picks element = flat_map (nested (each (codes "comp"))) (only (codes "comp") element)
 
+-- a component or a property without a name
 abbrev pub has_nameless_pick : Element → Bool
 has_nameless_pick element = list_any lacks_name (picks element ++ flat_map (each (codes "prop")) (picks element))
 
+-- expansion (9.6.5), a limit (9.6.6), or neither; no request that is taken has both
 abbrev pub recur_of : List Element → List Element → Recur
 recur_of [] [] = Whole
 recur_of [] (limit ∷ more) = Limit (stated limit)
 recur_of (expand ∷ more) limits = Expand (stated expand)
 
+-- what it asks for in all
 abbrev pub selection_of : Element → Selection
 selection_of element = record {
   comp = option_map comp_pick (slice_get (only (codes "comp") element) 0);
@@ -50,12 +53,15 @@ selection_of element = record {
   busy = option_map stated (slice_get (only (codes "limit-freebusy-set") element) 0);
 }
 
+-- the ranges in it
 abbrev pub data_ranges : Element → List Element
 data_ranges element = only (codes "expand") element ++ only (codes "limit-recurrence-set") element ++ only (codes "limit-freebusy-set") element
 
+-- it asks for both (9.6.5)
 abbrev pub has_both_limits : Element → Bool
 has_both_limits element = has (codes "expand") element && has (codes "limit-recurrence-set") element
 
+-- another type or version than those that are stored (9.6)
 abbrev pub is_unsupported_data : Element → Bool
 is_unsupported_data element = says_other (codes "content-type") (codes "text/calendar") element || says_other (codes "version") (codes "2.0") element
 

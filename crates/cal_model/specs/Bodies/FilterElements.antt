@@ -20,9 +20,11 @@ use Rattle.cal_model.specs.Bodies.RangeElements.{is_bad_range, stated}
 
 -- Text matches (9.7.5)
 
+-- i;octet; where no collation is named, i;ascii-casemap is meant (7.5.1)
 abbrev pub is_octet : Element → Bool
 is_octet element = says (codes "collation") (codes "i;octet") element
 
+-- neither of the two
 abbrev pub has_other_collation : Element → Bool
 has_other_collation element = says_other (codes "collation") (codes "i;ascii-casemap") element && not (is_octet element)
 
@@ -35,6 +37,7 @@ text_match element = record {
 
 -- Filters of parameters (9.7.3)
 
+-- it asks that there is none (9.7.4)
 abbrev pub is_absent : Element → Bool
 is_absent filter = has (codes "is-not-defined") filter
 
@@ -71,6 +74,7 @@ prop_filter filter = record {
 
 -- Filters of components (9.7.1)
 
+-- a filter to a depth that no body reaches
 abbrev pub comp_filter_to : ℕ → Element → CompFilter
 comp_filter_to zero filter = roll-CompFilter (record { name = []; absent = false; time = None; props = []; comps = [] })
 comp_filter_to (suc depth) filter = roll-CompFilter (record {
@@ -103,7 +107,9 @@ abbrev pub filter_texts : Element → List Element
 filter_texts top =
     filter (λ test. not (is_time test)) (flat_map prop_tests (prop_filters top)) ++ flat_map (only (codes "text-match")) (param_filters top)
 
--- components that have a time (9.9), and properties
+-- Refusals
+
+-- components that have a time (9.9), and properties that have a date
 abbrev pub ranged_components : List (List ℕ)
 ranged_components = codes "VEVENT" ∷ codes "VTODO" ∷ codes "VJOURNAL" ∷ codes "VFREEBUSY" ∷ codes "VALARM" ∷ []
 
@@ -114,7 +120,7 @@ dated_properties =
 abbrev pub is_named_in : List (List ℕ) → Element → Bool
 is_named_in names element = list_any (bytes_eq (name_of element)) names
 
--- is-not-defined stands alone
+-- is-not-defined stands beside another test
 abbrev pub is_crowded_comp : Element → Bool
 is_crowded_comp filter = is_absent filter && (has (codes "time-range") filter || has (codes "prop-filter") filter || has (codes "comp-filter") filter)
 
@@ -124,9 +130,11 @@ is_crowded_prop filter = is_absent filter && (has (codes "time-range") filter ||
 abbrev pub is_crowded_param : Element → Bool
 is_crowded_param filter = is_absent filter && has (codes "text-match") filter
 
+-- a range on a component without a time
 abbrev pub has_range_without_time : Element → Bool
 has_range_without_time filter = has (codes "time-range") filter && not (is_named_in ranged_components filter)
 
+-- what makes a filter invalid (7.8, C:valid-filter)
 abbrev pub is_invalid_filter : Element → Bool
 is_invalid_filter top =
     not (bytes_eq (name_of top) (codes "VCALENDAR"))
@@ -140,5 +148,6 @@ is_invalid_filter top =
 abbrev pub is_unsupported_filter : Element → Bool
 is_unsupported_filter filter = list_any is_time (prop_tests filter) && not (is_named_in dated_properties filter)
 
+-- some filter without a name
 abbrev pub has_nameless_filter : Element → Bool
 has_nameless_filter top = list_any lacks_name (comp_filters top ++ prop_filters top ++ param_filters top)

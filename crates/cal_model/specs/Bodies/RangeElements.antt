@@ -7,22 +7,23 @@ use Rattle.cal_model.specs.Words.Limits.{first_date, last_date}
 use Rattle.cal_model.specs.Values.UtcTexts.{utc_of}
 use Rattle.cal_model.specs.Bodies.ElementParts.{attribute_of}
 
--- Ranges (9.9): one of both ends may be absent, and then it is that of the stated dates
-
+-- one end: where it is absent, that of all dates that this server takes
 abbrev pub moment_or : ℤ → Option (List ℕ) → Option ℤ
 moment_or absent None = Some absent
 moment_or absent (Some text) = utc_of text
 
+-- the end lies after the start
 abbrev pub range_between : ℤ → ℤ → Option Range
 range_between start end =
     if int_lt start end then Some (record { start = record { 0 = start }; end = record { 0 = end } }) else None
 
+-- one of both may be absent
 abbrev pub range_of_ends : Option (List ℕ) → Option (List ℕ) → Option Range
 range_of_ends start end =
     if is_none start && is_none end then None
     else option_and_then (λ s. option_and_then (λ e. range_between s e) (moment_or last_date end)) (moment_or first_date start)
 
--- the range that an element states, if its end lies after its start
+-- the range that an element states, if it states one
 abbrev pub range_of : Element → Option Range
 range_of element = range_of_ends (attribute_of (codes "start") element) (attribute_of (codes "end") element)
 
@@ -33,5 +34,6 @@ is_bad_range element = is_none (range_of element)
 abbrev pub no_range : Range
 no_range = record { start = record { 0 = first_date }; end = record { 0 = first_date } }
 
+-- the range of an element that states one
 abbrev pub stated : Element → Range
 stated element = unwrap_or (range_of element) no_range

@@ -21,6 +21,7 @@ use Rattle.cal_model.specs.Bodies.AskedProperties.{asked_props, props_of}
 abbrev pub asked_data : Element → List Element
 asked_data root = take 1 (flat_map (each (codes "calendar-data")) (filter (has_name dav (codes "prop")) (asked_props root)))
 
+-- what it asks for, and all where there is none
 abbrev pub selection_by : List Element → Selection
 selection_by [] = all_data
 selection_by (element ∷ more) = selection_of element
@@ -29,15 +30,15 @@ selection_by (element ∷ more) = selection_of element
 
 -- the rows of a calendar-query or a calendar-multiget with these outermost filters and this calendar-data: all of 400 stand before those of 403
 abbrev pub report_rows : Bool → List Element → List Element → List Row
-report_rows lacks_part tops data_ =
-    (lacks_part || list_any has_nameless_filter tops || list_any has_nameless_pick data_ || list_any has_both_limits data_, bad_request)
-    ∷ (list_any is_invalid_filter tops || list_any is_bad_range (flat_map data_ranges data_), caldav_refusal (codes "valid-filter"))
+report_rows lacks_part tops selections =
+    (lacks_part || list_any has_nameless_filter tops || list_any has_nameless_pick selections || list_any has_both_limits selections, bad_request)
+    ∷ (list_any is_invalid_filter tops || list_any is_bad_range (flat_map data_ranges selections), caldav_refusal (codes "valid-filter"))
     ∷ (list_any is_unsupported_filter (flat_map prop_filters tops), caldav_refusal (codes "supported-filter"))
     ∷ (list_any has_other_collation (flat_map filter_texts tops), caldav_refusal (codes "supported-collation"))
-    ∷ (list_any is_unsupported_data data_, caldav_refusal (codes "supported-calendar-data"))
+    ∷ (list_any is_unsupported_data selections, caldav_refusal (codes "supported-calendar-data"))
     ∷ []
 
--- the report, unless a row applies
+-- the report, unless a row applies: the first one is the refusal
 abbrev pub report_unless : List Row → ReportRequest → Content
 report_unless rows report = elim (first_row rows) [ None ↦ Report report | Some refusal ↦ Bad refusal ]
 
@@ -59,7 +60,7 @@ multiget_content root =
     let hrefs = named dav (codes "href") root in
     report_unless (report_rows (is_empty hrefs) [] (asked_data root)) (Multiget (props_of root) (selection_by (asked_data root)) (map own_text hrefs))
 
--- free-busy-query (9.11)
+-- free-busy-query (9.11), with its range
 abbrev pub free_busy_with : List Element → Content
 free_busy_with [] = Bad bad_request
 free_busy_with (range ∷ more) =

@@ -1,4 +1,5 @@
--- What a report that its body doesn't refuse is like, seen at the report itself: proper ranges where they may stand, `is-not-defined` alone, some href.
+-- What a report that is not refused is like, seen at the report itself: proper ranges where they may stand, `is-not-defined` alone, VCALENDAR outermost, some href.
+-- Given: a report. The law says that each report that a body is read to is sound.
 use Rattle.std.specs.Prelude.{◌≡◌, ℕ, Bool, true, not, ◌&&◌, if◌then◌else◌, List, bytes_eq, codes, Option, Some, None, is_none, int_lt, IsTrue}
 use Rattle.std.specs.List.{list_any, list_all}
 use Rattle.cal_base.specs.declared.element.Element.{Element}
@@ -75,6 +76,6 @@ report_is_sound (Query props select filter timezone) = bytes_eq (filter_name fil
 report_is_sound (Multiget props select hrefs) = not (is_empty hrefs) && selection_is_sound select
 report_is_sound (FreeBusy range) = is_proper range
 
--- The law: what isn't refused is sound
+-- The law: each report that is read is sound
 abbrev pub ReportsAreSound : Type 0
 ReportsAreSound = (root : Element) (report : ReportRequest) → report_content root ≡ Report report → IsTrue (report_is_sound report)

@@ -1,4 +1,5 @@
--- What a book asks of a request, condition by condition, and the promise that each request that is asked for meets it.
+-- What the book may rely on in a request, condition by condition, and the law that each request that is asked for has it.
+-- Given: the users, the number of one, and a request.
 use Rattle.std.specs.Prelude.{◌≡◌, ℕ, ◌<◌, ◌≤◌, ◌^◌, Bool, true, false, List, [], ◌∷◌, All, length, codes, IsTrue}
 use Rattle.std.specs.List.{Contains}
 use Rattle.cal_model.specs.declared.property.PropSet.{PropSet}
@@ -86,7 +87,7 @@ abbrev pub AsksSomething : Props → Type 0
 AsksSomething NoProps = ⊥
 AsksSomething _ = Unit {0}
 
--- the content is that of the method and isn't refused, or it is a refusal of that method
+-- the content is that of the method, and a sound one; or it is a refusal of that method
 abbrev pub Suits : Method → Content → Type 0
 Suits method NoContent = IsTrue (is_plain method)
 Suits method (Put media octets) = method ≡ PutMethod

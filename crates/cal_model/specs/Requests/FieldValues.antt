@@ -1,4 +1,5 @@
--- The values of Content-Type, Content-Encoding and Depth, as far as they are looked at (RFC 9110, 8.3.1 and 8.4; RFC 4918, 10.2).
+-- The values of Content-Type and Content-Encoding, as far as they are looked at (RFC 9110, 8.3.1 and 8.4).
+-- Given: the value of such a field, if it is there. Gives: whether the body can be what a method takes.
 use Rattle.std.specs.Prelude.{ℕ, Bool, true, ◌||◌, ◌==◌, List, bytes_eq, codes, Option, Some, None}
 use Rattle.std.specs.List.{before_first}
 use Rattle.std.specs.Str.{str_to_ascii_lowercase}
@@ -19,7 +20,7 @@ abbrev pub can_be_calendar : Option (List ℕ) → Bool
 can_be_calendar None = true
 can_be_calendar (Some value) = bytes_eq (media_type value) (codes "text/calendar")
 
--- no coding, or `identity`
+-- no coding, or `identity` in this very case
 abbrev pub is_plain_coding : Option (List ℕ) → Bool
 is_plain_coding None = true
 is_plain_coding (Some value) = bytes_eq value (codes "identity")

@@ -76,10 +76,11 @@ pub data Chunked : Type 0 where
   unfinished : Chunked
   faulty : WireFault → Chunked
 
+-- a body with some octets in front
 abbrev pub with_front : List ℕ → Chunked → Chunked
-with_front data_ (whole body rest) = whole (data_ ++ body) rest
-with_front data_ unfinished = unfinished
-with_front data_ (faulty fault) = faulty fault
+with_front octets (whole body rest) = whole (octets ++ body) rest
+with_front octets unfinished = unfinished
+with_front octets (faulty fault) = faulty fault
 
 -- behind the line of the last chunk: the trailer, which is dropped
 abbrev pub behind_last : List ℕ → Chunked

@@ -1,6 +1,6 @@
 -- What the fields of a head say (RFC 9112, 6, 9.3 and 9.6; RFC 9110, 5 and 8), how its body is framed, and why a head is refused.
 -- Given: a head, or a block of octets that may be one. Gives: the request without its body; the framing of the body; the head of a block, or its fault.
-use Rattle.std.specs.Prelude.{ℕ, ◌-◌, Bool, false, not, ◌&&◌, ◌||◌, ◌==◌, nat_eq, nat_lt, nat_le, if◌then◌else◌, List, [], ◌∷◌, ◌++◌, map, filter, flat_map, find, length, drop, slice_get, slice_index, bytes_eq, codes, Option, Some, None, is_some, option_and_then, unwrap_or, Result, Ok, Err}
+use Rattle.std.specs.Prelude.{ℕ, ◌-◌, Bool, false, not, ◌&&◌, ◌||◌, ◌==◌, nat_eq, nat_lt, nat_le, if◌then◌else◌, List, [], ◌∷◌, map, filter, find, length, drop, slice_get, slice_index, bytes_eq, codes, Option, Some, None, is_some, option_and_then, unwrap_or, Result, Ok, Err}
 use Rattle.std.specs.Char.{is_ascii_digit}
 use Rattle.std.specs.List.{list_any, starts_with, before_first}
 use Rattle.std.specs.Str.{str_eq_ignore_ascii_case}
@@ -12,6 +12,7 @@ use Rattle.cal_model.specs.declared.wire.WireFault.{WireFault}
 use Rattle.cal_model.specs.declared.wire.WireFault.TheVariants.{BadHead, HeadTooLong, BodyTooLong, Version}
 use Rattle.cal_model.specs.declared.wire.WireRequest.{WireRequest}
 use Rattle.cal_model.specs.Words.Numbers.{is_empty}
+use Rattle.cal_model.specs.Words.TextLines.{with_commas}
 use Rattle.cal_model.specs.Streams.WireLimits.{field_limit, body_limit}
 use Rattle.cal_model.specs.Streams.Heads.{version_of, head_of}
 
@@ -28,7 +29,7 @@ value_of name head = slice_get (values name head) 0
 -- the values of several fields as one (5.3)
 abbrev pub joined : List (List ℕ) → Option (List ℕ)
 joined [] = None
-joined (value ∷ more) = Some (value ++ flat_map (λ other. codes ", " ++ other) more)
+joined (value ∷ more) = Some (with_commas (value ∷ more))
 
 -- some option of a Connection field is `close`, with this very case (RFC 9112, 9.6)
 abbrev pub names_close : List ℕ → Bool
