@@ -1,5 +1,4 @@
-use Rattle.std.proofs.Common.{◌≡◌, ◌∙◌, ap, filter, sym, subst, arith, List, Option, None}
-use Rattle.cal_model.specs.declared.piece.Piece.{Piece}
+use Rattle.std.proofs.Common.{◌∙◌, ap, sym, subst, arith}
 use Rattle.cal_model.specs.Pieces.KeptPieces.{KeptPieces}
 use Rattle.cal_model.proofs.Pieces.FoundPieces.{none_after_drop, same_after_drop}
 use Rattle.cal_model.specs.Pieces.PieceLists.{ArePairsApart, is_other_piece, rows_at}
