@@ -203,7 +203,10 @@ fn eight_threads_add(rt: HostRuntime) -> Result<(), Fail> {
     };
     let jobs = jobs(&rt, rt.alloc(), &lock, &mut first, 8, 200)?;
     let added = thread::map_vec(&rt, jobs, &|job| add_all(&rt, &lock, job))?;
-    assert_eq!(rt; added.as_slice(), [200, 200, 200, 200, 200, 200, 200, 200].as_slice());
+    assert_eq!(rt;
+        added.as_slice(),
+        [200, 200, 200, 200, 200, 200, 200, 200].as_slice()
+    );
     let Held { value } = lock.take(&rt, &mut first);
     assert_eq!(rt; value.all.len(), 1600);
     for number in 1..9 {
