@@ -1,17 +1,14 @@
 -- The list of pieces when one goes out or comes in.
-use Rattle.std.proofs.Common.{◌≡◌, ◌≢◌, ◌⊎◌, ℕ, ◌+◌, ◌-◌, ◌≤◌, ◌<◌, Bool, true, false, ◌&&◌, ◌==◌, if◌then◌else◌, List, [], ◌∷◌, ◌++◌, map, filter, length, Option, Some, None, IsSome, MatchOption, refl, sym, ap, ◌∙◌, subst, inl, inr, arith, append_assoc, length-append}
-use Rattle.std.specs.Prelude.{ℤ, nat_le}
-use Rattle.std.specs.Ordering.{int_eq}
+use Rattle.std.proofs.Common.{◌≡◌, ◌≢◌, ℕ, ◌+◌, ◌<◌, Bool, true, false, if◌then◌else◌, List, [], ◌∷◌, ◌++◌, map, filter, length, Option, Some, None, IsSome, MatchOption, refl, sym, ap, ◌∙◌, subst, inl, inr, arith, append_assoc, length-append}
+use Rattle.std.specs.Prelude.{ℤ}
 use Rattle.std.specs.List.{last_or}
 use Rattle.std.proofs.lemmas.Bool.{cases_eq}
-use Rattle.std.proofs.lemmas.Bool.Decides.{Decides-int_eq, Decides-eqb, nat_tests}
 use Rattle.std.proofs.lemmas.List.{append-nil}
 use Rattle.cal_model.specs.declared.piece.Piece.{Piece}
-use Rattle.cal_model.specs.declared.row.Row.{Row}
 use Rattle.cal_model.proofs.Pieces.PieceListLaws.{filter_append, rows_in_append, pair_is, rows_at_end, rows_at_front, apart_parts}
 use Rattle.piece_index.specs.Chains.{first, IsAbsent, IsApart}
 use Rattle.piece_index.specs.Entries.{keys, is_of, keys_of, piece_of, removed}
-use Rattle.cal_model.specs.Pieces.PieceLists.{is_piece_of, is_other_piece, is_piece_at, rows_at, rows_in, newest_within, ArePairsApart}
+use Rattle.cal_model.specs.Pieces.PieceLists.{is_piece_of, is_other_piece, is_piece_at, rows_at, rows_in, ArePairsApart}
 use Rattle.piece_index.specs.Entries.{pieces_of, IsOneOut}
 use Rattle.piece_index.proofs.EntryLemmas.{removed_else}
 

@@ -1,6 +1,10 @@
 //! The nodes of an index: a chain of all by age, and a chain of each object's nodes.
+//!
+//! A new node is the first of both chains, so an object's nodes stand in its chain in the order in
+//! which they stand in the chain by age: both are read off one list, the newest first.
 ghost use Rattle.std.specs.Prelude.{◌≡◌, ℕ, ◌+◌, ◌≤◌, Option, None, Some, [], ◌∷◌, ◌==◌, if◌then◌else◌, IsSome, IfErr, OnOk, MatchOption, map, filter, length};
 ghost use Rattle.std.specs.Option.{option_copied};
+ghost use Rattle.std.specs.Ordering.{int_eq};
 ghost use Rattle.slab.specs.Slab.{slab_len};
 ghost use Rattle.piece_index.specs.Nodes.{next};
 ghost use Rattle.piece_index.specs.Walks.{IsWalked, rows_of_window, entries_from};
@@ -25,7 +29,7 @@ use std::sync::ledger::Ledger;
 #[derive(Drop)]
 pub(crate) struct Chains {
     nodes: Slab<Node>,
-    /// The newest node of each origin that has one.
+    /// The newest node of each object that has one.
     firsts: BTreeMap<u64, usize>,
     newest: Option<usize>,
     oldest: Option<usize>,
@@ -65,7 +69,7 @@ fn or_key(at: Option<usize>, key: usize) -> Option<usize>
     }
 }
 
-/// Where `key` is the first of an origin, the first is from now on what lies past it. Takes no
+/// Where `key` is the first of an object, the first is from now on what lies past it. Takes no
 /// memory.
 fn move_first(firsts: &mut BTreeMap<u64, usize>, origin: u64, key: usize, next: Option<usize>)
     ensures { (o : ℕ) → first_at firsts.new o ≡ (if o == origin then past key next (first_at firsts.old o) else first_at firsts.old o) }
@@ -84,6 +88,13 @@ fn move_first(firsts: &mut BTreeMap<u64, usize>, origin: u64, key: usize, next: 
     }
 }
 
+/// Whether a node's piece is of a window.
+fn is_of_window(node: &Node, window: i32) -> bool
+    ensures { result ≡ int_eq node.now.piece.window window }
+{
+    node.piece.window == window
+}
+
 /// The rows of the first piece of a window, from a node on along its object's chain. Takes no memory.
 fn rows_from(nodes: &Slab<Node>, first: Option<usize>, window: i32) -> Option<&List<Row>>
     requires { IsWalked (next nodes.now) (slab_len nodes.now) first }
@@ -94,7 +105,7 @@ fn rows_from(nodes: &Slab<Node>, first: Option<usize>, window: i32) -> Option<&L
         let Some(node) = nodes.get(key) else {
             return None;
         };
-        if node.piece.window == window {
+        if is_of_window(node, window) {
             return Some(&node.piece.rows);
         }
         at = node.next;
@@ -115,7 +126,7 @@ impl Chains {
         }
     }
 
-    /// The newest node of an origin.
+    /// The newest node of an object.
     pub(crate) fn first_of(&self, origin: u64) -> Option<usize>
         ensures key { result ≡ first (keys_of origin self.now) }
         ensures apart { IsApart (keys self.now) }
@@ -131,7 +142,7 @@ impl Chains {
         self.oldest
     }
 
-    /// The rows of an origin's piece in a window. Takes no memory.
+    /// The rows of an object's piece in a window. Takes no memory.
     pub(crate) fn find(&self, origin: u64, window: i32) -> Option<&List<Row>>
         ensures { option_copied result ≡ rows_at origin window (map (λ (e : ℕ × Piece). e.1) self.now) }
     {
@@ -195,7 +206,7 @@ impl Chains {
         self.take_out(key)
     }
 
-    /// Takes the newest piece of an origin out. Takes no memory.
+    /// Takes the newest piece of an object out. Takes no memory.
     pub(crate) fn take_first_of(&mut self, origin: u64) -> Option<Piece>
         ensures { MatchOption result ((filter (is_piece_of origin) (pieces_of self.old) ≡ []) × (self.new ≡ self.old)) (λ piece. IsOneOut piece (pieces_of self.old) (pieces_of self.new) × (piece.origin ≡ origin)) }
     {
@@ -223,7 +234,7 @@ impl Chains {
         left as u64
     }
 
-    /// Takes the pieces of an origin out, with one step for each, and tells how many rows are left.
+    /// Takes the pieces of an object out, with one step for each, and tells how many rows are left.
     /// Takes no memory.
     pub(crate) fn drop_of<L: Ledger>(&mut self, origin: u64, rows: u64, steps: &mut Steps<L>) -> u64
         requires { rows ≡ rows_in (pieces_of self.old) }

@@ -1,5 +1,5 @@
 //! The index: pieces by origin and window, within a budget of rows.
-ghost use Rattle.std.specs.Prelude.{◌≡◌, ◌+◌, None, Some, [], filter, length};
+ghost use Rattle.std.specs.Prelude.{◌≡◌, ◌≢◌, ℕ, ℤ, ◌+◌, None, Some, [], filter, length};
 ghost use Rattle.std.specs.Option.{option_copied};
 ghost use Rattle.cal_model.specs.Pieces.PieceLists.{rows_at, rows_in, is_piece_of, is_other_piece};
 ghost use Rattle.cal_model.specs.Pieces.KeptPieces.{IsWithinBudget};
@@ -24,7 +24,7 @@ pub enum Added {
 
 /// Pieces, which contracts see from the oldest to the newest.
 ///
-/// No two are of one origin and window, and together they have no more rows than the budget.
+/// No two are of one object and window, and together they have no more rows than the budget.
 #[derive(Drop)]
 pub struct Index {
     chains: Chains,
@@ -59,7 +59,7 @@ impl Index {
         }
     }
 
-    /// The rows of the piece of an origin in a window. Takes no memory.
+    /// The rows of the piece of an object in a window, found along the object's chain. Takes no memory.
     pub fn get(&self, origin: u64, window: i32) -> Option<&List<Row>>
         ensures { option_copied result ≡ rows_at origin window self.now.pieces }
     {
@@ -94,12 +94,14 @@ impl Index {
         Added::Done
     }
 
-    /// Drops the pieces of an origin, with one step for each. Takes no memory.
+    /// Drops the pieces of an object, with one step for each. Takes no memory.
     ///
-    /// The time grows with the number of those pieces and with the logarithm of the number of
-    /// origins, whatever else the index holds.
+    /// It goes along the object's chain alone: the time grows with the number of its pieces and with
+    /// the logarithm of the number of objects, whatever else the index holds.
     pub fn drop_object<L: Ledger>(&mut self, origin: u64, steps: &mut Steps<L>)
         ensures pieces { self.new ≡ record self.old { pieces = filter (is_other_piece origin) self.old.pieces } }
+        ensures gone { (window : ℤ) → rows_at origin window self.new.pieces ≡ None }
+        ensures others { (other : ℕ) (window : ℤ) → other ≢ origin → rows_at other window self.new.pieces ≡ rows_at other window self.old.pieces }
         ensures cost { steps.new ≡ steps.old + length (filter (is_piece_of origin) self.old.pieces) }
     {
         self.rows = self.chains.drop_of(origin, self.rows, steps);
