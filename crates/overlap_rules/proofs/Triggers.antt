@@ -5,7 +5,7 @@ use Rattle.std.specs.Prelude.{◌==◌, ◌≢◌}
 use Rattle.std.proofs.Common.{ap, eqb-true, subst}
 use Rattle.std.proofs.lemmas.Bool.{cases_Bool, false≢true, eqb-false}
 use Rattle.std.proofs.lemmas.Int.{ints}
-use Rattle.cal_model.specs.Words.Numbers.{counted_from, numbers_between}
+use Rattle.cal_model.specs.Words.Lists.{counted_from, numbers_between}
 use Rattle.std.specs.Prelude.{Option, Some}
 use Rattle.cal_moment.specs.declared.stamp.Length.{Length}
 use Rattle.cal_model.specs.declared.object.Alarm.{Alarm}

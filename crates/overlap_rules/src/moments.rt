@@ -1,7 +1,7 @@
 //! Rows, dates and stored periods as moments: floating times and dates are read in a given zone.
 
 ghost use Rattle.std.specs.Prelude.{◌≡◌, neg_ℤ, pos, ◌≤ℤ◌, ◌<ℤ◌, ◌+ℤ◌, ◌*ℤ◌, ◌&&◌, int_le, int_lt, All};
-ghost use Rattle.cal_model.specs.Words.Numbers.{local_seconds};
+ghost use Rattle.cal_model.specs.Values.LocalTimes.{local_seconds};
 ghost use Rattle.cal_model.specs.Instances.Alignment as alignment;
 ghost use Rattle.cal_moment.specs.Calendar.{IsBetween};
 ghost use Rattle.cal_model.specs.Ranges.Overlap as spec;

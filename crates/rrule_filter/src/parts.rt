@@ -3,7 +3,8 @@ ghost use Rattle.std.specs.Prelude.{◌≡◌, ℕ, ◌+◌, ◌-◌, ◌*◌, �
 ghost use Rattle.std.specs.List.{list_any};
 ghost use Rattle.cal_moment.specs.Calendar as cal;
 ghost use Rattle.cal_model.specs.Recurrence.NextPassing.{IsUsable};
-ghost use Rattle.cal_model.specs.Words.Numbers as numbers;
+ghost use Rattle.cal_model.specs.Words.Integers as integers;
+ghost use Rattle.cal_model.specs.Words.Lists as lists;
 ghost use Rattle.cal_model.specs.Recurrence.Passing as spec;
 
 use crate::today::{Today, first_of_year, month_length, weekday_of, year_length};
@@ -12,7 +13,7 @@ use cal_model::{DayPart, Freq, Rule};
 
 /// Whether a part has a number.
 pub fn has_number(part: &List<u8>, value: u32) -> bool
-    ensures { result ≡ numbers.has_number part.now value }
+    ensures { result ≡ lists.has_number part.now value }
 {
     part.iter().any(|n| *n as u32 == value)
 }
@@ -20,7 +21,7 @@ pub fn has_number(part: &List<u8>, value: u32) -> bool
 /// Whether a written number names a place, from the front or, where it is negative, from the end.
 fn names_place(place: u32, size: u32, number: i16) -> bool
     requires { place ≤ 1000 }
-    ensures { result ≡ numbers.names_place place size number }
+    ensures { result ≡ integers.names_place place size number }
 {
     if number >= 0 {
         number as u32 == place
@@ -32,7 +33,7 @@ fn names_place(place: u32, size: u32, number: i16) -> bool
 /// Whether one of the written numbers names a place.
 fn some_names_place(part: &List<i16>, place: u32, size: u32) -> bool
     requires { place ≤ 1000 }
-    ensures { result ≡ numbers.some_names_place part.now place size }
+    ensures { result ≡ integers.some_names_place part.now place size }
 {
     part.iter().any(|n| names_place(place, size, *n))
 }

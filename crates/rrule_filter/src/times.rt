@@ -1,6 +1,6 @@
 //! The times of a day that a rule asks for, hour by hour, minute by minute (RFC 5545, 3.3.10).
 ghost use Rattle.std.specs.Prelude.{◌≡◌, ℕ, ◌+◌, ◌-◌, ◌*◌, ◌/◌, ◌%◌, ◌<◌, ◌≤◌, true, false};
-ghost use Rattle.cal_model.specs.Words.Numbers as numbers;
+ghost use Rattle.cal_model.specs.Words.Lists as lists;
 ghost use Rattle.cal_model.specs.Recurrence.NextPassing.{IsUsable, is_fine};
 ghost use Rattle.cal_model.specs.Recurrence.Passing as spec;
 ghost use Rattle.rrule_filter.specs.StartMoment.{moment_of};
@@ -136,7 +136,7 @@ fn next_at_minute(
 /// minute of the start.
 fn next_at_start(rule: &Rule, start: &Start, today: &Today, hour: u32, from: u32) -> Option<u32>
     requires rule { is_fine rule.now.freq ≡ false }
-    requires absent { numbers.is_empty rule.now.by_minute ≡ true }
+    requires absent { lists.is_empty rule.now.by_minute ≡ true }
     requires timed { start.now.dated ≡ false }
     requires day { spec.day_passes rule.now start.now.today.day today.now.day ≡ true }
     requires opens { hour_opens rule.now (moment_of start.now) today.now.day hour ≡ true }

@@ -15,7 +15,7 @@ use Rattle.cal_model.specs.declared.reply.Refusal.{Refusal}
 use Rattle.cal_model.specs.declared.request.Content.{Content}
 use Rattle.cal_model.specs.declared.request.Content.TheVariants.{Find, Patch, Make, Report, Bad}
 use Rattle.cal_model.specs.Words.Namespaces.{dav, caldav}
-use Rattle.cal_model.specs.Words.Numbers.{is_empty}
+use Rattle.cal_model.specs.Words.Lists.{is_empty}
 use Rattle.cal_model.specs.Bodies.ElementParts.{children, has_name, named, first_named, own_text}
 use Rattle.cal_model.specs.Bodies.PropertyBodies.{no_text, is_component_set, components_of, set_value, setting, removal, properties_of, is_set, settings_of, are_bad, is_instruction, instructions}
 use Rattle.cal_model.specs.Bodies.Refusals.{bad_request, dav_refusal, caldav_refusal, Row, first_row}

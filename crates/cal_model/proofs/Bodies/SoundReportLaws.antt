@@ -21,7 +21,7 @@ use Rattle.cal_model.specs.declared.request.Content.TheVariants.{Report, Bad}
 use Rattle.cal_model.specs.declared.row.Range.{Range}
 use Rattle.cal_model.specs.Words.Limits.{first_date, last_date}
 use Rattle.cal_model.specs.Words.Namespaces.{dav, caldav}
-use Rattle.cal_model.specs.Words.Numbers.{is_empty}
+use Rattle.cal_model.specs.Words.Lists.{is_empty}
 use Rattle.cal_model.specs.Bodies.ElementParts.{has_name, named, own_text, nested_to, attribute_of}
 use Rattle.cal_model.specs.Bodies.Refusals.{dav_refusal, caldav_refusal, Row, first_row}
 use Rattle.cal_model.specs.Bodies.ElementParts.{each, only, has, name_of}

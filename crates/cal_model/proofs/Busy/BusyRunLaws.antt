@@ -6,14 +6,14 @@ use Rattle.std.proofs.lemmas.Bool.{false≢true, eq-eqb, and_parts, and_from}
 use Rattle.std.specs.Option.{is_some}
 use Rattle.std.proofs.lemmas.List.Elements.{All-head, All-tail, All-cons, All-nil}
 use Rattle.std.proofs.lemmas.List.Kept.{AllPairs-cons}
-use Rattle.cal_model.proofs.Instances.Everywhere.{same_int-true}
+use Rattle.cal_model.proofs.Words.IntegerLemmas.{same_int-true}
 use Rattle.cal_model.proofs.Words.ListTests.{Keeps, filter_kept}
 use Rattle.cal_model.proofs.Instances.RisingLists.{AllPairs-tail}
 use Rattle.cal_model.specs.declared.object.Class.{Class}
 use Rattle.cal_model.specs.declared.object.Class.TheVariants.{Busy, Unavailable, Tentative}
 use Rattle.cal_model.specs.declared.row.Range.{Range}
 use Rattle.cal_model.specs.Busy.BusyTimes.{BusyTime}
-use Rattle.cal_model.specs.Words.Numbers.{same_int}
+use Rattle.cal_model.specs.Words.Integers.{same_int}
 use Rattle.cal_model.specs.Busy.BusyRuns.{covers, greatest_class, greater, class_at, runs, runs_of_classes, runs_from, with_second, with_class, one_second, same_class, size, AreRuns}
 
 covers_within : (t : ℤ) (r : BusyTime) → r.start ≤ℤ t → t <ℤ r.end → covers t r ≡ true

@@ -8,7 +8,7 @@ use Rattle.cal_moment.specs.Texts.{digits, date_text, time_text}
 use Rattle.cal_model.specs.FirstPath.EventTexts.{EventText, IsEventText, is_name_octet, is_printable, event_lines, event_octets}
 use Rattle.cal_model.specs.Values.UtcTexts.{utc_of}
 use Rattle.cal_model.proofs.Words.LineLemmas.{is_inner, is_plain, lines_of-lines_text}
-use Rattle.cal_model.proofs.Values.UtcLemmas.{moment_text, spelled_whole, SpellsDateTime-utc_of}
+use Rattle.cal_model.proofs.Values.UtcLaws.{moment_text, spelled_whole, SpellsDateTime-utc_of}
 
 -- an octet that passes a test which a line feed fails
 inner_by : (test : ℕ → Bool) → test 10 ≡ false → (octet : ℕ) → test octet ≡ true → is_inner octet ≡ true

@@ -4,7 +4,8 @@ use Rattle.std.specs.Prelude.{All, AllPairs, Contains, filter, int_lt, if◌then
 use Rattle.std.proofs.lemmas.Int.{ints, by_lt_z}
 use Rattle.std.proofs.lemmas.Bool.{cases_Bool}
 use Rattle.std.proofs.lemmas.List.Elements.{All-head, All-tail, All-cons, All-contains}
-use Rattle.cal_model.specs.Words.Numbers.{greatest_of, first_or_else}
+use Rattle.cal_model.specs.Words.Integers.{greatest_of}
+use Rattle.cal_model.specs.Words.Lists.{first_or_else}
 use Rattle.cal_model.proofs.Instances.RisingLists.{IsBelow, Contains-split, Contains-there, AllPairs-head, AllPairs-tail}
 
 here : (x y : ℤ) (xs : List ℤ) → x ≡ y → Contains (x ∷ xs) y

@@ -6,7 +6,7 @@ use Rattle.std.proofs.lemmas.List.Elements.{All-head, All-tail, filter-append}
 use Rattle.cal_moment.specs.declared.stamp.Stamp.{Stamp}
 use Rattle.cal_model.specs.declared.object.Object.{Object}
 use Rattle.cal_model.specs.declared.row.Row.{Row}
-use Rattle.cal_model.specs.Words.Numbers.{first_or_else}
+use Rattle.cal_model.specs.Words.Lists.{first_or_else}
 use Rattle.cal_model.specs.Instances.Alignment.{Aligned, at, on_day, reading_of, value_of, kind_of, names_start}
 use Rattle.cal_model.specs.Instances.Rows.{Numbered, overrides, named_by, is_named, id_of_override, override_row, override_row_from, own_start, end_from, row_of, in_order, merged, lies_in_window}
 use Rattle.cal_model.proofs.Instances.RisingLists.{HasOtherKey}

@@ -23,22 +23,23 @@ use Rattle.cal_model.specs.declared.rule.Rule.{Rule}
 use Rattle.cal_model.specs.declared.zone.ZoneTable.{ZoneTable}
 use Rattle.cal_model.specs.Words.Limits.{first_date, last_date}
 use Rattle.cal_model.specs.Recurrence.RecurrenceSet.{first_counted, later_moments, last_written}
-use Rattle.cal_model.specs.Objects.ReadObjects.{IsServed, IsReadComponent, IsReadObject, stamps_of_extent}
+use Rattle.cal_model.specs.Objects.ObjectFacts.{IsServed, IsReadComponent, IsReadObject, stamps_of_extent}
 use Rattle.cal_model.specs.Objects.ObjectFaults.{stamps_of_period, stamps_of_end}
 use Rattle.cal_model.specs.Instances.Alignment.{Aligned, reading_of, value_of, kind_of, written_value, written_moment, midnight_of, zone_of}
 use Rattle.cal_model.specs.Instances.Starts.{own_start, own_start_of, recurs, is_excepted, rule_starts, date_start, period_starts, plain_starts, ascending, starts_from, starts_of, is_date, end_from, end_of_instance}
 use Rattle.cal_model.specs.Instances.Rows.{Numbered, numbered, has_id, masters, overrides, ids_start, id_of_override, named_by, is_named, row_of, undated_row, undated_rows, is_dated, starts, master_row, row_at, override_row, override_row_from, dated_rows, rows_by, rows_over, rows, nominal_beside, nominal_start, window_of, window_seconds}
 use Rattle.cal_model.specs.Instances.LaterRows.{Governor, governors, greatest_id, moved_digits, moved_row, governed_row, later_row_at, later_rows_over}
 use Rattle.cal_model.specs.Ranges.Nearness.{IsNear, HasShortOffsets}
-use Rattle.cal_model.specs.Reports.ReportPairs.{is_stated}
+use Rattle.cal_model.specs.Reports.NeededWindows.{is_stated_window}
 use Rattle.cal_model.proofs.Recurrence.RecurrenceSetLemmas.{uncounted, later_moments-after}
 use Rattle.cal_model.proofs.TimeZones.NearTimes.{instant_of-near}
 use Rattle.cal_model.proofs.Instances.DayLaws.{midnight_of-holds}
-use Rattle.cal_model.proofs.Instances.Everywhere.{All-everywhere, All-flat_map, All-each_part, All-left, All-right, All-option, All-in_order, All-numbered_from, All-slice_get}
+use Rattle.cal_model.proofs.Words.AllLemmas.{All-everywhere, All-flat_map, All-each_part, All-left, All-right, All-option, All-slice_get}
+use Rattle.cal_model.proofs.Instances.EachRowLemmas.{All-in_order, All-numbered_from}
 use Rattle.cal_model.proofs.Instances.RisingLists.{All-ascending}
 use Rattle.cal_model.proofs.Ranges.RowBounds.{instant-near, local-near, zone_of-short}
 use Rattle.cal_model.proofs.Ranges.NearRanges.{window-holds}
-use Rattle.cal_model.proofs.Objects.ReadNearness.{HasNearRows-object}
+use Rattle.cal_model.proofs.Objects.ObjectNearness.{HasNearRows-object}
 
 -- a moment lies at most so many seconds outside the stated dates
 abbrev pub IsStatedBy : ℕ → ℤ → Type 0
@@ -257,19 +258,19 @@ nominal_beside-near zones start None short = (omega (arith, ints), omega (arith,
 nominal_beside-near zones start (Some s) short = local-near zones s start short
 
 -- what lies at most three days outside the stated dates lies in one of their windows
-stated_window : (z : ℤ) → IsStatedBy 259200 z → is_stated (int_div_euclid z window_seconds) ≡ true
+stated_window : (z : ℤ) → IsStatedBy 259200 z → is_stated_window (int_div_euclid z window_seconds) ≡ true
 stated_window z stated =
     let lies = window-holds z in
     let first : neg_ℤ (pos 2112) ≤ℤ int_div_euclid z window_seconds = omega (arith, ints, lies, stated) in
     let last : int_div_euclid z window_seconds ≤ℤ pos 747 = omega (arith, ints, lies, stated) in
     grind (arith, ints, first, last)
 
-in_stated_window : (object : Object) (row : Row) → All HasShortOffsets object.zones → StartsStated row → is_dated row ≡ true → is_stated (window_of object row) ≡ true
+in_stated_window : (object : Object) (row : Row) → All HasShortOffsets object.zones → StartsStated row → is_dated row ≡ true → is_stated_window (window_of object row) ≡ true
 in_stated_window object row short stated dated =
     stated_window (nominal_start object row)
     (near_stated 172800 86400 (nominal_start object row) row.start (nominal_beside-near object.zones row.start (option_and_then own_start (slice_get object.components row.component)) short) (stated dated))
 
 -- each dated row of an object that was read lies in a window of the stated dates
-pub is_stated-row : (object : Object) → IsReadObject object → (row : Row) → Contains (rows object) row → is_dated row ≡ true → is_stated (window_of object row) ≡ true
+pub is_stated-row : (object : Object) → IsReadObject object → (row : Row) → Contains (rows object) row → is_dated row ≡ true → is_stated_window (window_of object row) ≡ true
 is_stated-row object is row among dated =
     in_stated_window object row (short_zones object is) (All-contains StartsStated (rows object) row (rows-served _ object is) among) dated

@@ -10,11 +10,10 @@ use Rattle.cal_moment.specs.declared.stamp.Day.{Day}
 use Rattle.cal_moment.specs.declared.stamp.Local.{Local}
 use Rattle.cal_moment.specs.Texts.{date_text, time_text, utc_text}
 use Rattle.cal_model.specs.Recurrence.NextPassing.{IsWritten}
-use Rattle.cal_model.specs.Values.UtcTexts.{number_at}
-use Rattle.cal_model.specs.Values.ValueTexts.{is_date, is_time, date_of, time_of, date_time_of, local_time}
+use Rattle.cal_model.specs.Values.ValueTexts.{number_at, is_calendar_date, is_clock_time, date_of, time_of, date_time_of, local_time}
 use Rattle.cal_model.proofs.Words.EachLemmas.{both_hold}
 
-day_within : (y m d : ℕ) → is_date y m d ≡ true → (366 ≤ day_of_date y m d) × (day_of_date y m d ≤ 3_652_424)
+day_within : (y m d : ℕ) → is_calendar_date y m d ≡ true → (366 ≤ day_of_date y m d) × (day_of_date y m d ≤ 3_652_424)
 day_within y m d is =
     let a = both_hold (nat_le 1 y && nat_le y 9999 && nat_le 1 m && nat_le m 12 && nat_le 1 d) (nat_le d (month_length y m)) is in
     let b = both_hold (nat_le 1 y && nat_le y 9999 && nat_le 1 m && nat_le m 12) (nat_le 1 d) a.0 in
@@ -33,8 +32,8 @@ date_read text day is =
     let y = number_at 0 4 text in
     let m = number_at 4 2 text in
     let d = number_at 6 2 text in
-    let found = cond_some (is_date y m d && bytes_eq text (date_text y m d)) (record { 0 = day_since_1970 (day_of_date y m d) }) day is in
-    let dated = day_within y m d (both_hold (is_date y m d) (bytes_eq text (date_text y m d)) found.0).0 in
+    let found = cond_some (is_calendar_date y m d && bytes_eq text (date_text y m d)) (record { 0 = day_since_1970 (day_of_date y m d) }) day is in
+    let dated = day_within y m d (both_hold (is_calendar_date y m d) (bytes_eq text (date_text y m d)) found.0).0 in
     subst (λ (x : Day). IsBetween (neg_ℤ (pos 719_162)) (pos 2_932_896) x.0) found.1 (omega (arith, ints, dated.0), omega (arith, ints, dated.1))
 
 -- a TIME
@@ -44,8 +43,8 @@ time_read text second is =
     let h = number_at 0 2 text in
     let m = number_at 2 2 text in
     let s = number_at 4 2 text in
-    let found = cond_some (is_time h m s && bytes_eq text (time_text h m s)) (3600 * h + 60 * m + min s 59) second is in
-    let a = both_hold (is_time h m s) (bytes_eq text (time_text h m s)) found.0 in
+    let found = cond_some (is_clock_time h m s && bytes_eq text (time_text h m s)) (3600 * h + 60 * m + min s 59) second is in
+    let a = both_hold (is_clock_time h m s) (bytes_eq text (time_text h m s)) found.0 in
     let b = both_hold (nat_le h 23 && nat_le m 59) (nat_le s 60) a.0 in
     let c = both_hold (nat_le h 23) (nat_le m 59) b.0 in
     subst (λ n. n < 86_400) found.1 (omega (arith, leb-true h 23 c.0, leb-true m 59 c.1))

@@ -10,7 +10,7 @@ use Rattle.base64.specs.GeneralPurpose.{IsBytes}
 use Rattle.percent_encoding.specs.Percent.{percent_decode}
 use Rattle.percent_encoding.proofs.PercentLemmas.{IsByte, All-percent_decode}
 use Rattle.cal_base.specs.Lines.ContentLines.{pieces, onto_first}
-use Rattle.cal_model.specs.Words.Numbers.{is_empty, last_or_else}
+use Rattle.cal_model.specs.Words.Lists.{is_empty, last_or_else}
 use Rattle.cal_model.specs.declared.path.Path.{Path}
 use Rattle.cal_model.specs.declared.path.Path.TheVariants.{Root, Principal, Home, Calendar, Object}
 use Rattle.cal_model.specs.Words.Cuts.{cut_at}

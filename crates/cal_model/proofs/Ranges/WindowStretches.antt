@@ -10,13 +10,14 @@ use Rattle.cal_moment.specs.declared.stamp.Stamp.{Stamp}
 use Rattle.cal_moment.specs.declared.stamp.Stamp.TheVariants.{Date, Floating, Zoned, Utc}
 use Rattle.cal_model.specs.declared.rule.Rule.{Rule}
 use Rattle.cal_model.specs.declared.zone.ZoneTable.{ZoneTable}
-use Rattle.cal_model.specs.Words.Numbers.{is_empty, some_names_place, numbers_between, same_int}
+use Rattle.cal_model.specs.Words.Lists.{is_empty, numbers_between}
+use Rattle.cal_model.specs.Words.Integers.{some_names_place, same_int}
 use Rattle.cal_model.specs.Recurrence.NextPassing.{end_day}
 use Rattle.cal_model.specs.Recurrence.Passing.{passes, period_number}
 use Rattle.cal_model.specs.Instances.Alignment.{reading_of, zone_of}
 use Rattle.cal_model.specs.Recurrence.RecurrenceSet.{Reading, every_moment, first_moment, found_moments, at_places, place_in_period, size_of_period, until_passes, first_counted, later_moments, last_written}
 use Rattle.cal_model.specs.Instances.Rows.{window_seconds}
-use Rattle.cal_model.proofs.Instances.Everywhere.{same_int-true}
+use Rattle.cal_model.proofs.Words.IntegerLemmas.{same_int-true}
 use Rattle.cal_model.proofs.TimeZones.NearTimes.{local_at-instant_of}
 use Rattle.cal_model.proofs.Ranges.NearRanges.{window-holds}
 use Rattle.cal_model.proofs.Recurrence.SetStretches.{All-between, later_moments-stretch, later_moments-exist, later_moments-All}

@@ -7,7 +7,7 @@ use Rattle.cal_moment.proofs.CalendarLaws.{year_of-first, year_of-last, year_of-
 use Rattle.cal_model.specs.declared.rule.Rule.{Rule}
 use Rattle.cal_model.specs.declared.rule.Freq.{Freq}
 use Rattle.cal_model.specs.declared.rule.Freq.TheVariants.{Secondly, Minutely, Hourly, Daily, Weekly, Monthly, Yearly}
-use Rattle.cal_model.specs.Words.Numbers.{is_empty}
+use Rattle.cal_model.specs.Words.Lists.{is_empty}
 use Rattle.cal_model.specs.Recurrence.NextPassing.{NonePasses, is_fine}
 use Rattle.cal_model.specs.Recurrence.Passing.{passes, period_number, period_passes, day_passes, time_passes, hour_passes, part_passes}
 use Rattle.cal_model.proofs.Recurrence.Days.{passes-on_day, NonePasses-joined, NonePasses-one}

@@ -5,13 +5,14 @@ use Rattle.std.proofs.lemmas.Bool.{cases_Bool, ltb-true, ltb-false}
 use Rattle.std.proofs.lemmas.List.Elements.{All-nil, All-cons, All-filter, All-take, filter-append, filter_passes, All-weaker}
 use Rattle.cal_moment.specs.Calendar.{seconds_since_1970}
 use Rattle.cal_model.specs.declared.rule.Rule.{Rule}
-use Rattle.cal_model.specs.Words.Numbers.{is_empty, some_names_place, counted_from, numbers_between}
+use Rattle.cal_model.specs.Words.Lists.{is_empty, counted_from, numbers_between}
+use Rattle.cal_model.specs.Words.Integers.{some_names_place}
 use Rattle.cal_model.specs.Recurrence.Passing.{passes, period_number}
 use Rattle.cal_model.specs.Recurrence.NextPassing.{end_day}
 use Rattle.cal_model.specs.Recurrence.RecurrenceSet.{Reading, found_moments, at_places, place_in_period, size_of_period, until_passes, first_counted, later_moments, last_written, first_moment, every_moment}
 use Rattle.cal_model.proofs.Recurrence.Periods.{at_places-append}
 use Rattle.cal_model.proofs.Recurrence.RecurrenceSetLemmas.{uncounted}
-use Rattle.cal_model.proofs.Words.Counted.{numbers_between-cut}
+use Rattle.cal_model.proofs.Words.CountedLemmas.{numbers_between-cut}
 
 first_counted-none : (count : Option ℕ) (xs : List ℕ) → count ≡ None → first_counted count xs ≡ xs
 first_counted-none None xs h = refl

@@ -24,7 +24,7 @@ use Rattle.cal_model.specs.Bodies.PropertyBodies.{find_content, patch_content, m
 use Rattle.cal_model.specs.Bodies.ReportBodies.{report_content}
 use Rattle.percent_encoding.specs.Percent.{percent_decode}
 use Rattle.cal_base.specs.Lines.ContentLines.{pieces}
-use Rattle.cal_model.specs.Words.Numbers.{is_empty, last_or_else}
+use Rattle.cal_model.specs.Words.Lists.{is_empty, last_or_else}
 use Rattle.cal_model.specs.Paths.TargetPaths.{slash, target_path, is_path, path_of_names, path_of_segments, path_of_text, without_host, without_query}
 use Rattle.cal_model.specs.Users.UsersFile.{User, number_of}
 use Rattle.cal_model.proofs.Bodies.GrantLaws.{grants_are_among}

@@ -14,7 +14,7 @@ use Rattle.cal_model.specs.declared.request.Method.{Method}
 use Rattle.cal_model.specs.declared.request.Method.TheVariants.{Options, Get, Head, Put as PutMethod, Delete, Propfind, Proppatch, Report as ReportMethod, Mkcalendar, Acl as AclMethod}
 use Rattle.cal_model.specs.declared.wire.WireRequest.{WireRequest}
 use Rattle.cal_model.specs.Words.Namespaces.{dav, caldav}
-use Rattle.cal_model.specs.Words.Numbers.{is_empty}
+use Rattle.cal_model.specs.Words.Lists.{is_empty}
 use Rattle.cal_model.specs.Bodies.AclBodies.{lacks_part, aces, ace_rows, ace_refusals, grants_of, acl_by, acl_content}
 use Rattle.cal_model.specs.Requests.AskedRequests.{is_deep, content_of}
 use Rattle.cal_model.specs.Bodies.ElementParts.{children, has_name, named, first_named}

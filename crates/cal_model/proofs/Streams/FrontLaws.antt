@@ -5,7 +5,7 @@ use Rattle.std.proofs.lemmas.Option.{same_Some}
 use Rattle.std.proofs.lemmas.List.{take-append-le, drop-append-le}
 use Rattle.httparse.specs.Grammar.{RequestHead}
 use Rattle.cal_base.specs.Texts.Octets.{line_feed, carriage_return}
-use Rattle.cal_model.specs.Words.Numbers.{is_empty}
+use Rattle.cal_model.specs.Words.Lists.{is_empty}
 use Rattle.cal_model.specs.declared.wire.WireFault.{WireFault}
 use Rattle.cal_model.specs.declared.wire.WireFault.TheVariants.{HeadTooLong}
 use Rattle.cal_model.specs.Streams.WireLimits.{head_limit}

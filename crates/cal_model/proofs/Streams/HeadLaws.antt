@@ -14,7 +14,7 @@ use Rattle.std.proofs.lemmas.Slice.Eq.{bytes_eq-Decides}
 use Rattle.httparse.specs.Grammar.{is_token_byte, is_uri_byte, is_value_byte, is_token, IsToken, LineEnd, crlf, lf, print_end, print_version, Field, IsField, print_field, print_section, RequestHead, IsRequestHead, print_request}
 use Rattle.cal_base.specs.Texts.Octets.{carriage_return, space, colon}
 use Rattle.cal_base.specs.Lines.ContentLines.{pieces, onto_first, without_return}
-use Rattle.cal_model.specs.Words.Numbers.{is_empty}
+use Rattle.cal_model.specs.Words.Lists.{is_empty}
 use Rattle.cal_model.specs.Streams.Heads.{end_of, field_of_parts, field_of, version_of, is_target, head_of_words, Section, with_field, section_of, head_of_lines, head_of}
 use Rattle.cal_model.specs.Words.Cuts.{cut_at}
 use Rattle.cal_model.specs.Streams.WireLimits.{field_limit}

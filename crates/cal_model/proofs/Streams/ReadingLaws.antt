@@ -4,7 +4,7 @@ use Rattle.std.specs.Prelude.{nat_le, nat_lt}
 use Rattle.std.proofs.lemmas.List.{length-drop}
 use Rattle.httparse.specs.Grammar.{RequestHead}
 use Rattle.cal_base.specs.Texts.Octets.{line_feed, carriage_return}
-use Rattle.cal_model.specs.Words.Numbers.{is_empty}
+use Rattle.cal_model.specs.Words.Lists.{is_empty}
 use Rattle.cal_model.specs.declared.wire.WireFault.{WireFault}
 use Rattle.cal_model.specs.declared.wire.WireFault.TheVariants.{HeadTooLong, BadChunk, BodyTooLong}
 use Rattle.cal_model.specs.declared.wire.WireRequest.{WireRequest}

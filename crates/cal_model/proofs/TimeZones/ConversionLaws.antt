@@ -5,7 +5,7 @@ use Rattle.std.specs.Bool.{OnTrue, OnFalse}
 use Rattle.std.proofs.lemmas.Int.{ints}
 use Rattle.cal_model.specs.declared.zone.Onset.{Onset}
 use Rattle.cal_model.specs.declared.zone.ZoneTable.{ZoneTable}
-use Rattle.cal_model.specs.Words.Numbers.{is_empty}
+use Rattle.cal_model.specs.Words.Lists.{is_empty}
 use Rattle.cal_model.specs.TimeZones.TableBounds.{IsRising}
 use Rattle.cal_model.specs.TimeZones.Stretches.{no_onset}
 use Rattle.cal_model.specs.TimeZones.Zones.{offset_at, local_at, exists_in, instant_of, instants_of, IsLatestOnset, IsOffsetAt, IsShown, IsSkipped}

@@ -12,7 +12,7 @@ use Rattle.cal_model.specs.declared.request.Content.{Content}
 use Rattle.cal_model.specs.declared.request.Content.TheVariants.{Acl, Bad}
 use Rattle.cal_model.specs.declared.reply.Refusal.{Refusal}
 use Rattle.cal_model.specs.Words.Namespaces.{dav}
-use Rattle.cal_model.specs.Words.Numbers.{is_empty}
+use Rattle.cal_model.specs.Words.Lists.{is_empty}
 use Rattle.cal_model.specs.Access.Privileges.{set_named, united}
 use Rattle.cal_model.specs.Bodies.Refusals.{bad_request, dav_refusal, Row, first_row}
 use Rattle.cal_model.specs.Paths.TargetPaths.{target_path}

@@ -8,7 +8,7 @@ use Rattle.cal_base.specs.declared.element.Item.TheViews.{out-Item}
 use Rattle.cal_base.specs.Xml.XmlFaults.{greatest_depth}
 use Rattle.cal_base.specs.Texts.Text.{raised_all}
 use Rattle.cal_model.specs.Words.Namespaces.{caldav}
-use Rattle.cal_model.specs.Words.Numbers.{is_empty}
+use Rattle.cal_model.specs.Words.Lists.{is_empty}
 
 -- The elements in an element
 

@@ -9,7 +9,7 @@ use Rattle.cal_model.specs.declared.property.Props.TheVariants.{All as AllProps}
 use Rattle.cal_model.specs.declared.request.Content.{Content}
 use Rattle.cal_model.specs.declared.request.Content.TheVariants.{Find, Patch, Make, Bad}
 use Rattle.cal_model.specs.Words.Namespaces.{dav, caldav}
-use Rattle.cal_model.specs.Words.Numbers.{is_empty}
+use Rattle.cal_model.specs.Words.Lists.{is_empty}
 use Rattle.cal_model.specs.Bodies.Refusals.{bad_request}
 use Rattle.cal_model.specs.Bodies.ElementParts.{children, has_name, named, first_named, own_text, lacks_name, name_of}
 use Rattle.cal_model.specs.Bodies.AskedProperties.{property_name, asked_props, props_of}

@@ -9,7 +9,7 @@ use Rattle.cal_model.specs.declared.request.Content.{Content}
 use Rattle.cal_model.specs.declared.request.Content.TheVariants.{Report, Bad}
 use Rattle.cal_model.specs.declared.selection.Selection.{Selection}
 use Rattle.cal_model.specs.Words.Namespaces.{dav, caldav}
-use Rattle.cal_model.specs.Words.Numbers.{is_empty}
+use Rattle.cal_model.specs.Words.Lists.{is_empty}
 use Rattle.cal_model.specs.Bodies.Refusals.{bad_request, dav_refusal, caldav_refusal, Row, first_row}
 use Rattle.cal_model.specs.Bodies.ElementParts.{has_name, named, own_text, each, only}
 use Rattle.cal_model.specs.Bodies.RangeElements.{is_bad_range, stated}

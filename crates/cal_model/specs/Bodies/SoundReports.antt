@@ -17,7 +17,7 @@ use Rattle.cal_model.specs.declared.row.Range.{Range}
 use Rattle.cal_model.specs.declared.selection.Recur.{Recur}
 use Rattle.cal_model.specs.declared.selection.Recur.TheVariants.{Whole, Expand, Limit}
 use Rattle.cal_model.specs.declared.selection.Selection.{Selection}
-use Rattle.cal_model.specs.Words.Numbers.{is_empty}
+use Rattle.cal_model.specs.Words.Lists.{is_empty}
 use Rattle.cal_model.specs.Bodies.ReportBodies.{report_content}
 use Rattle.cal_model.specs.Bodies.FilterElements.{ranged_components, dated_properties}
 

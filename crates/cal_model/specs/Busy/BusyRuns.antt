@@ -7,7 +7,7 @@ use Rattle.cal_model.specs.declared.object.Object.{Object}
 use Rattle.cal_model.specs.declared.row.Range.{Range}
 use Rattle.cal_model.specs.declared.zone.ZoneTable.{ZoneTable}
 use Rattle.cal_model.specs.Busy.BusyTimes.{BusyTime, busy_times}
-use Rattle.cal_model.specs.Words.Numbers.{same_int}
+use Rattle.cal_model.specs.Words.Integers.{same_int}
 
 -- a time covers its start and not its end
 abbrev pub covers : ℤ → BusyTime → Bool

@@ -73,8 +73,8 @@ end_after reading length start = record {
 }
 
 -- the name of the property that says when a component ends
-abbrev pub end_name : Node → List ℕ
-end_name node = if is_named (codes "VTODO") node then codes "DUE" else codes "DTEND"
+abbrev pub effective_end_name : Node → List ℕ
+effective_end_name node = if is_named (codes "VTODO") node then codes "DUE" else codes "DTEND"
 
 -- The effective end: where DURATION stands beside DTSTART, it is as if the end were written.
 abbrev pub effective_line : DateReading → Bool → Node → Option DatedLine
@@ -83,7 +83,7 @@ effective_line reading in_timezone node =
 
 abbrev pub effective_lines_named : DateReading → Bool → Node → List ℕ → List DatedLine
 effective_lines_named reading in_timezone node name =
-    if bytes_eq name (end_name node) then option_to_list (effective_line reading in_timezone node) else []
+    if bytes_eq name (effective_end_name node) then option_to_list (effective_line reading in_timezone node) else []
 
 -- the dates of that name which a component has; a name that is none of the date properties has none
 abbrev pub dates_named : DateReading → Bool → Node → List ℕ → List DatedLine

@@ -14,9 +14,9 @@ use Rattle.cal_model.specs.declared.object.Object.{Object}
 use Rattle.cal_model.specs.declared.row.Row.{Row}
 use Rattle.cal_model.specs.declared.zone.ZoneTable.{ZoneTable}
 use Rattle.cal_model.specs.Objects.ComponentLines.{all_of, lines_of, is_named}
-use Rattle.cal_model.specs.Filters.ComponentRanges.{Matched, Site, sites_in, whole_site, time_passes}
+use Rattle.cal_model.specs.Filters.ComponentRanges.{Matched, Site, sites_in, whole_site, time_range_passes}
 use Rattle.cal_model.specs.Filters.DateProperties.{DateReading, DatedLine, dates_named}
-use Rattle.cal_model.specs.Words.Numbers.{is_empty}
+use Rattle.cal_model.specs.Words.Lists.{is_empty}
 use Rattle.cal_model.specs.Ranges.Overlap.{is_in}
 use Rattle.cal_model.specs.Instances.Rows.{rows as rows_of}
 use Rattle.cal_model.specs.Filters.TextTests.{text_passes, param_filters_hold}
@@ -48,7 +48,7 @@ has_filter_name name site = is_named name site.node
 abbrev pub passes_all : Matched → CompFilter-F (List Site → Bool) → Site → Bool
 passes_all matched filter site =
     has_filter_name filter.name site
-    && time_passes matched filter.time site
+    && time_range_passes matched filter.time site
     && list_all (prop_filter_holds matched site) filter.props
     && list_all (λ (inner : List Site → Bool). inner (sites_in site)) filter.comps
 

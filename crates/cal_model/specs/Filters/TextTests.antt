@@ -10,7 +10,7 @@ use Rattle.cal_model.specs.declared.filter.TextMatch.{TextMatch}
 use Rattle.cal_model.specs.declared.filter.ParamTest.{ParamTest}
 use Rattle.cal_model.specs.declared.filter.ParamTest.TheVariants.{Absent, Defined, Text}
 use Rattle.cal_model.specs.declared.filter.ParamFilter.{ParamFilter}
-use Rattle.cal_model.specs.Words.Numbers.{is_empty}
+use Rattle.cal_model.specs.Words.Lists.{is_empty}
 use Rattle.cal_model.specs.Values.ValueTexts.{unescaped}
 
 -- the part stands somewhere in the text

@@ -47,5 +47,5 @@ kinds = (codes "VEVENT", Event) ∷ (codes "VTODO", Todo) ∷ (codes "VJOURNAL",
 abbrev pub kind_named : List ℕ → Option Kind
 kind_named name = option_map (λ (row : List ℕ × Kind). row.1) (find (λ (row : List ℕ × Kind). bytes_eq row.0 name) kinds)
 
-abbrev pub kind_of : Node → Option Kind
-kind_of node = kind_named (name_of node)
+abbrev pub component_kind : Node → Option Kind
+component_kind node = kind_named (name_of node)

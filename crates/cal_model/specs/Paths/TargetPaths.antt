@@ -7,7 +7,7 @@ use Rattle.percent_encoding.specs.Percent.{percent_decode}
 use Rattle.cal_base.specs.Lines.ContentLines.{pieces}
 use Rattle.cal_model.specs.declared.path.Path.{Path}
 use Rattle.cal_model.specs.declared.path.Path.TheVariants.{Root, Principal, Home, Calendar, Object}
-use Rattle.cal_model.specs.Words.Numbers.{is_empty, last_or_else}
+use Rattle.cal_model.specs.Words.Lists.{is_empty, last_or_else}
 use Rattle.cal_model.specs.Words.Cuts.{cut_at}
 
 abbrev pub slash : ℕ

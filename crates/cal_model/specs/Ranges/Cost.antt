@@ -1,4 +1,4 @@
--- What it costs to find the rows of an object in a window, and how far from its start a row can meet a range. Beside RFC 4791, 7.8 and 9.9; which windows a report needs stands in `ReportPairs`.
+-- What it costs to find the rows of an object in a window, and how far from its start a row can meet a range. Beside RFC 4791, 7.8 and 9.9; which windows a report needs stands in `NeededWindows`.
 -- A count over the whole list of moments, and a sum of three lengths. No walk over periods or windows is retraced.
 use Rattle.std.specs.Prelude.{ℕ, suc, ◌+◌, ◌*◌, Bool, false, ◌&&◌, nat_le, if◌then◌else◌, List, [], ◌∷◌, map, filter_map, flat_map, option_to_list, length, sum, count_by, max, ℤ, pos, negsuc, ◌+ℤ◌, ◌-ℤ◌, ◌*ℤ◌, int_lt, unsigned_abs, Option, Some, None}
 use Rattle.cal_moment.specs.Calendar.{epoch_day}

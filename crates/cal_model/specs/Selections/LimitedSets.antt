@@ -17,7 +17,7 @@ use Rattle.cal_model.specs.declared.row.Row.{Row}
 use Rattle.cal_model.specs.declared.zone.ZoneTable.{ZoneTable}
 use Rattle.cal_model.specs.Instances.Alignment.{kind_of}
 use Rattle.cal_model.specs.Objects.ComponentLines.{lines_of, name_of, children_of}
-use Rattle.cal_model.specs.Words.Numbers.{is_empty}
+use Rattle.cal_model.specs.Words.Lists.{is_empty}
 use Rattle.cal_model.specs.Ranges.Overlap.{stored_period, some_meets}
 use Rattle.cal_model.specs.Selections.Picks.{header}
 use Rattle.cal_model.specs.Ranges.RowRanges.{row_in_range}

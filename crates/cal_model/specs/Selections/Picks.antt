@@ -11,7 +11,7 @@ use Rattle.cal_model.specs.declared.selection.PropPick.{PropPick}
 use Rattle.cal_model.specs.declared.selection.CompPick.{CompPick}
 use Rattle.cal_model.specs.declared.selection.CompPick.TheViews.{out-CompPick, roll-CompPick}
 use Rattle.cal_model.specs.Objects.ComponentLines.{name_of}
-use Rattle.cal_model.specs.Words.Numbers.{is_empty}
+use Rattle.cal_model.specs.Words.Lists.{is_empty}
 
 -- a line's text up to its colon, the colon included
 abbrev pub header : Line → List ℕ

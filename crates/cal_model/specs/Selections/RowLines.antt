@@ -30,14 +30,14 @@ abbrev pub dropped_names : List (List ℕ)
 dropped_names = codes "TZID" ∷ []
 
 -- the first value of a parameter is this word, without ASCII case
-abbrev pub says : List ℕ → Param → Bool
-says word param = list_any (λ value. bytes_eq (raised_all value) word) (option_to_list (first param.values))
+abbrev pub param_says : List ℕ → Param → Bool
+param_says word param = list_any (λ value. bytes_eq (raised_all value) word) (option_to_list (first param.values))
 
 -- a parameter stays, but for those and for VALUE=DATE beside a new value that is no date
 abbrev pub stays : RowKind → Param → Bool
 stays kind param =
     not (list_any (bytes_eq param.name) dropped_names)
-    && not (bytes_eq param.name (codes "VALUE") && says (codes "DATE") param && not (is_date_kind kind))
+    && not (bytes_eq param.name (codes "VALUE") && param_says (codes "DATE") param && not (is_date_kind kind))
 
 abbrev pub text_stays : RowKind → List ℕ → Bool
 text_stays kind text = elim (param_of text) [ None ↦ true | Some param ↦ stays kind param ]

@@ -11,7 +11,7 @@ use Rattle.cal_base.specs.Xml.XmlMarkup.{number_of_digits}
 use Rattle.cal_model.specs.declared.wire.WireFault.{WireFault}
 use Rattle.cal_model.specs.declared.wire.WireFault.TheVariants.{BadHead, HeadTooLong, BodyTooLong, Version}
 use Rattle.cal_model.specs.declared.wire.WireRequest.{WireRequest}
-use Rattle.cal_model.specs.Words.Numbers.{is_empty}
+use Rattle.cal_model.specs.Words.Lists.{is_empty}
 use Rattle.cal_model.specs.Words.TextLines.{with_commas}
 use Rattle.cal_model.specs.Streams.WireLimits.{field_limit, body_limit}
 use Rattle.cal_model.specs.Streams.Heads.{version_of, head_of}

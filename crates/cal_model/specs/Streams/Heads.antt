@@ -8,7 +8,7 @@ use Rattle.httparse.specs.Grammar.{is_token, is_uri_byte, is_value_byte, LineEnd
 use Rattle.cal_base.specs.Lines.ContentLines.{pieces, without_return}
 use Rattle.cal_base.specs.Texts.Octets.{line_feed, carriage_return, space, colon}
 use Rattle.cal_model.specs.Words.Cuts.{cut_at}
-use Rattle.cal_model.specs.Words.Numbers.{is_empty}
+use Rattle.cal_model.specs.Words.Lists.{is_empty}
 
 -- Where a head ends (RFC 9112, 2.1 and 2.2)
 

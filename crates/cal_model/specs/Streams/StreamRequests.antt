@@ -6,7 +6,7 @@ use Rattle.httparse.specs.Grammar.{RequestHead}
 use Rattle.cal_model.specs.declared.wire.WireFault.{WireFault}
 use Rattle.cal_model.specs.declared.wire.WireFault.TheVariants.{HeadTooLong}
 use Rattle.cal_model.specs.declared.wire.WireRequest.{WireRequest}
-use Rattle.cal_model.specs.Words.Numbers.{is_empty}
+use Rattle.cal_model.specs.Words.Lists.{is_empty}
 use Rattle.cal_model.specs.Streams.WireLimits.{head_limit, request_limit}
 use Rattle.cal_model.specs.Streams.Heads.{without_empty_lines, head_size}
 use Rattle.cal_model.specs.Streams.HeadFields.{read_head, sized, chunked, framing_of, wire_request}

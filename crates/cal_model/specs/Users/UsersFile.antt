@@ -4,7 +4,7 @@ use Rattle.std.specs.Prelude.{ℕ, ◌+◌, Bool, true, false, not, ◌&&◌, �
 use Rattle.std.specs.List.{list_all, filter_map}
 use Rattle.cal_base.specs.Lines.ContentLines.{pieces, least}
 use Rattle.cal_base.specs.Texts.Octets.{line_feed, space}
-use Rattle.cal_model.specs.Words.Numbers.{is_empty}
+use Rattle.cal_model.specs.Words.Lists.{is_empty}
 
 -- a user: the name, and the SHA-256 of the password in lower-case hexadecimal digits
 pub record User : Type 0 where
