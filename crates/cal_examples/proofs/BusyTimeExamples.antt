@@ -8,7 +8,7 @@ use Rattle.cal_model.specs.declared.object.Component.{Component}
 use Rattle.cal_model.specs.declared.object.Kind.TheVariants.{FreeBusy}
 use Rattle.cal_model.specs.declared.object.Extent.TheVariants as extent
 use Rattle.cal_model.specs.declared.rule.Freq.TheVariants.{Daily}
-use Rattle.cal_model.specs.Words.Numbers.{counted_from}
+use Rattle.cal_model.specs.Words.Lists.{counted_from}
 use Rattle.cal_model.specs.Recurrence.Passing.{day_passes, time_passes}
 use Rattle.cal_model.specs.TimeZones.Zones.{offset_at, exists_in, instant_of}
 use Rattle.cal_model.specs.Instances.Alignment.{utc_zone}

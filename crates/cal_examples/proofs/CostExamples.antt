@@ -9,7 +9,7 @@ use Rattle.cal_model.specs.declared.object.Trigger.TheVariants as trigger
 use Rattle.cal_model.specs.declared.row.Range.{Range}
 use Rattle.cal_model.specs.declared.row.Row.{Row}
 use Rattle.cal_model.specs.declared.rule.Freq.TheVariants.{Daily, Weekly}
-use Rattle.cal_model.specs.Words.Numbers.{counted_from}
+use Rattle.cal_model.specs.Words.Lists.{counted_from}
 use Rattle.cal_model.specs.Recurrence.Passing.{day_passes, time_passes}
 use Rattle.cal_examples.proofs.PassingExamples.{each}
 use Rattle.cal_examples.proofs.RecurrenceSetExamples.{daily_at}

@@ -4,7 +4,7 @@ use Rattle.cal_moment.specs.Calendar.{day_of_date, year_of, month_of, day_of_mon
 use Rattle.cal_model.specs.declared.rule.Freq.TheVariants.{Daily, Weekly}
 use Rattle.cal_model.specs.declared.object.Object.{Object}
 use Rattle.cal_model.specs.declared.object.Extent.TheVariants as extent
-use Rattle.cal_model.specs.Words.Numbers.{counted_from}
+use Rattle.cal_model.specs.Words.Lists.{counted_from}
 use Rattle.cal_model.specs.Recurrence.Passing.{day_passes, time_passes}
 use Rattle.cal_examples.proofs.PassingExamples.{each}
 use Rattle.cal_examples.proofs.RecurrenceSetExamples.{daily_at}

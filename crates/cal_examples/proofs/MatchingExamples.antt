@@ -35,7 +35,7 @@ use Rattle.cal_model.specs.Objects.ObjectReading.{read_object}
 use Rattle.std.specs.Str.{is_utf8, chars}
 use lib.Utf8.{encode}
 use Rattle.cal_model.specs.declared.object.Class.TheVariants.{Busy}
-use Rattle.cal_model.specs.Words.Numbers.{counted_from}
+use Rattle.cal_model.specs.Words.Lists.{counted_from}
 use Rattle.cal_model.specs.Instances.Rows.{rows_over, row_of}
 use Rattle.cal_model.specs.Values.StampTexts.{stamps_in_grammar, trigger_of}
 use Rattle.cal_model.specs.Filters.TextTests.{text_passes, param_filter_holds}

@@ -15,7 +15,7 @@ use Rattle.cal_model.specs.declared.row.Range.{Range}
 use Rattle.cal_model.specs.declared.row.Fixed.{Fixed}
 use Rattle.cal_model.specs.declared.row.Row.{Row}
 use Rattle.cal_model.specs.declared.row.RowKind.TheVariants as kind
-use Rattle.cal_model.specs.Words.Numbers.{counted_from}
+use Rattle.cal_model.specs.Words.Lists.{counted_from}
 use Rattle.cal_examples.proofs.RowExamples.{event, days_and_time, date, floating, utc, zoned}
 use Rattle.cal_examples.proofs.ZoneExamples.{new_york, written}
 use Rattle.cal_model.specs.TimeZones.Zones.{offset_at, instant_of}

@@ -1,4 +1,4 @@
 -- Rows stand in order, and none is lost between windows.
-pub mod Everywhere
+pub mod EachRowLemmas
 pub mod RisingLists
 pub mod RowsInOrder

@@ -3,7 +3,7 @@
 ghost use Rattle.std.specs.Prelude.{ℕ, pos, ◌+ℤ◌, ◌-ℤ◌, ◌≡◌, ◌<◌, ◌≤◌, length, true, false, int_le, slice_index_or, IfSome, IfNone};
 ghost use Rattle.std.specs.List.{AllWithin};
 ghost use Rattle.cal_model.specs.declared.zone.Onset.{Onset};
-ghost use Rattle.cal_model.specs.Words.Numbers.{local_seconds};
+ghost use Rattle.cal_model.specs.Values.LocalTimes.{local_seconds};
 ghost use Rattle.cal_model.specs.TimeZones.Stretches as stretches;
 ghost use Rattle.cal_model.specs.TimeZones.TableBounds.{IsRising, IsTable, IsDigits};
 ghost use Rattle.cal_model.specs.TimeZones.Zones as spec;

@@ -6,7 +6,7 @@ use Rattle.std.proofs.lemmas.Bool.{and_parts, leb-true, le-leb, cases_Bool}
 use Rattle.std.proofs.lemmas.Bool.Decides.{nat_tests}
 use Rattle.std.proofs.lemmas.List.Folds.{list_all-append}
 use Rattle.cal_moment.specs.Texts.{digits, date_text, time_text}
-use Rattle.cal_model.proofs.Values.UtcLemmas.{moment_text, spelled_whole, SpellsDateTime-utc_of}
+use Rattle.cal_model.proofs.Values.UtcLaws.{moment_text, spelled_whole, SpellsDateTime-utc_of}
 use Rattle.cal_model.specs.FirstPath.EventTexts.{EventText, IsEventText, event_octets, is_name_octet, is_printable}
 use Rattle.cal_model.specs.Values.UtcTexts.{utc_of}
 use Rattle.first_path.specs.Spans.{IsSpan}

@@ -11,8 +11,8 @@ use Rattle.cal_model.specs.declared.object.Object.{Object}
 use Rattle.cal_model.specs.declared.report.ReportRequest.TheVariants.{FreeBusy}
 use Rattle.cal_model.specs.Busy.BusyTimes.{BusyTime, busy_times, times_of_row, time_of_row, class_of_row, times_of_stored, stored_periods}
 use Rattle.cal_model.specs.Busy.BusyRuns.{covers, greatest_class, runs, calendar_times, calendar_runs}
-use Rattle.cal_model.specs.Words.Numbers.{same_int}
-use Rattle.cal_model.specs.Reports.ReportPairs.{is_stated, meets_some, counts, is_needed, override_windows}
+use Rattle.cal_model.specs.Words.Integers.{same_int}
+use Rattle.cal_model.specs.Reports.NeededWindows.{is_stated_window, meets_some, counts, is_needed, override_windows}
 use Rattle.cal_model.specs.declared.row.Range.{Range}
 use Rattle.cal_model.specs.declared.row.Row.{Row}
 use Rattle.cal_model.specs.declared.zone.ZoneTable.{ZoneTable}
@@ -67,7 +67,7 @@ covers_parts : (t : ℤ) (time : BusyTime) → covers t time ≡ true → (time.
 covers_parts t time e = (grind (arith, ints, e), grind (arith, ints, e))
 
 -- a row that is not looked at covers no second of the range
-not_covered : (object : Object) (zone : ZoneTable) (range : Range) → HasNearRows object → HasShortOffsets zone → ((row : Row) → Contains (rows object) row → is_dated row ≡ true → is_stated (window_of object row) ≡ true)
+not_covered : (object : Object) (zone : ZoneTable) (range : Range) → HasNearRows object → HasShortOffsets zone → ((row : Row) → Contains (rows object) row → is_dated row ≡ true → is_stated_window (window_of object row) ≡ true)
     → (t : ℤ) → range.start.0 ≤ℤ t → t <ℤ range.end.0 → (row : Row) → Contains (rows object) row → is_dated row ≡ true → (class : Class) → is_looked_at object (FreeBusy range) row ≡ false → covers t (time_of_row zone row class) ≡ false
 not_covered object zone range near short stated t l m row among dated class e = by_test (covers t (time_of_row zone row class)) refl
   where
@@ -78,9 +78,9 @@ not_covered object zone range near short stated t l m row among dated class e = 
         let meets = busy_row-near object zone range near short row among dated (omega (arith, ints, l, time.1)) (omega (arith, ints, m, time.0)) in
         let counted : counts object (range ∷ []) (window_of object row) ≡ true =
         or_left (meets_some object (range ∷ []) (window_of object row)) (list_any (same_int (window_of object row)) (override_windows object)) (or_left (window_meets (margin object) range (window_of object row)) false meets) in
-        sym (sym e ∙ or_right (not (is_dated row)) (is_needed object (FreeBusy range) (window_of object row)) (and_from (is_stated (window_of object row)) (counts object (range ∷ []) (window_of object row)) (stated row among dated) counted))
+        sym (sym e ∙ or_right (not (is_dated row)) (is_needed object (FreeBusy range) (window_of object row)) (and_from (is_stated_window (window_of object row)) (counts object (range ∷ []) (window_of object row)) (stated row among dated) counted))
 
-row_not_covered : (object : Object) (zone : ZoneTable) (range : Range) → HasNearRows object → HasShortOffsets zone → ((row : Row) → Contains (rows object) row → is_dated row ≡ true → is_stated (window_of object row) ≡ true)
+row_not_covered : (object : Object) (zone : ZoneTable) (range : Range) → HasNearRows object → HasShortOffsets zone → ((row : Row) → Contains (rows object) row → is_dated row ≡ true → is_stated_window (window_of object row) ≡ true)
     → (t : ℤ) → range.start.0 ≤ℤ t → t <ℤ range.end.0 → (row : Row) → Contains (filter is_dated (rows object)) row → is_looked_at object (FreeBusy range) row ≡ false → filter (covers t) (times_of_row zone object row) ≡ []
 row_not_covered object zone range near short stated t l m row c e = by_class (class_of_row object row)
   where
@@ -88,7 +88,7 @@ row_not_covered object zone range near short stated t l m row c e = by_class (cl
     by_class None = refl
     by_class (Some class) = rw (not_covered object zone range near short stated t l m row (Contains-unfilter is_dated row (rows object) c).1 (Contains-unfilter is_dated row (rows object) c).0 class e) refl
 
-object_same : (object : Object) (zone : ZoneTable) (range : Range) → HasNearRows object → HasShortOffsets zone → ((row : Row) → Contains (rows object) row → is_dated row ≡ true → is_stated (window_of object row) ≡ true)
+object_same : (object : Object) (zone : ZoneTable) (range : Range) → HasNearRows object → HasShortOffsets zone → ((row : Row) → Contains (rows object) row → is_dated row ≡ true → is_stated_window (window_of object row) ≡ true)
     → (t : ℤ) → range.start.0 ≤ℤ t → t <ℤ range.end.0 → filter (covers t) (times_over zone object (filter (is_looked_at object (FreeBusy range)) (rows object))) ≡ filter (covers t) (busy_times zone object)
 object_same object zone range near short stated t l m =
     let keep = is_looked_at object (FreeBusy range) in
@@ -103,7 +103,7 @@ object_same object zone range near short stated t l m =
 -- what an object has that was read
 pub record IsRead (object : Object) : Type 0 where
   pub near : HasNearRows object
-  pub stated : (row : Row) → Contains (rows object) row → is_dated row ≡ true → is_stated (window_of object row) ≡ true
+  pub stated : (row : Row) → Contains (rows object) row → is_dated row ≡ true → is_stated_window (window_of object row) ≡ true
 
 objects_same : (zone : ZoneTable) (range : Range) → HasShortOffsets zone → (t : ℤ) → range.start.0 ≤ℤ t → t <ℤ range.end.0 → (objects : List Object) → AllByRecursion IsRead objects
     → filter (covers t) (flat_map (λ object. times_over zone object (filter (is_looked_at object (FreeBusy range)) (rows object))) objects) ≡ filter (covers t) (calendar_times zone objects)

@@ -12,7 +12,7 @@ use Rattle.cal_model.specs.FirstPath.QueryTexts.{QueryText, IsQueryText, query_h
 use Rattle.cal_model.specs.FirstPath.Requests.{SpellsRequest}
 use Rattle.cal_model.specs.Values.UtcTexts.{utc_of}
 use Rattle.cal_model.proofs.Words.EndLemmas.{ends_at, is_high, number_is_high, fronts}
-use Rattle.cal_model.proofs.Values.UtcLemmas.{spelled_whole, SpellsDateTime-utc_of}
+use Rattle.cal_model.proofs.Values.UtcLaws.{spelled_whole, SpellsDateTime-utc_of}
 
 -- a PUT, each part before the rest
 abbrev put_before : List ℕ → ℕ → List ℕ → List ℕ

@@ -5,10 +5,11 @@ use Rattle.std.proofs.lemmas.Int.{ints}
 use Rattle.std.proofs.lemmas.Bool.{cases_Bool}
 use Rattle.std.proofs.lemmas.List.Elements.{All-head, All-tail, All-nil, All-cons, All-weaker, All-contains_itself}
 use Rattle.cal_model.specs.declared.row.Row.{Row}
-use Rattle.cal_model.specs.Words.Numbers.{same_int}
+use Rattle.cal_model.specs.Words.Integers.{same_int}
 use Rattle.cal_model.specs.Instances.Starts.{put, ascending}
 use Rattle.cal_model.specs.Instances.Rows.{comes_before, put_row, in_order}
-use Rattle.cal_model.proofs.Instances.Everywhere.{same_int-self, same_int-true, All-put_row, All-in_order}
+use Rattle.cal_model.proofs.Words.IntegerLemmas.{same_int-self, same_int-true}
+use Rattle.cal_model.proofs.Instances.EachRowLemmas.{All-put_row, All-in_order}
 
 -- Members.
 

@@ -12,7 +12,8 @@ use Rattle.cal_model.specs.declared.row.Row.{Row}
 use Rattle.cal_model.specs.Instances.Alignment.{align, value_of, kind_of}
 use Rattle.cal_model.specs.Instances.Starts.{own_start, recurs, is_excepted, plain_starts, period_starts, ascending, starts_from, starts_of, end_from, end_of_instance}
 use Rattle.cal_model.specs.Instances.Rows.{Numbered, numbered_from, numbered, has_id, overrides, masters, ids_start, named_by, is_named, id_of_override, row_of, undated_row, undated_rows, is_dated, starts, master_row, row_at, override_row, override_row_from, merged, dated_rows, in_order, lies_in_window, rows_in_over}
-use Rattle.cal_model.proofs.Instances.Everywhere.{All-everywhere, All-flat_map, All-numbered_from}
+use Rattle.cal_model.proofs.Words.AllLemmas.{All-everywhere, All-flat_map}
+use Rattle.cal_model.proofs.Instances.EachRowLemmas.{All-numbered_from}
 use Rattle.cal_model.proofs.Instances.RisingLists.{IsBelow, IsBefore, by_id, by_component, HasOtherKey, AllPairs-cons, AllPairs-head, AllPairs-tail, in_order-rising, in_order-has, in_order-only, in_order-is, ascending-rising}
 use Rattle.cal_model.proofs.Ranges.WindowLaws.{Contains-filter, Contains-unfilter, AllPairs-filter, AllPairs-append, HasRowsInOrder}
 

@@ -15,12 +15,12 @@ use Rattle.cal_model.specs.declared.object.Trigger.{Trigger}
 use Rattle.cal_model.specs.declared.object.Trigger.TheVariants.{At, From}
 use Rattle.cal_model.specs.Values.StampTexts.{trigger_of}
 use Rattle.cal_model.specs.Values.ValueTexts.{length_of}
-use Rattle.cal_model.specs.Objects.ComponentLines.{has_name, one_of, lines_of, name_of, children_of, kind_named, kind_of}
+use Rattle.cal_model.specs.Objects.ComponentLines.{has_name, one_of, lines_of, name_of, children_of, kind_named, component_kind}
 use Rattle.cal_model.specs.Objects.ComponentReading.{no_length, alarm_with, alarm_of, is_alarm}
 use Rattle.cal_model.specs.Objects.LineValues.{is_short_trigger, value_at, lines_in, own_fault}
 use Rattle.cal_model.specs.Objects.ObjectFaults.{Child, dated_stamps, trigger_moment, trigger_stamps, is_in_kind, is_in_alarm, stamps_of_line, stamp_outside}
-use Rattle.cal_model.specs.Objects.ReadObjects.{IsShort, IsServed, IsBoundedTrigger, IsReadAlarm}
-use Rattle.cal_model.proofs.Objects.LineTests.{IsTested, test_holds}
+use Rattle.cal_model.specs.Objects.ObjectFacts.{IsShort, IsServed, IsBoundedTrigger, IsReadAlarm}
+use Rattle.cal_model.proofs.Objects.TestedLines.{IsTested, test_holds}
 use Rattle.cal_model.proofs.Objects.PlacedComponents.{LineIn, NodeAt, OuterAt}
 use Rattle.cal_model.proofs.Objects.ReadingSteps.{IsChildOf}
 use Rattle.cal_model.proofs.Objects.RuleBounds.{map_value, and_then_value, each_found}
@@ -69,7 +69,7 @@ AlarmsAreKnown all node = Each (λ inner. is_alarm inner ≡ true → Each (IsAl
 
 -- the lines of the alarms of a child
 pub child_alarms : (placed : List Placed) (zones : List (List ℕ)) (tree : Node) (child : Child) (kind : Kind) → own_fault placed ≡ None → stamp_outside zones (lines_in placed) ≡ None →
-    OuterAt (lines_in placed) tree → IsChildOf (children_of tree) child → kind_of child.tree ≡ Some kind → AlarmsAreKnown (lines_in placed) child.tree
+    OuterAt (lines_in placed) tree → IsChildOf (children_of tree) child → component_kind child.tree ≡ Some kind → AlarmsAreKnown (lines_in placed) child.tree
 child_alarms placed zones tree child kind own none outer is_child of_kind =
     let lines = lines_in placed in
     let at = each_at (λ node. (b : ℕ) × (depth lines b ≡ suc (depth lines outer.0)) × (innermost lines b ≡ Some outer.0) × NodeAt 2 lines b node) (children_of tree) child.number child.tree (outer.2 3).2 is_child in

@@ -15,7 +15,7 @@ use Rattle.cal_model.specs.declared.rule.Rule.{Rule}
 use Rattle.cal_model.specs.declared.rule.Until.{Until}
 use Rattle.cal_model.specs.Recurrence.NextPassing.{IsPlace, IsDayPart, IsUsable}
 use Rattle.cal_model.specs.Values.ValueTexts.{integer_of}
-use Rattle.cal_model.specs.Values.RuleTexts.{Part, weekdays, weekday_named, if_between, number_of, if_place, place_number, second_number, ordinal_of, day_part, day_of, until_of, freq_of, list_of, has_name, meanings, with_part, with_parts, every_time, if_allowed, is_allowed, rule_of_freq, rule_of_parts, rule_parts, freq_in, is_each_once, rule_in_grammar, if_within_bound, is_within_bound, rule_of}
+use Rattle.cal_model.specs.Values.RuleTexts.{Part, weekdays, weekday_named, if_between, number_of, if_place, place_number, second_number, ordinal_of, day_part, day_of, until_of, freq_of, list_of, is_part_named, meanings, with_part, with_parts, every_time, if_allowed, is_allowed, rule_of_freq, rule_of_parts, rule_parts, freq_in, is_each_once, rule_in_grammar, if_within_bound, is_within_bound, rule_of}
 use Rattle.cal_model.proofs.Words.EachLemmas.{both_hold}
 
 -- Values that may be absent
@@ -224,8 +224,8 @@ part_usable part rule new (Some r) usable is keeps = keeps r refl part.1 rule ne
 
 with_part_usable : (part : Part) (rule new : Rule) → IsUsable rule → with_part part rule ≡ Some new → IsUsable new
 with_part_usable part rule new usable is =
-    part_usable part rule new (find (λ (row : List ℕ × (List ℕ → Rule → Option Rule)). has_name row.0 part) meanings) usable is
-    (each_found (λ (row : List ℕ × (List ℕ → Rule → Option Rule)). Keeps row.1) (λ (row : List ℕ × (List ℕ → Rule → Option Rule)). has_name row.0 part) meanings each_keeps)
+    part_usable part rule new (find (λ (row : List ℕ × (List ℕ → Rule → Option Rule)). is_part_named row.0 part) meanings) usable is
+    (each_found (λ (row : List ℕ × (List ℕ → Rule → Option Rule)). Keeps row.1) (λ (row : List ℕ × (List ℕ → Rule → Option Rule)). is_part_named row.0 part) meanings each_keeps)
 
 with_parts_usable : (parts : List Part) (rule new : Rule) → IsUsable rule → with_parts parts rule ≡ Some new → IsUsable new
 with_parts_usable [] rule new usable is = subst IsUsable (ap (λ found. unwrap_or found new) is) usable

@@ -25,8 +25,8 @@ use Rattle.cal_model.specs.Values.ValueTexts.{length_of}
 use Rattle.cal_model.proofs.Objects.RuleBounds.{map_value, and_then_value, each_found}
 use Rattle.cal_model.specs.Objects.ComponentLines.{one_of, has_name, all_of, children_of, lines_of}
 use Rattle.cal_model.specs.Objects.ComponentReading.{class_of, stored_busy_of, end_by_start, extent_without_end, extent_of}
-use Rattle.cal_model.specs.Objects.ReadObjects.{IsShort, HasShortEnd, lengths_of_extent}
-use Rattle.cal_model.proofs.Objects.LineTests.{IsTested, test_holds, line_short}
+use Rattle.cal_model.specs.Objects.ObjectFacts.{IsShort, HasShortEnd, lengths_of_extent}
+use Rattle.cal_model.proofs.Objects.TestedLines.{IsTested, test_holds, line_short}
 use Rattle.cal_model.proofs.Objects.PlacedComponents.{NodeAt, OuterAt}
 use Rattle.cal_model.proofs.Words.EachLemmas.{none_of_map, each_of_find, each-weaker, each-both, each-filter, each_passes, each-map, each-flat_map}
 use Rattle.cal_model.specs.Objects.ObjectFaults.{Child}

@@ -23,12 +23,12 @@ use Rattle.cal_model.specs.TimeZones.TableBounds.{IsOffset, IsPart}
 use Rattle.cal_model.specs.Values.RuleTexts.{rule_of}
 use Rattle.cal_model.specs.Objects.ComponentLines.{all_of, one_of}
 use Rattle.cal_model.specs.Objects.LineValues.{is_of_periods, stamps_in, periods_in, stamps_at, stamp_at, value_at, rules_of}
-use Rattle.cal_model.specs.Objects.ZoneReading.{dates_of_line, part_dates, part_with, part_of_lines, has_fine_rule}
-use Rattle.cal_model.proofs.Objects.LineTests.{period_by}
-use Rattle.cal_model.specs.Values.StampTexts.{local_digits, stamp_of_time, time_stamp, utc_stamp, stamp_of, stamps_in_grammar, is_named as is_one_of, utc_names, is_date_text, zone_of, items_of, period_of_ends, period_end, period_with, period_of, periods_in_grammar}
+use Rattle.cal_model.specs.Objects.ZoneReading.{dates_of_line, part_dates, part_with, part_of_lines, is_fine_part}
+use Rattle.cal_model.proofs.Objects.TestedLines.{period_by}
+use Rattle.cal_model.specs.Values.StampTexts.{local_digits, stamp_of_time, time_stamp, utc_stamp, stamp_of, stamps_in_grammar, is_one_of, utc_names, is_date_text, line_zone, items_of, period_of_ends, written_period_end, period_with, period_of, periods_in_grammar}
 use Rattle.cal_model.proofs.Objects.RuleBounds.{map_value, and_then_value, each_read, IsUsable-rule_of}
 use Rattle.cal_moment.specs.Texts.{digits, sign_text, signed, date_text, time_text, utc_text, local_of_seconds}
-use Rattle.cal_model.specs.Values.ValueTexts.{number_at, is_date, is_time, date_of, time_of, date_time_of, local_time, utc_of_local, moment_of, cut, offset_of, is_negative, second_text}
+use Rattle.cal_model.specs.Values.ValueTexts.{number_at, is_calendar_date, is_clock_time, date_of, time_of, date_time_of, local_time, utc_of_local, moment_of, cut, offset_of, is_negative, second_text}
 use Rattle.cal_model.proofs.Words.EachLemmas.{both_hold, each_of_any, each-map, each-append, each-flat_map, each-filter_map}
 
 signed_within : (negative : Bool) (n : ℕ) → n ≤ 86_399 → IsBetween (neg_ℤ (pos 86_399)) (pos 86_399) (signed negative n)
@@ -54,7 +54,7 @@ offset_within text offset is =
 
 -- Stamps, as digits of the years 1 to 9999
 
-day_within : (y m d : ℕ) → is_date y m d ≡ true → (366 ≤ day_of_date y m d) × (day_of_date y m d ≤ 3_652_424)
+day_within : (y m d : ℕ) → is_calendar_date y m d ≡ true → (366 ≤ day_of_date y m d) × (day_of_date y m d ≤ 3_652_424)
 day_within y m d is =
     let a = both_hold (nat_le 1 y && nat_le y 9999 && nat_le 1 m && nat_le m 12 && nat_le 1 d) (nat_le d (month_length y m)) is in
     let b = both_hold (nat_le 1 y && nat_le y 9999 && nat_le 1 m && nat_le m 12) (nat_le 1 d) a.0 in
@@ -72,8 +72,8 @@ date_read text day is =
     let y = number_at 0 4 text in
     let m = number_at 4 2 text in
     let d = number_at 6 2 text in
-    let found = cond_some (is_date y m d && bytes_eq text (date_text y m d)) (record { 0 = day_since_1970 (day_of_date y m d) }) day is in
-    let dated = day_within y m d (both_hold (is_date y m d) (bytes_eq text (date_text y m d)) found.0).0 in
+    let found = cond_some (is_calendar_date y m d && bytes_eq text (date_text y m d)) (record { 0 = day_since_1970 (day_of_date y m d) }) day is in
+    let dated = day_within y m d (both_hold (is_calendar_date y m d) (bytes_eq text (date_text y m d)) found.0).0 in
     subst (λ (x : Day). IsBetween (neg_ℤ (pos 719_162)) (pos 2_932_896) x.0) found.1 (omega (arith, ints, dated.0), omega (arith, ints, dated.1))
 
 time_read : (text : List ℕ) (second : ℕ) → time_of text ≡ Some second → second < 86_400
@@ -82,8 +82,8 @@ time_read text second is =
     let h = number_at 0 2 text in
     let m = number_at 2 2 text in
     let s = number_at 4 2 text in
-    let found = cond_some (is_time h m s && bytes_eq text (time_text h m s)) (3600 * h + 60 * m + min s 59) second is in
-    let a = both_hold (is_time h m s) (bytes_eq text (time_text h m s)) found.0 in
+    let found = cond_some (is_clock_time h m s && bytes_eq text (time_text h m s)) (3600 * h + 60 * m + min s 59) second is in
+    let a = both_hold (is_clock_time h m s) (bytes_eq text (time_text h m s)) found.0 in
     let b = both_hold (nat_le h 23 && nat_le m 59) (nat_le s 60) a.0 in
     let c = both_hold (nat_le h 23) (nat_le m 59) b.0 in
     subst (λ n. n < 86_400) found.1 (omega (arith, leb-true h 23 c.0, leb-true m 59 c.1))
@@ -160,7 +160,7 @@ stamp_case false true number text stamp is = date_stamp_read text stamp is
 stamp_case false false number text stamp is = time_stamp_read number text stamp is
 
 stamp_read : (zones : List (List ℕ)) (line : Line) (text : List ℕ) (stamp : Stamp) → stamp_of zones line text ≡ Some stamp → HasDigits stamp
-stamp_read zones line text stamp is = stamp_case (is_one_of utc_names line) (is_date_text line text) (zone_of zones line) text stamp is
+stamp_read zones line text stamp is = stamp_case (is_one_of utc_names line) (is_date_text line text) (line_zone zones line) text stamp is
 
 grammar_read : (zones : List (List ℕ)) (line : Line) (stamps : List Stamp) → stamps_in_grammar zones line ≡ Some stamps → Each HasDigits stamps
 unfolding stamps_in_grammar
@@ -178,7 +178,7 @@ start_read moment reads a (Some end) (Some start) period read is =
 period_parts : (moment : List ℕ → Option Stamp) → ((text : List ℕ) (stamp : Stamp) → moment text ≡ Some stamp → HasDigits stamp) → (parts : Option (List ℕ × List ℕ)) (period : Period) →
     period_by moment parts ≡ Some period → HasDigits period.start
 period_parts moment reads None period is = absurd (none-some period is)
-period_parts moment reads (Some p) period is = start_read moment reads p.0 (period_end moment p.1) (moment p.0) period refl is
+period_parts moment reads (Some p) period is = start_read moment reads p.0 (written_period_end moment p.1) (moment p.0) period refl is
 
 period_case : (utc : Bool) (number : Option ℕ) (text : List ℕ) (period : Period) → (if utc then period_with utc_stamp text else period_with (time_stamp number) text) ≡ Some period → HasDigits period.start
 period_case true number text period is = period_parts utc_stamp utc_stamp_read (cut 47 text) period is
@@ -187,7 +187,7 @@ period_case false number text period is = period_parts (time_stamp number) (time
 periods_read : (zones : List (List ℕ)) (line : Line) (periods : List Period) → periods_in_grammar zones line ≡ Some periods → Each (λ (p : Period). HasDigits p.start) periods
 unfolding periods_in_grammar
 periods_read zones line periods is =
-    each_read (λ (p : Period). HasDigits p.start) (period_of zones line) (λ text period made. period_case (is_one_of utc_names line) (zone_of zones line) text period made) (items_of line) periods is
+    each_read (λ (p : Period). HasDigits p.start) (period_of zones line) (λ text period made. period_case (is_one_of utc_names line) (line_zone zones line) text period made) (items_of line) periods is
 
 -- Parts
 
@@ -232,14 +232,14 @@ rule_lines : (lines : List Line) → Each IsUsable (rules_of lines)
 rule_lines lines =
     each-filter_map (λ line. Unit {0}) IsUsable (λ (line : Line). rule_of line.value) (λ line rule fact is. IsUsable-rule_of line.value rule is) (all_of (codes "RRULE") lines) (all_lines (λ line. tt) (all_of (codes "RRULE") lines))
 
-part_facts : (lines : List Line) (start : Option Stamp) (from to : Option ℤ) (part : ZonePart) → part_with lines start from to ≡ Some part → has_fine_rule part ≡ false →
+part_facts : (lines : List Line) (start : Option Stamp) (from to : Option ℤ) (part : ZonePart) → part_with lines start from to ≡ Some part → is_fine_part part ≡ false →
     ((s : Stamp) → start ≡ Some s → HasDigits s) → ((z : ℤ) → from ≡ Some z → IsOffset z) → ((z : ℤ) → to ≡ Some z → IsOffset z) → IsPart part
 part_facts lines None from to part is coarse starts froms tos = absurd (none-some part is)
 part_facts lines (Some s) None to part is coarse starts froms tos = absurd (none-some part is)
 part_facts lines (Some s) (Some f) None part is coarse starts froms tos = absurd (none-some part is)
 part_facts lines (Some s) (Some f) (Some t) part is coarse starts froms tos =
     let made : record { start = local_digits s; from = f; to = t; rules = rules_of lines; dates = part_dates lines } ≡ part = ap (λ o. unwrap_or o part) is in
-    let plain = subst (λ (p : ZonePart). has_fine_rule p ≡ false) (sym made) coarse in
+    let plain = subst (λ (p : ZonePart). is_fine_part p ≡ false) (sym made) coarse in
     subst IsPart made (record {
       start = starts s refl;
       from = froms f refl;
@@ -250,7 +250,7 @@ part_facts lines (Some s) (Some f) (Some t) part is coarse starts froms tos =
     })
 
 -- a part that is read and has no fine rule can be made a table of
-pub IsPart-part_of_lines : (lines : List Line) (part : ZonePart) → part_of_lines lines ≡ Some part → has_fine_rule part ≡ false → IsPart part
+pub IsPart-part_of_lines : (lines : List Line) (part : ZonePart) → part_of_lines lines ≡ Some part → is_fine_part part ≡ false → IsPart part
 IsPart-part_of_lines lines part is coarse =
     part_facts lines (stamp_at [] (codes "DTSTART") lines) (value_at offset_of (codes "TZOFFSETFROM") lines) (value_at offset_of (codes "TZOFFSETTO") lines) part is coarse
     (λ s found. first_digits (stamps_at [] (codes "DTSTART") lines) s (stamps_at_digits (codes "DTSTART") lines) found)

@@ -14,7 +14,8 @@ use Rattle.cal_model.specs.Instances.Rows.{Numbered, numbered, has_id, masters, 
 use Rattle.cal_model.specs.Instances.LaterRows.{Governor, governors_of, governors, greatest_id, is_stated, moved_digits, moved_row, governed_row, later_row_at, later_rows_over}
 use Rattle.cal_model.specs.Ranges.Cost.{extent_length, lengths, longest}
 use Rattle.cal_model.specs.Ranges.Nearness.{IsNear, IsTimed, HasNearRows}
-use Rattle.cal_model.proofs.Instances.Everywhere.{All-everywhere, All-flat_map, All-each_part, All-option, All-slice_get, All-numbered_from, All-greatest, All-in_order}
+use Rattle.cal_model.proofs.Words.AllLemmas.{All-everywhere, All-flat_map, All-each_part, All-option, All-slice_get}
+use Rattle.cal_model.proofs.Instances.EachRowLemmas.{All-numbered_from, All-greatest, All-in_order}
 use Rattle.cal_model.proofs.Ranges.RowBounds.{end_of_extent-near, end_of_instance-near}
 
 -- What each row has.

@@ -10,11 +10,11 @@ use Rattle.cal_moment.specs.declared.stamp.Stamp.{Stamp}
 use Rattle.cal_model.specs.declared.object.Object.{Object}
 use Rattle.cal_model.specs.declared.row.Row.{Row}
 use Rattle.cal_model.specs.declared.zone.ZoneTable.{ZoneTable}
-use Rattle.cal_model.specs.Words.Numbers.{same_int}
+use Rattle.cal_model.specs.Words.Integers.{same_int}
 use Rattle.cal_model.specs.Instances.Alignment.{reading_of}
 use Rattle.cal_model.specs.Instances.Rows.{in_order, is_dated, rows_over, rows_in_over, lies_in_window, window_of, window_seconds}
 use Rattle.cal_model.specs.Ranges.Nearness.{HasShortOffsets}
-use Rattle.cal_model.proofs.Instances.Everywhere.{same_int-self, same_int-true}
+use Rattle.cal_model.proofs.Words.IntegerLemmas.{same_int-self, same_int-true}
 use Rattle.cal_model.proofs.Ranges.RowBounds.{local-instant-near}
 use Rattle.cal_model.proofs.Ranges.NearRanges.{window-holds}
 use Rattle.cal_model.proofs.Instances.RisingLists.{IsBefore, HasOtherKey, AllPairs-cons, AllPairs-head, AllPairs-tail, All-member, Contains-there, Contains-split, in_order-is}

@@ -5,7 +5,8 @@ use Rattle.std.proofs.lemmas.Bool.{cases_Bool}
 use Rattle.std.proofs.lemmas.List.Elements.{filter-append}
 use Rattle.std.proofs.lemmas.List.Sums.{sum_by-append}
 use Rattle.cal_model.specs.declared.rule.Rule.{Rule}
-use Rattle.cal_model.specs.Words.Numbers.{is_empty, some_names_place}
+use Rattle.cal_model.specs.Words.Lists.{is_empty}
+use Rattle.cal_model.specs.Words.Integers.{some_names_place}
 use Rattle.cal_model.specs.Recurrence.Passing.{period_number}
 use Rattle.cal_model.specs.Recurrence.RecurrenceSet.{same_period, place_in_period, size_of_period, at_places}
 

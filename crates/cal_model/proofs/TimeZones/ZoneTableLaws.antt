@@ -7,7 +7,8 @@ use Rattle.std.proofs.lemmas.List.Elements.{All-cons}
 use Rattle.cal_moment.specs.Calendar.{seconds_since_1970}
 use Rattle.cal_model.specs.declared.zone.Onset.{Onset}
 use Rattle.cal_model.specs.declared.zone.ZonePart.{ZonePart}
-use Rattle.cal_model.specs.Words.Numbers.{same_int, last_or_else}
+use Rattle.cal_model.specs.Words.Integers.{same_int}
+use Rattle.cal_model.specs.Words.Lists.{last_or_else}
 use Rattle.cal_model.specs.TimeZones.TableBounds.{IsRising, IsOffset, IsPart, IsTable}
 use Rattle.cal_model.specs.TimeZones.ZoneOnsets.{Change, put_change, part_moments, part_changes, changes, offset_before, as_onset, table_over, table_of}
 use Rattle.cal_model.specs.Recurrence.RecurrenceSet.{every_moment}

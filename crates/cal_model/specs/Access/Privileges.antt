@@ -9,7 +9,7 @@ use Rattle.cal_model.specs.declared.privilege.Who.{Who}
 use Rattle.cal_model.specs.declared.privilege.Who.TheVariants.{Everyone, Owner, Principal}
 use Rattle.cal_model.specs.declared.property.PropName.{PropName}
 use Rattle.cal_model.specs.Words.Namespaces.{dav, caldav}
-use Rattle.cal_model.specs.Words.Numbers.{is_empty}
+use Rattle.cal_model.specs.Words.Lists.{is_empty}
 
 -- Bits
 

@@ -8,7 +8,8 @@ use Rattle.cal_moment.specs.declared.stamp.Length.{Length}
 use Rattle.cal_model.specs.declared.zone.ZoneTable.{ZoneTable}
 use Rattle.cal_model.specs.declared.row.RowKind.{RowKind}
 use Rattle.cal_model.specs.declared.row.RowKind.TheVariants as kind
-use Rattle.cal_model.specs.Words.Numbers.{same_int, local_seconds}
+use Rattle.cal_model.specs.Words.Integers.{same_int}
+use Rattle.cal_model.specs.Values.LocalTimes.{local_seconds}
 use Rattle.cal_model.specs.TimeZones.Zones.{exists_in, instant_of, local_at}
 use Rattle.cal_model.specs.Recurrence.RecurrenceSet.{Reading, plain_reading, utc_reading}
 

@@ -25,7 +25,7 @@ use Rattle.cal_model.specs.declared.row.Fixed.{Fixed}
 use Rattle.cal_model.specs.declared.row.RowKind.{RowKind}
 use Rattle.cal_model.specs.declared.row.RowKind.TheVariants as kind
 use Rattle.cal_model.specs.declared.zone.ZoneTable.{ZoneTable}
-use Rattle.cal_model.specs.Words.Numbers.{numbers_between}
+use Rattle.cal_model.specs.Words.Lists.{numbers_between}
 use Rattle.std.specs.List.{list_any}
 use Rattle.cal_model.specs.TimeZones.Zones.{instant_of}
 use Rattle.cal_model.specs.Instances.Alignment.{written_value, value_of, kind_of, reading_of, plus_length}

@@ -6,7 +6,9 @@ use Rattle.cal_moment.specs.Calendar.{day_of_moment, day_number, moment_of_secon
 use Rattle.cal_model.specs.declared.rule.Rule.{Rule}
 use Rattle.cal_model.specs.declared.rule.Until.{Until}
 use Rattle.cal_model.specs.declared.rule.Until.TheVariants.{Day, Local, Utc}
-use Rattle.cal_model.specs.Words.Numbers.{is_empty, some_names_place, numbers_between, moment_of_local}
+use Rattle.cal_model.specs.Words.Lists.{is_empty, numbers_between}
+use Rattle.cal_model.specs.Words.Integers.{some_names_place}
+use Rattle.cal_model.specs.Values.LocalTimes.{moment_of_local}
 use Rattle.cal_model.specs.Recurrence.Passing.{passes, period_number}
 use Rattle.cal_model.specs.Recurrence.NextPassing.{end_day}
 

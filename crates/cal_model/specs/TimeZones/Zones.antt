@@ -3,7 +3,8 @@
 use Rattle.std.specs.Prelude.{◌≡◌, ◌≢◌, ◌⊎◌, Bool, not, List, [], ◌∷◌, map, filter, ℤ, pos, ◌+ℤ◌, ◌-ℤ◌, ◌≤ℤ◌, ◌<ℤ◌, int_le, int_lt}
 use Rattle.cal_model.specs.declared.zone.Onset.{Onset}
 use Rattle.cal_model.specs.declared.zone.ZoneTable.{ZoneTable}
-use Rattle.cal_model.specs.Words.Numbers.{is_empty, same_int, last_or_else, least_of}
+use Rattle.cal_model.specs.Words.Lists.{is_empty, last_or_else}
+use Rattle.cal_model.specs.Words.Integers.{same_int, least_of}
 
 -- the offset of the latest onset at or before an instant, among onsets in rising order, or the one before them
 abbrev pub offset_among : ℤ → List Onset → ℤ → ℤ

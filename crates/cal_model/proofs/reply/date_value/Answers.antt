@@ -1,7 +1,7 @@
 use Rattle.std.proofs.Common.{arith, ◌≡◌, ◌∙◌, unsigned_abs}
 use Rattle.std.proofs.lemmas.Int.{ints}
 use Rattle.httpdate.specs.Date.{unix_secs}
-use Rattle.cal_model.proofs.Replies.Dates.{date_text_is_moment}
+use Rattle.cal_model.proofs.Replies.DateLemmas.{date_text_is_moment}
 use Rattle.cal_model.proofs.reply.date_value.Goals as goal
 
 pub returns-in-Ok : goal.returns-in-Ok

@@ -2,7 +2,7 @@
 use Rattle.std.proofs.Common.{◌≡◌, ℕ, zero, suc, ◌+◌, ◌-◌, ◌<◌, ◌≤◌, [], ◌∷◌, ◌++◌, refl, ap, arith, Bool, true, false}
 use Rattle.std.specs.Prelude.{filter}
 use Rattle.std.proofs.lemmas.List.Elements.{filter-append}
-use Rattle.cal_model.specs.Words.Numbers.{counted_from, numbers_between}
+use Rattle.cal_model.specs.Words.Lists.{counted_from, numbers_between}
 
 counted_cut : (first m n k : ℕ) → k ≡ m + n → counted_from first k ≡ counted_from first m ++ counted_from (first + m) n
 unfolding counted_from

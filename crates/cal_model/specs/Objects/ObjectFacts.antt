@@ -24,7 +24,7 @@ use Rattle.cal_model.specs.Values.StampTexts.{is_known}
 use Rattle.cal_model.specs.TimeZones.TableBounds.{IsPart}
 use Rattle.cal_model.specs.TimeZones.ZoneOnsets.{table_of}
 use Rattle.cal_model.specs.Instances.Rows.{masters}
-use Rattle.cal_model.specs.Objects.ComponentLines.{children_of, kind_of}
+use Rattle.cal_model.specs.Objects.ComponentLines.{children_of, component_kind}
 use Rattle.cal_model.specs.Objects.LineValues.{is_short, is_short_end}
 use Rattle.cal_model.specs.Objects.ZoneReading.{zone_names}
 use Rattle.cal_model.specs.Objects.ObjectFaults.{stamps_of_period}
@@ -39,7 +39,7 @@ pub record IsRead (object : Object) : Type 0 where
 pub record IsChild (tree : Node) (component : Component) : Type 0 where
   pub node : Node
   pub found : slice_get (children_of tree) component.child ≡ Some node
-  pub of_kind : kind_of node ≡ Some component.kind
+  pub of_kind : component_kind node ≡ Some component.kind
 
 -- the stamps of a component: those of its dates, of its end and of its periods
 abbrev pub stamps_of_extent : Extent → List Stamp
@@ -47,8 +47,8 @@ stamps_of_extent (extent.End end) = end ∷ []
 stamps_of_extent (extent.Due end) = end ∷ []
 stamps_of_extent other = []
 
-abbrev pub stamps_of : Component → List Stamp
-stamps_of component =
+abbrev pub component_stamps : Component → List Stamp
+component_stamps component =
     option_to_list component.start ++ stamps_of_extent component.extent ++ option_to_list component.recurrence_id
     ++ component.dates ++ flat_map stamps_of_period component.periods ++ component.except
     ++ flat_map (λ (entry : Option Class × Period). stamps_of_period entry.1) component.stored_busy
@@ -93,8 +93,8 @@ pub record IsReadComponent (object : Object) (component : Component) : Type 0 wh
   pub child : IsChild object.tree component
   pub few_rules : length component.rules ≤ 8
   pub usable_rules : All IsUsable component.rules
-  pub known_zones : All (IsKnown object.zones) (stamps_of component)
-  pub served : All IsServed (stamps_of component)
+  pub known_zones : All (IsKnown object.zones) (component_stamps component)
+  pub served : All IsServed (component_stamps component)
   pub short_extent : All IsShort (lengths_of_extent component.extent)
   pub forward_extent : All IsForward (lengths_of_extent component.extent)
   pub short_periods : All HasShortEnd component.periods

@@ -12,7 +12,7 @@ use Rattle.cal_model.specs.declared.selection.Recur.{Recur}
 use Rattle.cal_model.specs.declared.selection.Recur.TheVariants.{Whole, Expand, Limit}
 use Rattle.cal_model.specs.declared.selection.Selection.{Selection}
 use Rattle.cal_model.specs.declared.zone.ZoneTable.{ZoneTable}
-use Rattle.cal_model.specs.Selections.CalendarData.{shown, recurrence_shown, busy_shown, takes_all}
+use Rattle.cal_model.specs.Selections.ShownData.{shown, recurrence_shown, busy_shown, takes_all}
 use Rattle.cal_model.specs.Selections.Expansion.{expanded_children, instances_of_row, plain_lines}
 use Rattle.cal_model.specs.Selections.LimitedSets.{original_row, left_out, is_left_out}
 use Rattle.cal_model.specs.Selections.Picks.{picked_text}

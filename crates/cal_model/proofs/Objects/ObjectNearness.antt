@@ -7,10 +7,10 @@ use Rattle.cal_model.specs.declared.object.Object.{Object}
 use Rattle.cal_model.specs.declared.zone.ZoneTable.{ZoneTable}
 use Rattle.cal_model.specs.Ranges.Nearness.{HasNearRows, HasShortOffsets, IsTimed}
 use Rattle.cal_model.specs.Objects.ObjectReading.{read_zone}
-use Rattle.cal_model.specs.Objects.ReadObjects.{IsRead, IsReadComponent, IsReadObject, IsZone}
+use Rattle.cal_model.specs.Objects.ObjectFacts.{IsRead, IsReadComponent, IsReadObject, IsZone}
 use Rattle.cal_model.specs.TimeZones.TableBounds.{IsTable}
 use Rattle.cal_model.proofs.TimeZones.NearTimes.{HasShortOffsets-table}
-use Rattle.cal_model.proofs.Objects.ReadObjectLaws.{IsReadObject-read, IsZone-read_zone}
+use Rattle.cal_model.proofs.Objects.ObjectFactLaws.{IsReadObject-read, IsZone-read_zone}
 use Rattle.cal_model.proofs.TimeZones.ZoneTableLaws.{IsTable-table_of}
 
 -- a table of parts that were read

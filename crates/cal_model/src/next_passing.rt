@@ -1,7 +1,7 @@
 //! What walks over the moments of a rule.
 
 ghost use Rattle.std.specs.Prelude.{◌≡◌, false, ◌*◌, IfSome, IfNone};
-ghost use Rattle.cal_model.specs.Words.Numbers.{moment_of_local};
+ghost use Rattle.cal_model.specs.Values.LocalTimes.{moment_of_local};
 ghost use Rattle.cal_model.specs.Recurrence.NextPassing.{end_day, is_fine, IsWritten, IsUsable, NonePasses, IsNextPassing};
 
 use crate::rule::Rule;

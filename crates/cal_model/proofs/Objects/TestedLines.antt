@@ -12,11 +12,11 @@ use Rattle.cal_moment.specs.declared.stamp.Local.{Local}
 use Rattle.cal_moment.specs.declared.stamp.Period.{Period}
 use Rattle.cal_moment.specs.declared.stamp.PeriodEnd.TheVariants.{At as EndAt}
 use Rattle.cal_model.specs.Values.ValueTexts.{date_time_of, cut}
-use Rattle.cal_model.specs.Values.StampTexts.{is_named as is_one_of, utc_names, utc_stamp, time_stamp, stamp_of_time, zone_of, items_of, length_ahead, period_end, period_of_ends, period_with, period_of, periods_in_grammar}
+use Rattle.cal_model.specs.Values.StampTexts.{is_one_of, utc_names, utc_stamp, time_stamp, stamp_of_time, line_zone, items_of, length_ahead, written_period_end, period_of_ends, period_with, period_of, periods_in_grammar}
 use Rattle.cal_moment.specs.declared.stamp.PeriodEnd.{PeriodEnd}
 use Rattle.cal_moment.specs.declared.stamp.Stamp.{Stamp}
 use Rattle.cal_model.specs.Objects.LineValues.{looked_at, cannot_stand, has_own_fault, repeatable, is_second, is_short_end, are_short_periods}
-use Rattle.cal_model.specs.Objects.ReadObjects.{HasShortEnd}
+use Rattle.cal_model.specs.Objects.ObjectFacts.{HasShortEnd}
 use Rattle.cal_model.proofs.Words.EachLemmas.{neither, both_hold}
 
 -- a line of the text, by its number, has no fault of its own
@@ -54,7 +54,7 @@ ends_alike (Some s) (Some s') (Some e) None ahead starts ends = absurd (false≢
 ends_alike (Some s) (Some s') (Some e) (Some e') ahead starts ends = refl
 
 abbrev pub period_by : (List ℕ → Option Stamp) → Option (List ℕ × List ℕ) → Option Period
-period_by moment parts = elim parts [ None ↦ None | Some p ↦ period_of_ends (moment p.0) (period_end moment p.1) ]
+period_by moment parts = elim parts [ None ↦ None | Some p ↦ period_of_ends (moment p.0) (written_period_end moment p.1) ]
 
 parts_alike : (moment other : List ℕ → Option Stamp) → ((text : List ℕ) → is_some (moment text) ≡ is_some (other text)) → (parts : Option (List ℕ × List ℕ)) →
     short_of (period_by moment parts) ≡ short_of (period_by other parts)
@@ -66,11 +66,11 @@ times_alike number other None = refl
 times_alike number other (Some time) = refl
 
 period_alike : (zones : List (List ℕ)) (line : Line) (text : List ℕ) (utc : Bool) →
-    short_of (if utc then period_with utc_stamp text else period_with (time_stamp (zone_of zones line)) text)
-    ≡ short_of (if utc then period_with utc_stamp text else period_with (time_stamp (zone_of [] line)) text)
+    short_of (if utc then period_with utc_stamp text else period_with (time_stamp (line_zone zones line)) text)
+    ≡ short_of (if utc then period_with utc_stamp text else period_with (time_stamp (line_zone [] line)) text)
 period_alike zones line text true = refl
 period_alike zones line text false =
-    parts_alike (time_stamp (zone_of zones line)) (time_stamp (zone_of [] line)) (λ t. times_alike (zone_of zones line) (zone_of [] line) (date_time_of t)) (cut 47 text)
+    parts_alike (time_stamp (line_zone zones line)) (time_stamp (line_zone [] line)) (λ t. times_alike (line_zone zones line) (line_zone [] line) (date_time_of t)) (cut 47 text)
 
 abbrev all_short : Option (List Period) → Option Bool
 all_short periods = option_map (list_all (λ (p : Period). is_short_end p.end)) periods

@@ -11,7 +11,8 @@ use Rattle.cal_model.specs.Instances.Alignment.{value_of}
 use Rattle.cal_model.specs.Ranges.Cost.{margin, window_meets}
 use Rattle.cal_model.specs.Words.Limits.{first_date, last_date}
 use Rattle.cal_model.specs.Reports.NamedRanges.{ranges_named}
-use Rattle.cal_model.specs.Words.Numbers.{is_empty, same_int, numbers_between}
+use Rattle.cal_model.specs.Words.Lists.{is_empty, numbers_between}
+use Rattle.cal_model.specs.Words.Integers.{same_int}
 use Rattle.cal_model.specs.Instances.Rows.{Numbered, overrides, own_start, nominal_beside, window_seconds}
 
 -- the window that holds a moment
@@ -28,8 +29,8 @@ last_window = window_at last_date
 abbrev pub stated_windows : List ℤ
 stated_windows = map (λ n. first_window +ℤ pos n) (numbers_between 0 (nat_abs (last_window -ℤ first_window) + 1))
 
-abbrev pub is_stated : ℤ → Bool
-is_stated window = int_le first_window window && int_le window last_window
+abbrev pub is_stated_window : ℤ → Bool
+is_stated_window window = int_le first_window window && int_le window last_window
 
 -- the windows that hold the start of an override, by its local digits
 abbrev pub start_window : Object → Stamp → ℤ
@@ -55,4 +56,4 @@ windows_needed object report = filter (counts object (ranges_named report)) stat
 
 -- whether a window is one of them
 abbrev pub is_needed : Object → ReportRequest → ℤ → Bool
-is_needed object report window = is_stated window && counts object (ranges_named report) window
+is_needed object report window = is_stated_window window && counts object (ranges_named report) window

@@ -27,20 +27,20 @@ use Rattle.cal_model.specs.TimeZones.TableBounds.{IsPart}
 use Rattle.cal_model.proofs.Objects.ZoneParts.{IsPart-part_of_lines}
 use Rattle.cal_model.specs.declared.zone.ZonePart.{ZonePart}
 use Rattle.cal_model.specs.Objects.LineValues.{periods_at, stamp_at, value_at, rules_of, lines_in, own_fault}
-use Rattle.cal_model.specs.Objects.ZoneReading.{zones_of, zone_names, are_many, zone_table, is_zone, parts_of, has_zone_fault, has_fine_rule, is_part, part_of_lines, are_too_many}
+use Rattle.cal_model.specs.Objects.ZoneReading.{zones_of, zone_names, are_many, zone_table, is_zone, parts_of_zone, has_zone_fault, is_fine_part, is_part, part_of_lines, are_too_many}
 use Rattle.cal_model.specs.Values.ValueTexts.{length_of}
 use Rattle.cal_model.specs.Ranges.Overlap.{seconds_of}
-use Rattle.cal_model.specs.Words.Numbers.{is_empty}
+use Rattle.cal_model.specs.Words.Lists.{is_empty}
 use Rattle.cal_model.specs.Instances.Rows.{masters}
 use Rattle.cal_model.specs.Recurrence.RecurrenceSet.{every_moment}
 use Rattle.cal_model.specs.Recurrence.NextPassing.{IsUsable}
 use Rattle.cal_model.specs.Ranges.Nearness.{IsTimed}
 use Rattle.cal_model.specs.Values.RuleTexts.{rule_of}
 use Rattle.cal_model.proofs.Objects.RuleBounds.{IsUsable-rule_of}
-use Rattle.cal_model.specs.Objects.ComponentLines.{all_of, name_of, children_of, kind_named, kind_of, lines_of, has, is_named}
+use Rattle.cal_model.specs.Objects.ComponentLines.{all_of, name_of, children_of, kind_named, component_kind, lines_of, has, is_named}
 use Rattle.cal_model.specs.Objects.ComponentReading.{stored_busy_of, extent_of, alarm_of, is_alarm, component_of}
-use Rattle.cal_model.specs.Objects.ReadObjects.{stamps_of, IsKnown, IsReadComponent, IsZone, IsReadObject, IsRead, IsServed, IsShort, IsForward, HasShortEnd, IsReadAlarm, lengths_of_extent}
-use Rattle.cal_model.proofs.Objects.LineTests.{IsTested}
+use Rattle.cal_model.specs.Objects.ObjectFacts.{component_stamps, IsKnown, IsReadComponent, IsZone, IsReadObject, IsRead, IsServed, IsShort, IsForward, HasShortEnd, IsReadAlarm, lengths_of_extent}
+use Rattle.cal_model.proofs.Objects.TestedLines.{IsTested}
 use Rattle.cal_model.proofs.Objects.PlacedComponents.{tree_at}
 use Rattle.cal_model.proofs.Words.EachLemmas.{neither, none_of_map, each_of_find, each_of_any, each-weaker, each-filter, each_passes, each_of_map, each-filter_map, each-both}
 use Rattle.cal_model.specs.Objects.ObjectFaults.{Child, children_in, kinds_among, component_fault, resource_fault, component_of_child, dated_stamps, lacks_zone, object_of, has_component_fault, is_bad_end, is_bad_period, is_bad_length, is_part_of_day, has_two_ends, are_different, resource_faults, child_at, child_places, zones_among, zone_fault, is_bad_zone}
@@ -156,8 +156,8 @@ record IsSoundChild (all : List Line) (tree : Node) (zones : List ZoneTable) (na
   sound : has_component_fault zones (lines_of child.tree) ≡ false
   known : lacks_zone (zone_names zones) (lines_of child.tree) ≡ false
   named : name ≡ name_of child.tree
-  served : (kind : Kind) → kind_of child.tree ≡ Some kind → Each (λ line. Each IsServed (dated_stamps (zone_names zones) line)) (lines_of child.tree)
-  alarms : (kind : Kind) → kind_of child.tree ≡ Some kind → AlarmsAreKnown all child.tree
+  served : (kind : Kind) → component_kind child.tree ≡ Some kind → Each (λ line. Each IsServed (dated_stamps (zone_names zones) line)) (lines_of child.tree)
+  alarms : (kind : Kind) → component_kind child.tree ≡ Some kind → AlarmsAreKnown all child.tree
 
 component_facts : (all : List Line) (tree : Node) (zones : List ZoneTable) (name : List ℕ) (kind : Kind) (object : Object) → object.kind ≡ kind → object.tree ≡ tree → object.zones ≡ zones → kind_named name ≡ Some kind →
     (child : Child) (component : Component) → IsSoundChild all tree zones name child → component_of_child (zone_names zones) child ≡ Some component → IsReadComponent object component
@@ -174,8 +174,8 @@ component_facts all tree zones name kind object object_kind object_tree object_z
       };
       few_rules = rw source.is (few_rules zones (lines_of child.tree) facts.sound);
       usable_rules = rw source.is (usable_rules (lines_of child.tree));
-      known_zones = rw (object_zones, source.is) (All-from_recursion (IsKnown zones) (stamps_of (component_of (zone_names zones) child.number source.kind child.tree)) (each_stamp (IsNamed (zone_names zones)) (zone_names zones) child.number source.kind child.tree (lines_known (zone_names zones) (lines_of child.tree) facts.known)));
-      served = rw source.is (All-from_recursion IsServed (stamps_of (component_of (zone_names zones) child.number source.kind child.tree)) (each_stamp IsServed (zone_names zones) child.number source.kind child.tree (facts.served source.kind source.of_kind)));
+      known_zones = rw (object_zones, source.is) (All-from_recursion (IsKnown zones) (component_stamps (component_of (zone_names zones) child.number source.kind child.tree)) (each_stamp (IsNamed (zone_names zones)) (zone_names zones) child.number source.kind child.tree (lines_known (zone_names zones) (lines_of child.tree) facts.known)));
+      served = rw source.is (All-from_recursion IsServed (component_stamps (component_of (zone_names zones) child.number source.kind child.tree)) (each_stamp IsServed (zone_names zones) child.number source.kind child.tree (facts.served source.kind source.of_kind)));
       short_extent = rw source.is (All-from_recursion IsShort (lengths_of_extent (extent_of (zone_names zones) source.kind (lines_of child.tree))) (extent_short (zone_names zones) all (lines_of child.tree) source.kind facts.tested));
       forward_extent = rw source.is (All-from_recursion IsForward (lengths_of_extent (extent_of (zone_names zones) source.kind (lines_of child.tree))) (extent_forward zones (lines_of child.tree) source.kind facts.sound));
       short_periods = rw source.is (All-from_recursion HasShortEnd (periods_at (zone_names zones) (codes "RDATE") (lines_of child.tree)) (periods_short (zone_names zones) all (lines_of child.tree) facts.tested));
@@ -189,9 +189,9 @@ sound_children : (all : List Line) (tree : Node) (zones : List ZoneTable) (name 
     Each (λ (child : Child). has_component_fault zones (lines_of child.tree) ≡ false) children →
     Each (λ (child : Child). lacks_zone (zone_names zones) (lines_of child.tree) ≡ false) children →
     Each (λ (child : Child). name ≡ name_of child.tree) children →
-    ((child : Child) (kind : Kind) → IsChildOf (children_of tree) child → kind_of child.tree ≡ Some kind → Each (λ line. Each IsServed (dated_stamps (zone_names zones) line)) (lines_of child.tree)) →
+    ((child : Child) (kind : Kind) → IsChildOf (children_of tree) child → component_kind child.tree ≡ Some kind → Each (λ line. Each IsServed (dated_stamps (zone_names zones) line)) (lines_of child.tree)) →
     ((child : Child) → IsChildOf (children_of tree) child → Each (IsTested all) (lines_of child.tree)) →
-    ((child : Child) (kind : Kind) → IsChildOf (children_of tree) child → kind_of child.tree ≡ Some kind → AlarmsAreKnown all child.tree) →
+    ((child : Child) (kind : Kind) → IsChildOf (children_of tree) child → component_kind child.tree ≡ Some kind → AlarmsAreKnown all child.tree) →
     Each (IsSoundChild all tree zones name) children
 sound_children all tree zones name [] numbers sound known named served tested alarms = tt
 sound_children all tree zones name (child ∷ children) numbers sound known named served tested alarms = (
@@ -208,21 +208,21 @@ sound_children all tree zones name (child ∷ children) numbers sound known name
 )
 
 -- the parts of a zone without fault
-zone_parts : (zone : Node) → has_zone_fault zone ≡ false → Each IsPart (parts_of zone)
-zone_parts zone sound =
-    let parts = parts_of zone in
+sound_parts : (zone : Node) → has_zone_fault zone ≡ false → Each IsPart (parts_of_zone zone)
+sound_parts zone sound =
+    let parts = parts_of_zone zone in
     let bare = not (has (codes "TZID") (lines_of zone)) || is_empty parts in
-    let fine = (neither bare (list_any has_fine_rule parts) (neither (bare || list_any has_fine_rule parts) (list_any (λ (part : ZonePart). are_many part.rules) parts) sound).0).1 in
+    let fine = (neither bare (list_any is_fine_part parts) (neither (bare || list_any is_fine_part parts) (list_any (λ (part : ZonePart). are_many part.rules) parts) sound).0).1 in
     let nodes = filter is_part (children_of zone) in
     let made = each-filter_map (λ node. Unit {0}) (λ part. (lines : List Line) × (part_of_lines lines ≡ Some part)) (λ node. part_of_lines (lines_of node)) (λ node part fact is. (lines_of node, is)) nodes (each_any nodes) in
     each-weaker (λ part facts. IsPart-part_of_lines facts.0.0 part facts.0.1 facts.1) parts
-    (each-both (λ part. (lines : List Line) × (part_of_lines lines ≡ Some part)) (λ part. has_fine_rule part ≡ false) parts made (each_of_any has_fine_rule parts fine))
+    (each-both (λ part. (lines : List Line) × (part_of_lines lines ≡ Some part)) (λ part. is_fine_part part ≡ false) parts made (each_of_any is_fine_part parts fine))
 
 -- each table is that of the parts of its VTIMEZONE
 zones_are : (nodes : List Node) → Each (λ node. has_zone_fault node ≡ false) nodes → Each IsZone (map (zone_table every_moment) nodes)
 zones_are [] sound = tt
 zones_are (node ∷ nodes) sound =
-    (record { parts = parts_of node; read = All-from_recursion IsPart (parts_of node) (zone_parts node sound.0); table = refl }, zones_are nodes sound.1)
+    (record { parts = parts_of_zone node; read = All-from_recursion IsPart (parts_of_zone node) (sound_parts node sound.0); table = refl }, zones_are nodes sound.1)
 
 each_unnumbered : {X : Type 0} (P : X → Type 0) (from : ℕ) (xs : List X) → Each (λ (e : ℕ × X). P e.1) (enumerate_from from xs) → Each P xs
 each_unnumbered P from [] facts = tt
@@ -251,18 +251,18 @@ zones_sound placed tree none =
 
 -- an object of children that are sound
 whole_object : (all : List Line) (tree : Node) (zones : List ZoneTable) (children : List Child) → All IsZone zones → Each (IsChildOf (children_of tree)) children →
-    Each (λ (child : Child). is_some (kind_of child.tree) ≡ true) children →
+    Each (λ (child : Child). is_some (component_kind child.tree) ≡ true) children →
     component_fault zones children ≡ None → resource_fault (object_of zones tree children) children ≡ None →
-    ((child : Child) (kind : Kind) → IsChildOf (children_of tree) child → kind_of child.tree ≡ Some kind → Each (λ line. Each IsServed (dated_stamps (zone_names zones) line)) (lines_of child.tree)) →
+    ((child : Child) (kind : Kind) → IsChildOf (children_of tree) child → component_kind child.tree ≡ Some kind → Each (λ line. Each IsServed (dated_stamps (zone_names zones) line)) (lines_of child.tree)) →
     ((child : Child) → IsChildOf (children_of tree) child → Each (IsTested all) (lines_of child.tree)) →
-    ((child : Child) (kind : Kind) → IsChildOf (children_of tree) child → kind_of child.tree ≡ Some kind → AlarmsAreKnown all child.tree) →
+    ((child : Child) (kind : Kind) → IsChildOf (children_of tree) child → component_kind child.tree ≡ Some kind → AlarmsAreKnown all child.tree) →
     IsReadObject (object_of zones tree children)
 whole_object all tree zones [] tables numbers kinds sound stored served tested alarms = absurd (false≢true (sym (is_storable (object_of zones tree []) [] stored).some))
 whole_object all tree zones (child ∷ children) tables numbers kinds sound stored served tested alarms =
     let names = zone_names zones in
     let object = object_of zones tree (child ∷ children) in
     let rows = is_storable object (child ∷ children) stored in
-    let its_kind = some_value (kind_of child.tree) kinds.0 in
+    let its_kind = some_value (component_kind child.tree) kinds.0 in
     let made : component_of_child names child ≡ Some (component_of names child.number its_kind.0 child.tree) =
     ap (λ (k : Option Kind). option_map (λ kind. component_of names child.number kind child.tree) k) its_kind.1 in
     let name = name_of child.tree in
@@ -290,8 +290,8 @@ IsReadObject-read object read =
     subst IsReadObject (sym found.1.is)
     (whole_object (lines_in placed) tree (zones_of every_moment tree) (kinds_among (children_in placed tree))
     (All-from_recursion IsZone (zones_of every_moment tree) (zones_are (filter is_zone (children_of tree)) (zones_sound placed tree sound.zone)))
-    (each-filter (IsChildOf (children_of tree)) (λ (child : Child). is_some (kind_of child.tree)) (children_in placed tree) (children_are placed tree))
-    (each_passes (λ (child : Child). is_some (kind_of child.tree)) (children_in placed tree))
+    (each-filter (IsChildOf (children_of tree)) (λ (child : Child). is_some (component_kind child.tree)) (children_in placed tree) (children_are placed tree))
+    (each_passes (λ (child : Child). is_some (component_kind child.tree)) (children_in placed tree))
     sound.component sound.resource
     (λ child kind is_child of_kind. child_served (zone_names (zones_of every_moment tree)) (lines_in placed) tree child kind sound.outside (tree_at (lines_in placed) tree found.1.nested found.1.built) is_child of_kind)
     (λ child is_child. child_tested placed tree child sound.own (tree_at (lines_in placed) tree found.1.nested found.1.built) is_child)

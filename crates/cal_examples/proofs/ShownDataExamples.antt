@@ -24,11 +24,11 @@ use Rattle.cal_model.specs.declared.selection.Recur.{Recur}
 use Rattle.cal_model.specs.declared.selection.Recur.TheVariants.{Whole, Expand, Limit}
 use Rattle.cal_model.specs.declared.selection.Selection.{Selection}
 use Rattle.cal_model.specs.Instances.Alignment.{utc_zone}
-use Rattle.cal_model.specs.Selections.CalendarData.{shown}
+use Rattle.cal_model.specs.Selections.ShownData.{shown}
 use Rattle.cal_model.specs.Selections.Expansion.{instance_lines, plain_lines}
 use Rattle.cal_model.specs.Selections.RowLines.{rewritten, value_text}
 use Rattle.cal_model.specs.Selections.LimitedSets.{busy_line, left_out}
-use Rattle.cal_model.specs.Words.Numbers.{counted_from}
+use Rattle.cal_model.specs.Words.Lists.{counted_from}
 use Rattle.cal_model.specs.Recurrence.Passing.{day_passes, time_passes}
 use Rattle.cal_model.specs.Selections.Picks.{picked_text}
 use Rattle.cal_model.specs.Instances.Rows.{rows_over, row_of}

@@ -7,10 +7,10 @@ use Rattle.cal_model.specs.declared.report.ReportRequest.TheVariants.{Query, Mul
 use Rattle.cal_model.specs.declared.row.Range.{Range}
 use Rattle.cal_model.specs.declared.selection.Recur.TheVariants.{Whole, Limit}
 use Rattle.cal_model.specs.Reports.NamedRanges.{ranges_named}
-use Rattle.cal_model.specs.Words.Numbers.{counted_from}
-use Rattle.cal_model.specs.Reports.ReportPairs.{first_window, last_window, windows_needed, is_needed, override_windows}
+use Rattle.cal_model.specs.Words.Lists.{counted_from}
+use Rattle.cal_model.specs.Reports.NeededWindows.{first_window, last_window, windows_needed, is_needed, override_windows}
 use Rattle.cal_model.specs.TimeZones.Zones.{exists_in, instant_of, offset_at}
-use Rattle.cal_examples.proofs.CalendarDataExamples.{plan, asked}
+use Rattle.cal_examples.proofs.ShownDataExamples.{plan, asked}
 use Rattle.cal_model.proofs.Filters.FilterLemmas.{ranges_of_filter_roll}
 use Rattle.cal_examples.proofs.MatchingExamples.{comp, event_asks, prop, minutes}
 use Rattle.cal_examples.proofs.RowExamples.{event, object_of, utc}
