@@ -23,10 +23,10 @@ mod RecurrenceSetExamples
 mod StandardRecurrences
 mod ReplyExamples
 mod TextExamples
-mod ReportPairExamples
+mod NeededWindowExamples
 mod FrameExamples
 mod ScriptExamples
-mod CalendarDataExamples
+mod ShownDataExamples
 mod StepExamples
 mod ZoneExamples
 mod ZoneOnsetExamples

@@ -11,6 +11,7 @@
 #![tactic(auto)]
 
 pub mod filter;
+pub mod next_passing;
 pub mod object;
 pub mod path;
 pub mod piece;
@@ -21,7 +22,6 @@ pub mod report;
 pub mod request;
 pub mod row;
 pub mod rule;
-pub mod rules;
 pub mod selection;
 pub mod store;
 #[cfg(test)]
@@ -33,6 +33,7 @@ mod zone_time;
 pub use filter::{
     Collation, CompFilter, Filter, ParamFilter, ParamTest, PropFilter, PropTest, TextMatch,
 };
+pub use next_passing::Rules;
 pub use object::{Alarm, Class, Component, Extent, Kind, NotResource, Object, Related, Trigger};
 pub use path::{ObjectPath, Path};
 pub use piece::Piece;
@@ -43,7 +44,6 @@ pub use report::ReportRequest;
 pub use request::{Content, Event, Method, Request, Tags};
 pub use row::{Fixed, Range, Row, RowKind};
 pub use rule::{DayPart, Freq, Rule, Until};
-pub use rules::Rules;
 pub use selection::{CompPick, PropPick, Recur, Selection};
 pub use store::CalendarData;
 pub use wire::{WireFault, WireRequest};

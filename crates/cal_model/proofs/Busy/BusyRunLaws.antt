@@ -6,7 +6,7 @@ use Rattle.std.proofs.lemmas.Bool.{false≢true, eq-eqb, and_parts, and_from}
 use Rattle.std.specs.Option.{is_some}
 use Rattle.std.proofs.lemmas.List.Elements.{All-head, All-tail, All-cons, All-nil}
 use Rattle.std.proofs.lemmas.List.Kept.{AllPairs-cons}
-use Rattle.cal_model.proofs.Words.IntegerLemmas.{same_int-true}
+use Rattle.cal_model.proofs.Words.IntegerLemmas.{same_int-self, same_int-true}
 use Rattle.cal_model.proofs.Words.ListTests.{Keeps, filter_kept}
 use Rattle.cal_model.proofs.Instances.RisingLists.{AllPairs-tail}
 use Rattle.cal_model.specs.declared.object.Class.{Class}
@@ -121,10 +121,6 @@ chain_weaker : (a a' b : ℤ) (rs : List BusyTime) → a' ≤ℤ a → Chain a b
 chain_weaker a a' b [] l c = tt
 chain_weaker a a' b (r ∷ rs) l c = (omega (arith, ints, l, c.0), c.1, c.2, c.3, c.4)
 
-same_int-refl : (a : ℤ) → same_int a a ≡ true
-same_int-refl (pos a) = eq-eqb a a refl
-same_int-refl (negsuc a) = eq-eqb a a refl
-
 same_class-true : (c d : Class) → same_class c d ≡ true → c ≡ d
 same_class-true Busy Busy e = refl
 same_class-true Busy Unavailable e = absurd (false≢true e)
@@ -182,7 +178,7 @@ by_test t b c r rs l d true e =
     rw (same_class-true c r.class both.0) (longer_before t b r rs (same_int-true r.start (t +ℤ pos 1) both.1) d)
 by_test t b c r rs l d false e =
     alone_before t b c (r ∷ rs)
-    (λ p q. false≢true (e ∙ and_from (same_class c r.class) (same_int r.start (t +ℤ pos 1)) (rw q (same_class-refl r.class)) (rw p (same_int-refl r.start)))) l d
+    (λ p q. false≢true (e ∙ and_from (same_class c r.class) (same_int r.start (t +ℤ pos 1)) (rw q (same_class-refl r.class)) (rw p (same_int-self r.start)))) l d
 
 with_class_before : (t b : ℤ) (c : Class) (rs : List BusyTime) → (t +ℤ pos 1) ≤ℤ b → Chain (t +ℤ pos 1) b rs → IsBefore t b (Some c) rs (with_class t c rs)
 unfolding longer

@@ -1,5 +1,5 @@
 -- When a calendar is busy (RFC 4791, 7.10): the class of each second, and the longest runs of one class in a range.
--- A class is told for each second by itself; nothing here sweeps over starts and ends.
+-- A class is told for each second by itself, and runs join the seconds. A body may sweep over starts and ends: `AreRuns` says what its list has to be, and one list alone is that (`BusyRunLaws`).
 use Rattle.std.specs.Prelude.{◌≡◌, ◌≢◌, ℕ, zero, suc, Bool, true, false, ◌&&◌, if◌then◌else◌, List, [], ◌∷◌, filter, flat_map, Option, Some, None, ℤ, pos, ◌+ℤ◌, ◌-ℤ◌, int_le, int_lt, ◌≤ℤ◌, ◌<ℤ◌, nat_abs, AllPairs, All}
 use Rattle.cal_model.specs.declared.object.Class.{Class}
 use Rattle.cal_model.specs.declared.object.Class.TheVariants.{Busy, Unavailable, Tentative}

@@ -1,5 +1,5 @@
 -- Whether a component of an object's tree passes a range (RFC 4791, 9.7.1 and 9.9): which component of the object stands at a place of the tree, which alarm, and what their rows and triggers say.
--- Each test asks for some row of all that are given; no row is carried from one test to another.
+-- Each test asks by itself for some row of all that are given: an alarm that meets an inner range may belong to another row than the one that met the outer range.
 use Rattle.std.specs.Prelude.{ℕ, ◌==◌, Bool, true, false, ◌&&◌, ◌||◌, if◌then◌else◌, List, [], ◌∷◌, map, take, filter, count_by, option_to_list, slice_get, codes, ℤ, Option, Some, None}
 use Rattle.std.specs.List.{list_any, enumerate_from}
 use Rattle.cal_base.specs.declared.line.Node.{Node}

@@ -1,5 +1,5 @@
 -- Whether an object matches a filter (RFC 4791, 9.7), by the structure of the filter, over a list of rows of the object.
--- Texts, dates and ranges of components stand elsewhere; each test is made by itself.
+-- Each test is made by itself: texts by `TextTests`, dates by `DateProperties`, ranges of components by `ComponentRanges`.
 use Rattle.std.specs.Prelude.{ℕ, Bool, not, ◌&&◌, if◌then◌else◌, List, [], ◌∷◌}
 use Rattle.std.specs.List.{list_any, list_all}
 use Rattle.cal_base.specs.declared.line.Line.{Line}

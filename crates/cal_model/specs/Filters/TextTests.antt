@@ -1,5 +1,5 @@
 -- Tests of texts and of parameters: text-match and param-filter (RFC 4791, 9.7.3 and 9.7.5) under the collations i;ascii-casemap and i;octet (RFC 4790, 9.2 and 9.3).
--- A text is looked at as a whole; no place in it is told.
+-- A text is found in another or is not; the place where it stands says nothing.
 use Rattle.std.specs.Prelude.{ℕ, Bool, not, ◌||◌, ◌==◌, nat_eq, if◌then◌else◌, List, [], ◌∷◌, length, filter, bytes_eq}
 use Rattle.std.specs.List.{list_any, list_all, starts_with}
 use Rattle.cal_base.specs.declared.line.Param.{Param}

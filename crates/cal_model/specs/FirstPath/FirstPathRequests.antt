@@ -25,8 +25,8 @@ abbrev pub SpellsRequest : List ℕ → Request → Type 0
 SpellsRequest octets request = SpellsPut octets request ⊎ SpellsQuery octets request
 
 -- a request that some octets are: one of the two forms
-abbrev pub IsBuilt : Request → Type 0
-IsBuilt request = (octets : List ℕ) × SpellsRequest octets request
+abbrev pub IsSpelled : Request → Type 0
+IsSpelled request = (octets : List ℕ) × SpellsRequest octets request
 
 -- octets that are no request
 abbrev pub SpellsNone : List ℕ → Type 0

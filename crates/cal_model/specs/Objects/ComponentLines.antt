@@ -1,5 +1,5 @@
 -- The lines and components of a component tree by name (RFC 5545, 3.4 and 3.6), and which of them are the four kinds that a calendar stores.
--- Names are looked for in whole lists; no tree is walked.
+-- A name is looked for in the whole list of the lines, or of the children, of one component.
 use Rattle.std.specs.Prelude.{ℕ, Bool, List, [], ◌∷◌, filter, find, Option, option_map, codes}
 use Rattle.std.specs.List.{list_any}
 use Rattle.std.specs.Str.{bytes_eq}

@@ -1,5 +1,5 @@
 -- The zones of a calendar object: what a VTIMEZONE says, and which one cannot stand (RFC 5545, 3.6.5).
--- Which zone cannot stand is a test of it alone, and a sum over those up to it; no count goes on from zone to zone.
+-- Which zone cannot stand is a test of it alone, and a sum over those up to it; a reader may let one count go on from zone to zone.
 use Rattle.std.specs.Prelude.{ℕ, Bool, not, ◌||◌, nat_lt, List, [], ◌++◌, map, length, filter, filter_map, flat_map, sum, Option, Some, None, unwrap_or, codes, ℤ}
 use Rattle.std.specs.List.{list_any}
 use Rattle.cal_base.specs.declared.line.Line.{Line}

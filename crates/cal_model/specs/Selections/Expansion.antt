@@ -1,5 +1,5 @@
 -- A recurring object as single instances, the option `expand` of calendar data (RFC 4791, 9.6.5): a transformation of the tree by the rows that overlap the range.
--- Rows, overlap and picks stand elsewhere; nothing here says how rows are found.
+-- The rows are given, in the order of `Rows`; `RowRanges` says which of them overlap. Picks come after it (`Picks`).
 use Rattle.std.specs.Prelude.{ℕ, Bool, not, ◌&&◌, ◌||◌, if◌then◌else◌, List, [], ◌∷◌, ◌++◌, take, drop, filter, flat_map, option_to_list, slice_get, bytes_eq, codes, is_some, is_none}
 use Rattle.std.specs.List.{list_any, position_or_len}
 use Rattle.cal_base.specs.declared.line.Line.{Line}

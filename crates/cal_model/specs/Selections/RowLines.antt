@@ -1,5 +1,5 @@
 -- Lines with the values of a row, as `expand` writes them (RFC 4791, 9.6.5; RFC 5545, 3.3.4, 3.3.5, 3.2.19 and 3.2.20).
--- Each line is a record made anew; nothing that is written here is read again.
+-- Each line is a record with its parts and its text: the picks that follow go by its name, and what is printed is its text.
 use Rattle.std.specs.Prelude.{ℕ, ◌-◌, Bool, true, false, not, ◌&&◌, if◌then◌else◌, List, [], ◌∷◌, ◌++◌, length, take, filter, option_to_list, bytes_eq, codes, ℤ, Some, None}
 use Rattle.std.specs.List.{list_any, join_with_byte}
 use Rattle.cal_base.specs.declared.line.Line.{Line}

@@ -1,5 +1,5 @@
 -- The reply to a calendar-query (RFC 4791, 7.8): each object of the calendar is looked at in the order of the names, and those that overlap the range are shown.
--- So far with the two properties getetag and calendar-data. Nothing here knows of an index.
+-- So far with the two properties getetag and calendar-data. A body may find the objects by an index, and answers the same.
 use Rattle.std.specs.Prelude.{ℕ, List, ◌++◌, filter, flat_map, codes, None}
 use Rattle.cal_base.specs.Lists.NameMap.{Named}
 use Rattle.cal_model.specs.declared.path.Path.TheVariants.{Object}

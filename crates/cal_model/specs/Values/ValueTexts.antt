@@ -1,6 +1,6 @@
 -- The values that whole texts spell (RFC 5545, 3.3), as functions that compute; a text outside its grammar has none.
--- What a date, a time, a length and an offset are stands in `cal_moment`. Here a date, a time or an offset is a text of the numbers
--- at its places, and a length is cut at its letters; no reader goes on from octet to octet.
+-- What a date, a time, a length and an offset are stands in `cal_moment`, whose readers go on from octet to octet. Here a date, a time or an offset is a text of the
+-- numbers at its places, and a length is cut at its letters. That both give the same values is proved (`ValueLaws`, `LengthLaws`).
 use Rattle.std.specs.Prelude.{ℕ, ◌+◌, ◌-◌, ◌*◌, ◌^◌, min, Bool, true, false, ◌&&◌, ◌||◌, ◌==◌, nat_lt, nat_le, if◌then◌else◌, List, [], ◌∷◌, ◌++◌, length, take, drop, fold, bytes_eq, codes, Option, Some, None, option_map, option_and_then, ℤ, pos, ◌+ℤ◌, ◌*ℤ◌}
 use Rattle.cal_base.specs.Lines.ComponentTrees.{or_else}
 use Rattle.cal_moment.specs.declared.stamp.Day.{Day}

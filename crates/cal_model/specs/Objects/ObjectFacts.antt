@@ -1,6 +1,7 @@
 -- What holds of each calendar object that was read (RFC 5545, 3.6; RFC 4791, 4.1), and what the crates above rest on. How an object is read stands in `ObjectReading`.
 use Rattle.std.specs.Prelude.{◌≡◌, ℕ, ◌<◌, ◌≤◌, true, List, [], ◌∷◌, ◌++◌, flat_map, length, option_to_list, slice_get, Option, Some, Ok, All, pos, ◌≤ℤ◌}
 use Rattle.cal_base.specs.declared.line.Node.{Node}
+use Rattle.cal_base.specs.Lines.LineGrammar.{IsReadAs}
 use Rattle.cal_moment.specs.declared.stamp.Stamp.{Stamp}
 use Rattle.cal_moment.specs.declared.stamp.Stamp.TheVariants.{Utc}
 use Rattle.cal_moment.specs.declared.stamp.Length.{Length}
@@ -108,9 +109,15 @@ pub record IsZone (zone : ZoneTable) : Type 0 where
   pub read : All IsPart parts
   pub table : zone ≡ table_of zone.name parts
 
+-- some text is read as lines that make up a tree
+pub record HasText (tree : Node) : Type 0 where
+  pub octets : List ℕ
+  pub reading : IsReadAs octets tree
+
 -- what holds of an object
 pub record IsReadObject (object : Object) : Type 0 where
   pub some : 0 < length object.components
   pub components : All (IsReadComponent object) object.components
   pub zones : All IsZone object.zones
   pub one_master : length (masters object) ≤ 1
+  pub own_text : HasText object.tree

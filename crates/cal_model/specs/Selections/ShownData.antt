@@ -1,5 +1,5 @@
 -- Calendar data as a report shows it (RFC 4791, 9.6), over a list of rows of the object: the stored octets, or the printed text of what the options and picks leave of the tree.
--- Each step is a function of the whole tree; nothing is printed while it is chosen.
+-- Each step is a function of the whole tree, and the text is that of the last tree; a body may print what it keeps as it goes.
 use Rattle.std.specs.Prelude.{ℕ, Bool, true, false, ◌&&◌, if◌then◌else◌, List, is_none, Option, Some, None}
 use Rattle.cal_base.specs.declared.line.Node.{Node}
 use Rattle.cal_model.specs.declared.object.Object.{Object}

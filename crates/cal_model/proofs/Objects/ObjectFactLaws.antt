@@ -8,7 +8,7 @@ use Rattle.std.proofs.lemmas.Slice.Eq.{bytes_eq-Decides}
 use Rattle.std.proofs.lemmas.Option.{none-some, same_Some}
 use Rattle.std.specs.Result.{result_unwrap_or}
 use Rattle.cal_base.specs.declared.line.Node.{Node}
-use Rattle.cal_base.specs.Lines.ContentLines.{placed_lines, line_fault, Placed}
+use Rattle.cal_base.specs.Lines.ContentLines.{placed_lines, line_fault, lines_of as lines_of_text, Placed}
 use Rattle.cal_base.specs.Lines.ComponentTrees.{nesting_fault, tree_of, first}
 use Rattle.cal_base.specs.declared.line.Line.{Line}
 use Rattle.cal_moment.specs.declared.stamp.Length.{Length}
@@ -39,13 +39,13 @@ use Rattle.cal_model.specs.Values.RuleTexts.{rule_of}
 use Rattle.cal_model.proofs.Objects.RuleBounds.{IsUsable-rule_of}
 use Rattle.cal_model.specs.Objects.ComponentLines.{all_of, name_of, children_of, kind_named, component_kind, lines_of, has, is_named}
 use Rattle.cal_model.specs.Objects.ComponentReading.{stored_busy_of, extent_of, alarm_of, is_alarm, component_of}
-use Rattle.cal_model.specs.Objects.ObjectFacts.{component_stamps, IsKnown, IsReadComponent, IsZone, IsReadObject, IsRead, IsServed, IsShort, IsForward, HasShortEnd, IsReadAlarm, lengths_of_extent}
+use Rattle.cal_model.specs.Objects.ObjectFacts.{component_stamps, IsKnown, IsReadComponent, IsZone, IsReadObject, IsRead, IsServed, IsShort, IsForward, HasShortEnd, IsReadAlarm, HasText, lengths_of_extent}
 use Rattle.cal_model.proofs.Objects.TestedLines.{IsTested}
 use Rattle.cal_model.proofs.Objects.PlacedComponents.{tree_at}
 use Rattle.cal_model.proofs.Words.EachLemmas.{neither, none_of_map, each_of_find, each_of_any, each-weaker, each-filter, each_passes, each_of_map, each-filter_map, each-both}
 use Rattle.cal_model.specs.Objects.ObjectFaults.{Child, children_in, kinds_among, component_fault, resource_fault, component_of_child, dated_stamps, lacks_zone, object_of, has_component_fault, is_bad_end, is_bad_period, is_bad_length, is_part_of_day, has_two_ends, are_different, resource_faults, child_at, child_places, zones_among, zone_fault, is_bad_zone}
-use Rattle.cal_model.specs.Objects.ObjectReading.{Unread, not_resource, first_there, calendar_faults, read_lines_by, read_zone_tree, read_zone, not_calendar, place_at}
-use Rattle.cal_model.proofs.Objects.ReadingSteps.{after_lines, after_nesting, of_tree, after_tree, read_from, is_sound, IsChildOf, children_are, head_none, tail_none}
+use Rattle.cal_model.specs.Objects.ObjectReading.{Unread, not_resource, first_there, calendar_faults, read_lines_by, read_tree, read_zone_tree, read_zone, not_calendar, place_at}
+use Rattle.cal_model.proofs.Objects.ReadingSteps.{after_lines, lines_none, after_nesting, of_tree, after_tree, read_from, is_sound, IsChildOf, children_are, head_none, tail_none}
 use Rattle.cal_model.proofs.Objects.ComponentStamps.{is_made, IsNamed, known_by_test, lines_known, each_stamp}
 use Rattle.cal_model.proofs.Objects.ServedDates.{not_before, child_served}
 use Rattle.cal_model.proofs.Objects.ShortLengths.{child_tested, extent_lengths, extent_short, periods_short, busy_short}
@@ -208,8 +208,8 @@ sound_children all tree zones name (child ∷ children) numbers sound known name
 )
 
 -- the parts of a zone without fault
-zone_parts : (zone : Node) → has_zone_fault zone ≡ false → Each IsPart (parts_of_zone zone)
-zone_parts zone sound =
+sound_parts : (zone : Node) → has_zone_fault zone ≡ false → Each IsPart (parts_of_zone zone)
+sound_parts zone sound =
     let parts = parts_of_zone zone in
     let bare = not (has (codes "TZID") (lines_of zone)) || is_empty parts in
     let fine = (neither bare (list_any is_fine_part parts) (neither (bare || list_any is_fine_part parts) (list_any (λ (part : ZonePart). are_many part.rules) parts) sound).0).1 in
@@ -222,7 +222,7 @@ zone_parts zone sound =
 zones_are : (nodes : List Node) → Each (λ node. has_zone_fault node ≡ false) nodes → Each IsZone (map (zone_table every_moment) nodes)
 zones_are [] sound = tt
 zones_are (node ∷ nodes) sound =
-    (record { parts = parts_of_zone node; read = All-from_recursion IsPart (parts_of_zone node) (zone_parts node sound.0); table = refl }, zones_are nodes sound.1)
+    (record { parts = parts_of_zone node; read = All-from_recursion IsPart (parts_of_zone node) (sound_parts node sound.0); table = refl }, zones_are nodes sound.1)
 
 each_unnumbered : {X : Type 0} (P : X → Type 0) (from : ℕ) (xs : List X) → Each (λ (e : ℕ × X). P e.1) (enumerate_from from xs) → Each P xs
 each_unnumbered P from [] facts = tt
@@ -256,9 +256,10 @@ whole_object : (all : List Line) (tree : Node) (zones : List ZoneTable) (childre
     ((child : Child) (kind : Kind) → IsChildOf (children_of tree) child → component_kind child.tree ≡ Some kind → Each (λ line. Each IsServed (dated_stamps (zone_names zones) line)) (lines_of child.tree)) →
     ((child : Child) → IsChildOf (children_of tree) child → Each (IsTested all) (lines_of child.tree)) →
     ((child : Child) (kind : Kind) → IsChildOf (children_of tree) child → component_kind child.tree ≡ Some kind → AlarmsAreKnown all child.tree) →
+    HasText tree →
     IsReadObject (object_of zones tree children)
-whole_object all tree zones [] tables numbers kinds sound stored served tested alarms = absurd (false≢true (sym (is_storable (object_of zones tree []) [] stored).some))
-whole_object all tree zones (child ∷ children) tables numbers kinds sound stored served tested alarms =
+whole_object all tree zones [] tables numbers kinds sound stored served tested alarms own_text = absurd (false≢true (sym (is_storable (object_of zones tree []) [] stored).some))
+whole_object all tree zones (child ∷ children) tables numbers kinds sound stored served tested alarms own_text =
     let names = zone_names zones in
     let object = object_of zones tree (child ∷ children) in
     let rows = is_storable object (child ∷ children) stored in
@@ -278,6 +279,7 @@ whole_object all tree zones (child ∷ children) tables numbers kinds sound stor
           (component_facts all tree zones name its_kind.0 object kind refl refl its_kind.1) (child ∷ children) facts);
       zones = tables;
       one_master = ltb-false 1 (length (masters object)) rows.one_master;
+      own_text = own_text;
     }
 
 -- each object that was read has what is promised of it
@@ -295,7 +297,16 @@ IsReadObject-read object read =
     sound.component sound.resource
     (λ child kind is_child of_kind. child_served (zone_names (zones_of every_moment tree)) (lines_in placed) tree child kind sound.outside (tree_at (lines_in placed) tree found.1.nested found.1.built) is_child of_kind)
     (λ child is_child. child_tested placed tree child sound.own (tree_at (lines_in placed) tree found.1.nested found.1.built) is_child)
-    (λ child kind is_child of_kind. child_alarms placed (zone_names (zones_of every_moment tree)) tree child kind sound.own sound.outside (tree_at (lines_in placed) tree found.1.nested found.1.built) is_child of_kind))
+    (λ child kind is_child of_kind. child_alarms placed (zone_names (zones_of every_moment tree)) tree child kind sound.own sound.outside (tree_at (lines_in placed) tree found.1.nested found.1.built) is_child of_kind)
+    (record {
+      octets = read.octets;
+      reading = (
+        lines_of_text read.octets,
+        ap (λ fault. elim fault [ None ↦ Ok (lines_of_text read.octets) | Some place ↦ Err place ]) (lines_none (line_fault read.octets) (read_lines_by (read_tree every_moment) placed) object read.reading),
+        found.1.nested,
+        found.1.built,
+      );
+    }))
 
 -- The zone of a text
 
