@@ -1,13 +1,14 @@
 #!/usr/bin/env python3
 """Times the programs over generated input, and prints the figures. It needs Python 3, and Debian's package `time` for the memory.
 
-Build the programs once before: `rt run` in crates/caldav_server and in crates/lines_bench.
+Build the programs once before: `rt run` in crates/caldav_server, crates/lines_bench and crates/values_bench.
 """
 import os, subprocess, sys, tempfile, time
 
 TOP = os.path.dirname(os.path.dirname(os.path.abspath(__file__)))
 SERVER = os.path.join(TOP, "crates/caldav_server/out/caldav_server")
 LINES = os.path.join(TOP, "crates/lines_bench/out/lines_bench")
+VALUES = os.path.join(TOP, "crates/values_bench/out/values_bench")
 USERS = b"user alice ba7816bf8f01cfea414140de5dae2223b00361a396177a9cb410ff61f20015ad\n"
 
 
@@ -109,8 +110,18 @@ def lines():
             print(f"{name:34} {len(text):8d} {best:8.4f} {best / len(text) * 1e9:9.1f}  {answer}")
 
 
-for program in (SERVER, LINES):
+def values():
+    print(f"{'value':34} {'octets':>8} {'seconds':>8} {'ns/octet':>9}  answer")
+    for count in (3855, 7710, 15420, 30840, 61680):
+        text = b"RDATE:" + b",".join([b"19970714T133000Z"] * count) + b"\r\n"
+        best = min(run(VALUES, [], text)[0] for _ in range(5))
+        answer = run(VALUES, [], text)[2].decode().strip()
+        print(f"{f'RDATE of {count} moments':34} {len(text):8d} {best:8.4f} {best / len(text) * 1e9:9.1f}  {answer}")
+
+
+for program in (SERVER, LINES, VALUES):
     if not os.path.exists(program):
         sys.exit(f"{program} is not built: run `rt run` in its crate's folder first")
 scripts()
 lines()
+values()
