@@ -1,6 +1,6 @@
 -- Users files that are read, and the places of those that are refused.
 use Rattle.std.specs.Prelude.{◌≡◌, refl, ℕ, ◌+◌, ◌/◌, ◌%◌, List, [], ◌∷◌, ◌++◌, flat_map, take, Ok, Err, Some, None, codes, replicate}
-use Rattle.cal_model.specs.Words.Numbers.{numbers_between, counted_from}
+use Rattle.cal_model.specs.Words.Lists.{numbers_between, counted_from}
 use Rattle.cal_model.specs.Users.UsersFile.{User, users_fault, users_of}
 
 -- the SHA-256 of `abc`
