@@ -11,7 +11,7 @@ use crate::cuts::cut;
 use crate::fault::ValueFault;
 use crate::list::{Items, read_list};
 use crate::single::read_duration;
-use crate::stamps::{TimeForm, has_zone_below, is_list, is_utc, read_time, zone_of};
+use crate::stamps::{TimeForm, has_zone_below, is_list, is_utc, read_time, line_zone};
 use crate::zones::ZoneNames;
 use cal_base::{Line, List};
 use cal_moment::{Bad, Period, PeriodEnd};
@@ -123,7 +123,7 @@ fn period_form(line: &Line, zones: &ZoneNames) -> TimeForm
     if is_utc(&line.name) {
         TimeForm::Utc
     } else {
-        TimeForm::Local(zone_of(line, zones))
+        TimeForm::Local(line_zone(line, zones))
     }
 }
 
