@@ -1,6 +1,6 @@
 -- The alarms of an object that was read: their triggers and gaps are short, and a moment that one names is served.
 use Rattle.std.proofs.Common.{◌≡◌, ℕ, suc, List, refl, ap, sym, ◌∙◌, arith, Bool, true, false, [], subst}
-use Rattle.std.specs.Prelude.{◌==◌, ◌&&◌, bytes_eq, unwrap_or, Option, Some, None, is_some, option_map, option_and_then, codes, filter, filter_map, if◌then◌else◌}
+use Rattle.std.specs.Prelude.{◌==◌, ◌&&◌, bytes_eq, unwrap_or, Option, Some, None, is_some, option_and_then, codes, filter, filter_map, if◌then◌else◌}
 use Rattle.std.specs.List.{AllByRecursion as Each, enumerate_from}
 use Rattle.std.proofs.lemmas.Bool.{false≢true, and_from}
 use Rattle.cal_base.specs.declared.line.Line.{Line}

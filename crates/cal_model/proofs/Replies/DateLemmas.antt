@@ -1,7 +1,6 @@
 -- A date of httpdate is that of its moment by the calendar of `cal_moment`: both count the same days.
-use Rattle.std.proofs.Common.{◌≡◌, ℕ, zero, suc, ◌+◌, ◌-◌, ◌/◌, ◌≤◌, refl, sym, ap, ◌∙◌, arith, sub-one}
+use Rattle.std.proofs.Common.{◌≡◌, ℕ, zero, suc, ◌+◌, ◌-◌, ◌/◌, ◌≤◌, refl, ap, ◌∙◌, arith, sub-one}
 use Rattle.std.specs.Int.{IsInRange}
-use Rattle.httpdate.specs.declared.parts.Parts.{Parts}
 use Rattle.httpdate.specs.declared.date.HttpDate.{HttpDate}
 use Rattle.httpdate.specs.Calendar.{days_of_years, days_of_months, days_in_month, days_from_civil}
 use Rattle.httpdate.specs.Date.{unix_secs, date_text}

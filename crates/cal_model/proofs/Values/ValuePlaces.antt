@@ -1,6 +1,6 @@
 -- Places of faults: those of a computed value are those of the texts that spell it, a date or a time is bad where a time is, a list is bad
 -- where its first bad item is, and a rule is bad where its longest front ends that passes the trial.
-use Rattle.std.proofs.Common.{◌≡◌, ℕ, ◌+◌, ◌<◌, ◌≤◌, Bool, true, false, ◌||◌, ◌==◌, if◌then◌else◌, List, [], ◌∷◌, ◌++◌, length, map, take, codes, Option, Some, None, option_map, refl, sym, ap, ap₂, subst, ◌∙◌, arith, inl, inr, append_assoc, ◌%◌, ◌^◌, zero, suc, ℤ}
+use Rattle.std.proofs.Common.{◌≡◌, ℕ, ◌+◌, ◌<◌, ◌≤◌, Bool, true, false, ◌||◌, ◌==◌, if◌then◌else◌, List, [], ◌∷◌, ◌++◌, length, map, take, codes, Option, Some, None, option_map, refl, sym, ap, ap₂, subst, ◌∙◌, arith, inl, inr, append_assoc, ◌%◌, ◌^◌, zero, suc}
 use Rattle.std.proofs.lemmas.Bool.{cases_Bool, false≢true, ne_eqb}
 use Rattle.std.proofs.lemmas.List.{length-append}
 use Rattle.std.proofs.lemmas.Option.{none-some}
@@ -17,7 +17,6 @@ use Rattle.cal_model.specs.Values.StampTexts.{param_is, line_zone, stamp_of_time
 use Rattle.cal_model.specs.Values.RuleTexts.{rule_in_grammar, is_within_bound, list_of}
 use Rattle.cal_model.specs.Values.BadValues.{Reads, IsBadRuleAt}
 use Rattle.cal_model.specs.Values.RuleTrial.{can_go_on}
-use Rattle.cal_moment.specs.declared.stamp.Utc.{Utc}
 use Rattle.cal_model.proofs.Values.BadValueLaws.{joined, firsts, final, first_piece, pieces-append, pieces-lacks, bad_by_same, bad_by_next}
 use Rattle.cal_model.proofs.Values.CutLemmas.{option_map_some, Lacks, lacks-append}
 use Rattle.cal_model.proofs.Values.LengthLaws.{length_of-SpellsLength, SpellsLength-length_of}

@@ -1,5 +1,5 @@
 -- Equality of whole numbers, as a test and as a fact.
-use Rattle.std.proofs.Common.{◌≡◌, refl, arith, true, ℤ, pos, negsuc, ap}
+use Rattle.std.proofs.Common.{◌≡◌, arith, true, ℤ, pos, negsuc, ap}
 use Rattle.cal_model.specs.Words.Integers.{same_int}
 
 pub same_int-self : (z : ℤ) → same_int z z ≡ true

@@ -1,6 +1,6 @@
 -- What a script prints: the replies to the requests that its frames bring, one after the other. Scripts are this project's own.
 -- It says what each reply may be; how and when the program makes it is its own matter.
-use Rattle.std.specs.Prelude.{◌≡◌, ◌≢◌, ℕ, ◌⊎◌, Bool, true, false, ◌==◌, List, [], ◌∷◌, ◌++◌, All, pos}
+use Rattle.std.specs.Prelude.{◌≡◌, ◌≢◌, ℕ, ◌⊎◌, Bool, true, false, ◌==◌, List, [], ◌∷◌, ◌++◌, pos}
 use Rattle.std.specs.List.{list_any}
 use Rattle.cal_model.specs.declared.request.Event.{Event}
 use Rattle.cal_model.specs.declared.request.Request.{Request}
@@ -10,7 +10,7 @@ use Rattle.cal_model.specs.Server.Step.{bare_reply}
 use Rattle.cal_model.specs.Server.Answer.{reply_to, state_after}
 use Rattle.cal_model.specs.Replies.ReplyOctets.{reply_octets}
 use Rattle.cal_model.specs.FirstPath.FirstPathRequests.{SpellsRequest, SpellsNone}
-use Rattle.cal_model.specs.Scripts.Frames.{Frame, bytes, frames_text, IsFrame, IsCutInto, reply_frame}
+use Rattle.cal_model.specs.Scripts.Frames.{Frame, bytes, IsCutInto, reply_frame}
 
 -- where a script stands: the state of the server, and the connections that were closed
 pub record Standing : Type 0 where

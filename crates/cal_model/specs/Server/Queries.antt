@@ -1,5 +1,5 @@
 -- What a calendar-query asks for (RFC 4791, 7.8), so far of one form alone: getetag and calendar-data of the objects whose VEVENT overlaps a range.
-use Rattle.std.specs.Prelude.{ℕ, Bool, true, false, not, ◌&&◌, ◌==◌, if◌then◌else◌, List, [], ◌∷◌, length, is_none, bytes_eq, codes, Option, Some, None}
+use Rattle.std.specs.Prelude.{ℕ, Bool, false, not, ◌&&◌, ◌==◌, if◌then◌else◌, List, [], ◌∷◌, length, is_none, bytes_eq, codes, Option, Some, None}
 use Rattle.cal_model.specs.declared.filter.Filter.{Filter}
 use Rattle.cal_model.specs.declared.filter.CompFilter.{CompFilter}
 use Rattle.cal_model.specs.declared.filter.CompFilter.TheOpen.{CompFilter-F}
