@@ -4,7 +4,7 @@
 Build the programs once before: `rt run` in crates/caldav_server, lines_bench, values_bench, index_bench and turns_bench.
 Words name the parts that are to run (scripts, lines, values, index, turns); without a word all do.
 """
-import os, subprocess, sys, tempfile, time
+import os, resource, subprocess, sys, tempfile, time
 
 TOP = os.path.dirname(os.path.dirname(os.path.abspath(__file__)))
 SERVER = os.path.join(TOP, "crates/caldav_server/out/caldav_server")
@@ -113,29 +113,35 @@ def lines():
             print(f"{name:34} {len(text):8d} {best:8.4f} {best / len(text) * 1e9:9.1f}  {answer}")
 
 
+def processor_run(program, words, text):
+    """As `run`, with the seconds of processor that the program took, which a busy machine changes less."""
+    before = resource.getrusage(resource.RUSAGE_CHILDREN)
+    _, memory, output = run(program, words, text)
+    after = resource.getrusage(resource.RUSAGE_CHILDREN)
+    return after.ru_utime + after.ru_stime - before.ru_utime - before.ru_stime, memory, output
+
+
 def index():
-    print(f"{'index':34} {'add':>8} {'find':>8} {'miss':>8} {'drop':>8} {'MiB':>6}  ns a piece, of a miss an object")
-    for pieces in (10000, 100000):
-        for windows in (1, 5, 50):
-            for rows in (0, 60):
-                objects = pieces // windows
-                best, most = None, 0
-                for _ in range(3):
-                    _, memory, output = run(INDEX, [str(objects), str(windows), str(rows)], b"")
-                    told = [line.split() for line in output.decode().splitlines()]
-                    if [int(line[1]) for line in told] != [pieces, pieces, 0, 0]:
-                        sys.exit(f"{INDEX} answered {told}")
-                    taken = [int(line[2]) for line in told]
-                    best = taken if best is None else [min(a, b) for a, b in zip(best, taken)]
-                    most = max(most, memory)
-                each = [1000 * micros / count for micros, count in zip(best, (pieces, pieces, objects, pieces))]
-                label = f"{objects} objects, {windows} windows, {rows} rows"
-                print(f"{label:34} {each[0]:8.0f} {each[1]:8.0f} {each[2]:8.0f} {each[3]:8.0f} {most:6.1f}")
+    print(f"{'index':34} {'pieces':>8} {'add':>8} {'find':>8} {'drop':>8} {'MiB':>6}  ns of processor a piece")
+    for form, objects, windows in (("1", 10000, 1), ("2", 100000, 1), ("3", 20000, 5), ("4", 2000, 50)):
+        for size, rows in (("0", 0), ("r", 60)):
+            pieces = objects * windows
+            seconds, most = {}, 0
+            for task, answer in (("a", [0, pieces * rows]), ("f", [pieces, pieces * rows]), ("d", [0, 0])):
+                runs = [processor_run(INDEX, [], (task + form + size).encode()) for _ in range(3)]
+                if any([int(word) for word in output.split()] != answer for _, _, output in runs):
+                    sys.exit(f"{INDEX} answered {runs[0][2]}")
+                seconds[task] = min(taken for taken, _, _ in runs)
+                most = max([most] + [memory for _, memory, _ in runs])
+            each = [seconds["a"], seconds["f"] - seconds["a"], seconds["d"] - seconds["a"]]
+            label = f"{objects} objects, {windows} windows, {rows} rows"
+            figures = " ".join(f"{taken / pieces * 1e9:8.0f}" for taken in each)
+            print(f"{label:34} {pieces:8d} {figures} {most:6.1f}")
 
 
 def turns():
     print(f"{'turns':34} {'seconds':>8} {'us each':>8}")
-    for threads, each in ((1, 400000), (4, 20000), (16, 5000)):
+    for threads, each in ((1, 1000000), (4, 200000), (16, 20000)):
         output = run(TURNS, [str(threads), str(each)], b"")[2]
         micros = int(output.split()[1])
         label = f"{threads} threads, {each} turns each"

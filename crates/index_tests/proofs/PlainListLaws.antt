@@ -8,14 +8,6 @@ use Rattle.cal_model.specs.Pieces.PieceLists.{is_piece_of, is_other_piece, is_pi
 drop_at : (ps : List Piece) (i : ℕ) (p : Piece) → i < length ps → p ≡ get_or ps i p → drop i ps ≡ p ∷ drop (i + 1) ps
 drop_at ps i p within is = drop_more ps i p within ∙ ap (λ q. q ∷ drop (i + 1) ps) (sym is)
 
-pub rows_found_at : (o : ℕ) (w : ℤ) (ps : List Piece) (i : ℕ) (p : Piece) → i < length ps → p ≡ get_or ps i p → is_piece_at o w p ≡ true → rows_at o w (drop i ps) ≡ Some p.rows
-rows_found_at o w ps i p within is same =
-    ap (rows_at o w) (drop_at ps i p within is) ∙ ap (λ b. if b then Some p.rows else rows_at o w (drop (i + 1) ps)) same
-
-pub rows_passed_at : (o : ℕ) (w : ℤ) (ps : List Piece) (i : ℕ) (p : Piece) → i < length ps → p ≡ get_or ps i p → is_piece_at o w p ≡ false → rows_at o w (drop i ps) ≡ rows_at o w (drop (i + 1) ps)
-rows_passed_at o w ps i p within is other =
-    ap (rows_at o w) (drop_at ps i p within is) ∙ ap (λ b. if b then Some p.rows else rows_at o w (drop (i + 1) ps)) other
-
 pub rows_in_filter_le : (q : Piece → Bool) (ps : List Piece) → rows_in (filter q ps) ≤ rows_in ps
 rows_in_filter_le q [] = omega arith
 rows_in_filter_le q (p ∷ ps) =

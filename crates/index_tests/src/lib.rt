@@ -4,6 +4,5 @@
 #![tactic(auto)]
 
 mod plain_list;
-
 #[cfg(test)]
 mod tests;

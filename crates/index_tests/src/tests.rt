@@ -173,7 +173,17 @@ fn the_index_answers_as_the_plain_list(rt: HostRuntime) -> Result<(), Fail> {
     let alloc = rt.alloc();
     let mut index = Index::new(alloc, 12);
     let mut list = PlainList::new(alloc, 12);
-    let pairs = [(1, -1), (1, 0), (1, 1), (2, -1), (2, 0), (2, 1), (3, -1), (3, 0), (3, 1)];
+    let pairs = [
+        (1, -1),
+        (1, 0),
+        (1, 1),
+        (2, -1),
+        (2, 0),
+        (2, 1),
+        (3, -1),
+        (3, 0),
+        (3, 1),
+    ];
     // An object, a window and how many rows; then the object that is dropped, or 0.
     let calls = [
         (1, 0, 4, 0),
@@ -197,7 +207,10 @@ fn the_index_answers_as_the_plain_list(rt: HostRuntime) -> Result<(), Fail> {
     let mut done = 0u32;
     for (origin, window, count, dropped) in calls {
         let added = add(alloc, &mut index, origin, window, count)?;
-        assert_eq!(rt; added, add_plainly(alloc, &mut list, origin, window, count)?);
+        assert_eq!(rt;
+            added,
+            add_plainly(alloc, &mut list, origin, window, count)?
+        );
         if added == Adding::Done {
             done = done.wrapping_add(1);
         }

@@ -6,9 +6,6 @@ use Rattle.cal_model.specs.declared.piece.Piece.{Piece}
 use Rattle.piece_index.specs.Chains.{first, without, IsAbsent, IsApart, IsPath}
 use Rattle.piece_index.specs.Entries.{keys, is_of, keys_of, piece_of, removed, walk, or_else}
 
-pub removed_here : (k : ℕ) (p : Piece) (es : List (ℕ × Piece)) → removed k ((k, p) ∷ es) ≡ es
-removed_here k p es = grind arith
-
 pub removed_else : (k : ℕ) (e : ℕ × Piece) (es : List (ℕ × Piece)) → e.0 ≢ k → removed k (e ∷ es) ≡ e ∷ removed k es
 removed_else k e es far = grind arith
 

@@ -51,27 +51,12 @@ module _ (nodes : Slab Node) (window : ℤ) (k : ℕ) where
       let on : rows_of_window window (filter_map (entry_at nodes) (k ∷ walk (slab_len nodes) (next nodes) (next nodes k))) ≡ (if int_eq node.piece.window window then Some node.piece.rows else rows_of_window window (entries_from nodes node.next)) = rw found refl in
       ap (λ ks. rows_of_window window (filter_map (entry_at nodes) ks)) e ∙ on
 
-  pub rows_missing : get nodes k ≡ None → IsWalked (next nodes) (slab_len nodes) (Some k) → rows_of_window window (entries_from nodes (Some k)) ≡ None
-  rows_missing missing w =
-      let e = walk_on (next nodes) (slab_len nodes) k w in
-      let rest = (walked_on (next nodes) (slab_len nodes) k w).start in
-      let ended : next nodes k ≡ None = ap (option_and_then (λ (n : Node). n.next)) missing in
-      let on : rows_of_window window (filter_map (entry_at nodes) (k ∷ walk (slab_len nodes) (next nodes) (next nodes k))) ≡ None = rw (ended, walk_end (next nodes) (slab_len nodes), missing) refl in
-      ap (λ ks. rows_of_window window (filter_map (entry_at nodes) ks)) e ∙ on
-
   -- the walk from the next one on is shorter
   pub walk_shorter : IsWalked (next nodes) (slab_len nodes) (Some k) → length (walk (slab_len nodes) (next nodes) (next nodes k)) < length (walk (slab_len nodes) (next nodes) (Some k))
   walk_shorter w = omega (arith, ap length (walk_on (next nodes) (slab_len nodes) k w))
 
 pub rows_at_end : (nodes : Slab Node) (window : ℤ) → rows_of_window window (entries_from nodes None) ≡ None
 rows_at_end nodes window = ap (λ ks. rows_of_window window (filter_map (entry_at nodes) ks)) (walk_end (next nodes) (slab_len nodes))
-
-pub int_eq_false : (x y : ℤ) → x ≢ y → int_eq x y ≡ false
-int_eq_false x y far = by_test (int_eq x y) (λ yes. far ((Decides-int_eq x y).0 yes))
-  where
-    by_test : (b : Bool) → (b ≡ true → ⊥) → b ≡ false
-    by_test true never = absurd (never refl)
-    by_test false never = refl
 
 -- What an index gives
 
