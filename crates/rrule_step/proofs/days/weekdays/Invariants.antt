@@ -1,0 +1,9 @@
+use Rattle.std.proofs.Common.{◌≡◌, ℕ, ◌+◌, ◌*◌, ◌<◌, ◌==◌, false, nat_lt}
+use Rattle.std.specs.Prelude.{if◌then◌else◌}
+use Rattle.cal_moment.specs.Calendar.{weekday_of}
+use Rattle.rrule_step.specs.Sets.{has}
+use Rattle.rrule_step.proofs.days.weekdays.Given as goal
+
+-- the days of the weeks so far
+abbrev pub invariant-loop-week : goal.invariant-loop-week
+invariant-loop-week l = (i : ℕ) → i < 31 → has l.set i ≡ (if nat_lt i (l.at + 7 * l.week) then weekday_of (l.first + i) == l.weekday else false)

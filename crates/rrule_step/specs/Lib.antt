@@ -1,0 +1,6 @@
+pub mod Sets
+pub mod Firsts
+pub mod Clock
+pub mod StartMoment
+pub mod Periods
+pub mod Plans

@@ -1,0 +1,150 @@
+//! BYWEEKNO: the weeks of the year that touch a month, each tested once (RFC 5545, 3.3.10).
+ghost use Rattle.std.specs.Prelude.{◌≡◌, ◌≢◌, ℕ, ◌+◌, ◌-◌, ◌*◌, ◌/◌, ◌%◌, ◌<◌, ◌≤◌, ◌==◌, true, false, if◌then◌else◌};
+ghost use Rattle.cal_moment.specs.Calendar as cal;
+ghost use Rattle.cal_model.specs.Recurrence.NextPassing.{IsUsable};
+ghost use Rattle.cal_model.specs.Recurrence.Passing as spec;
+ghost use Rattle.cal_model.specs.Words.Numbers as numbers;
+ghost use Rattle.rrule_step.specs.Sets.{has};
+
+use crate::month::{Month, first_of_year, weekday_of};
+use crate::set::Set;
+use cal_base::List;
+use cal_model::Rule;
+
+/// Whether a written number names a place, from the front or, where it is negative, from the end.
+fn names_place(place: u32, size: u32, number: i16) -> bool
+    requires { place ≤ 1000 }
+    ensures { result ≡ numbers.names_place place size number }
+{
+    if number >= 0 {
+        number as u32 == place
+    } else {
+        place + (-(number as i32 + 1)) as u32 == size
+    }
+}
+
+/// Whether one of the written numbers names a place.
+fn some_names_place(part: &List<i16>, place: u32, size: u32) -> bool
+    requires { place ≤ 1000 }
+    ensures { result ≡ numbers.some_names_place part.now place size }
+{
+    part.iter().any(|n| names_place(place, size, *n))
+}
+
+/// The fourth day of the first week of a year, where weeks begin on that weekday.
+fn first_fourth_day(week_start: u8, year: u32) -> u32
+    requires week { week_start < 7 }
+    requires year { year ≤ 10_001 }
+    ensures value { result ≡ spec.first_fourth_day week_start year }
+    ensures bound { result ≤ 3_652_800 }
+    ensures from { cal.first_of_year year ≤ result }
+    ensures first_week { result < cal.first_of_year year + 7 }
+{
+    let first = first_of_year(year);
+    first + (week_start as u32 + 10 - (first + 5) % 7) % 7
+}
+
+/// The fourth day of a day's week: the year to which it belongs is the week's.
+fn fourth_day(week_start: u8, day: u32) -> u32
+    requires week { week_start < 7 }
+    requires day { (366 ≤ day) × (day < 3_652_420) }
+    ensures value { result ≡ spec.fourth_day week_start day }
+    ensures near { (day ≤ result + 3) × (result ≤ day + 3) }
+{
+    day - (weekday_of(day) + 7 - week_start as u32) % 7 + 3
+}
+
+/// The year of a day that lies at most three days outside a year.
+fn near_year(year: u32, day: u32) -> u32
+    requires year { (1 ≤ year) × (year ≤ 2101) }
+    requires from { cal.first_of_year year ≤ day + 3 }
+    requires to { day < cal.first_of_year (year + 1) + 3 }
+    ensures value { result ≡ cal.year_of day }
+    ensures bound { result ≤ 2102 }
+    ensures last { day < cal.first_of_year (result + 1) }
+{
+    if day < first_of_year(year) {
+        year - 1
+    } else if day < first_of_year(year + 1) {
+        year
+    } else {
+        year + 1
+    }
+}
+
+/// Whether a day of a year lies in one of the weeks of BYWEEKNO.
+fn week_passes(rule: &Rule, year: u32, day: u32) -> bool
+    requires rule { IsUsable rule.now }
+    requires some { (numbers.is_empty rule.now.by_week) ≡ false }
+    requires bounds { (1 ≤ year) × (year ≤ 2101) }
+    requires from { cal.first_of_year year ≤ day }
+    requires to { day < cal.first_of_year (year + 1) }
+    ensures { result ≡ spec.week_passes rule.now day }
+{
+    let fourth = fourth_day(rule.week_start, day);
+    let year = near_year(year, fourth);
+    let first = first_fourth_day(rule.week_start, year);
+    let weeks = (first_of_year(year + 1) - 1 - first) / 7 + 1;
+    let week = fourth.saturating_sub(first) / 7 + 1;
+    some_names_place(&rule.by_week, week, weeks)
+}
+
+/// Whether a week begins on a day, or is the first that a month has.
+fn begins(week_start: u8, place: u32, day: u32) -> bool
+    requires { day < 3_652_425 }
+    ensures { result ≡ false → (0 < place) × (cal.weekday_of day ≢ week_start) }
+{
+    place == 0 || weekday_of(day) == week_start as u32
+}
+
+/// Whether a day of a month lies in one of the weeks of BYWEEKNO: a week is tested at its first day
+/// there, and its later days are as the day before them.
+fn week_passes_at(rule: &Rule, month: &Month, place: u32, before: bool) -> bool
+    requires rule { IsUsable rule.now }
+    requires some { (numbers.is_empty rule.now.by_week) ≡ false }
+    requires place { place < month.now.size }
+    requires before { 0 < place → before ≡ spec.week_passes rule.now (month.now.first + place - 1) }
+    ensures { result ≡ spec.week_passes rule.now (month.now.first + place) }
+{
+    let day = month.first + place;
+    if begins(rule.week_start, place, day) {
+        week_passes(rule, month.year, day)
+    } else {
+        before
+    }
+}
+
+/// A set with one number more, where it is asked for.
+fn with_if(set: Set, number: u32, asked: bool) -> Set
+    requires { number < 64 }
+    ensures { (i : ℕ) → i < 64 → has result i ≡ (if i == number then (if asked then true else has set i) else has set i) }
+{
+    if asked { set.with(number) } else { set }
+}
+
+/// The days of a month in the weeks of BYWEEKNO.
+fn named_weeks(rule: &Rule, month: &Month) -> Set
+    requires rule { IsUsable rule.now }
+    requires some { (numbers.is_empty rule.now.by_week) ≡ false }
+    ensures { (i : ℕ) → i < month.now.size → has result i ≡ spec.week_passes rule.now (month.now.first + i) }
+{
+    let mut set = Set::none();
+    let mut passes = false;
+    for i in 0..month.size {
+        passes = week_passes_at(rule, month, i, passes);
+        set = with_if(set, i, passes);
+    }
+    set
+}
+
+/// BYWEEKNO.
+pub fn week_days(rule: &Rule, month: &Month) -> Set
+    requires rule { IsUsable rule.now }
+    ensures { (i : ℕ) → i < month.now.size → has result i ≡ spec.week_passes rule.now (month.now.first + i) }
+{
+    if rule.by_week.is_empty() {
+        Set::all()
+    } else {
+        named_weeks(rule, month)
+    }
+}
