@@ -19,17 +19,16 @@ fn zones(alloc: Global) -> Result<ZoneNames, NoMemory> {
     ZoneNames::of(alloc, &list)
 }
 
-const fn local(day: i32, second: u32) -> Local {
-    Local { day, second }
-}
-
 /// Lines of one stamp: name, parameters and value.
 const LINES: [(&[u8], &[(&[u8], &[u8])], &[u8], Result<Stamp, u64>); 20] = [
     (
         b"DTSTART",
         &[],
         b"19980118T230000",
-        Ok(Stamp::Floating(local(10_244, 82_800))),
+        Ok(Stamp::Floating(Local {
+            day: 10_244,
+            second: 82_800,
+        })),
     ),
     (
         b"DTSTART",
@@ -41,7 +40,13 @@ const LINES: [(&[u8], &[(&[u8], &[u8])], &[u8], Result<Stamp, u64>); 20] = [
         b"DTSTART",
         &[(b"TZID", NEW_YORK)],
         b"19980119T020000",
-        Ok(Stamp::Zoned(local(10_245, 7_200), 1)),
+        Ok(Stamp::Zoned(
+            Local {
+                day: 10_245,
+                second: 7_200,
+            },
+            1,
+        )),
     ),
     (
         b"DTSTART",
@@ -53,7 +58,13 @@ const LINES: [(&[u8], &[(&[u8], &[u8])], &[u8], Result<Stamp, u64>); 20] = [
         b"DTSTART",
         &[(b"TZID", b"")],
         b"19980119T020000",
-        Ok(Stamp::Zoned(local(10_245, 7_200), 2)),
+        Ok(Stamp::Zoned(
+            Local {
+                day: 10_245,
+                second: 7_200,
+            },
+            2,
+        )),
     ),
     (
         b"DTSTART",
@@ -132,7 +143,13 @@ fn unknown_zones_have_the_number_behind_the_last(rt: HostRuntime) -> Result<(), 
         &[(b"TZID", b"Nowhere")],
         b"19980119T020000",
     )?;
-    let stamp = Stamp::Zoned(local(10_245, 7_200), 4);
+    let stamp = Stamp::Zoned(
+        Local {
+            day: 10_245,
+            second: 7_200,
+        },
+        4,
+    );
     assert_eq!(rt; read_stamp(&line, &zones), Ok(stamp));
     let stamps = read_stamps_of_any_zone(rt.alloc(), &line, &zones)
         .ok()

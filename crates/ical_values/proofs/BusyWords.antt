@@ -1,5 +1,5 @@
 -- Texts that are none of the words of FBTYPE.
-use Rattle.std.proofs.Common.{◌≡◌, ℕ, Bool, true, false, if◌then◌else◌, List, bytes_eq, codes, Option, Some, None, option_map, refl, sym, subst, ◌∙◌, inl, inr}
+use Rattle.std.proofs.Common.{◌≡◌, ℕ, Bool, true, false, if◌then◌else◌, List, bytes_eq, codes, Option, Some, None, option_map, sym, subst, ◌∙◌, inl, inr}
 use Rattle.std.proofs.lemmas.Bool.{cases_Bool, false≢true}
 use Rattle.cal_base.specs.Texts.Text.{raised_all}
 use Rattle.cal_model.specs.declared.object.Class.{Class}

@@ -1,6 +1,6 @@
 -- Stamps that are read in one of the forms: they have no comma, and where they are bad.
-use Rattle.std.proofs.Common.{◌≡◌, ◌≢◌, ℕ, zero, suc, ◌+◌, ◌/◌, ◌%◌, ◌^◌, ◌<◌, ◌≤◌, Bool, true, false, ◌||◌, ◌==◌, if◌then◌else◌, List, [], ◌∷◌, ◌++◌, length, take, codes, Option, Some, None, option_map, refl, sym, ap, ap₂, subst, ◌∙◌, arith, inl, inr, append_assoc}
-use Rattle.std.proofs.lemmas.Bool.{cases_Bool, ne_eqb, eqb-true}
+use Rattle.std.proofs.Common.{◌≡◌, ℕ, zero, suc, ◌%◌, ◌^◌, ◌<◌, ◌≤◌, Bool, true, false, ◌||◌, ◌==◌, if◌then◌else◌, List, [], ◌∷◌, ◌++◌, length, take, codes, Option, Some, None, option_map, refl, sym, ap, subst, ◌∙◌, arith, inl, inr, append_assoc}
+use Rattle.std.proofs.lemmas.Bool.{cases_Bool, ne_eqb}
 use Rattle.std.proofs.lemmas.List.{length-append}
 use Rattle.cal_base.specs.declared.line.Line.{Line}
 use Rattle.cal_moment.specs.BadPlace.{IsIn, BeginsOne, IsBadAt}
@@ -12,7 +12,7 @@ use Rattle.cal_model.specs.Values.ValueTexts.{date_of, date_time_of, utc_of_loca
 use Rattle.cal_model.specs.Values.BadValues.{Reads}
 use Rattle.cal_model.specs.Values.StampTexts.{param_is, is_one_of, utc_names, line_zone, stamp_of, date_or_time, time_stamp, utc_stamp}
 use Rattle.cal_model.proofs.Values.CutLemmas.{option_map_some, Lacks, lacks-append}
-use Rattle.cal_model.proofs.Values.ValueLaws.{date_of-SpellsDate, SpellsDate-date_of, date_time_of-SpellsDateTime, SpellsDateTime-date_time_of}
+use Rattle.cal_model.proofs.Values.ValueLaws.{SpellsDate-date_of, date_time_of-SpellsDateTime, SpellsDateTime-date_time_of}
 use Rattle.ical_values.specs.declared.stamps.TimeForm.{TimeForm}
 use Rattle.ical_values.specs.declared.stamps.TimeForm.TheVariants.{Utc, Local as InZone}
 use Rattle.ical_values.specs.declared.stamps.StampForm.{StampForm}

@@ -1,14 +1,14 @@
 -- Lists of values that commas join: the place of a bad list is that of its first bad item.
-use Rattle.std.proofs.Common.{◌≡◌, ℕ, suc, ◌+◌, ◌-◌, ◌<◌, ◌≤◌, List, [], ◌∷◌, ◌++◌, length, map, take, drop, Option, Some, None, option_map, refl, sym, ap, ap₂, subst, ◌∙◌, arith, inl, inr, append_assoc}
+use Rattle.std.proofs.Common.{◌≡◌, ℕ, suc, ◌+◌, ◌-◌, ◌<◌, List, [], ◌∷◌, ◌++◌, length, map, take, drop, Option, Some, option_map, sym, ap, ap₂, subst, ◌∙◌, arith, inl, inr, append_assoc}
 use Rattle.std.proofs.Math.Seq.{take-append-add}
 use Rattle.std.proofs.lemmas.Bool.{cases_lt}
-use Rattle.std.proofs.lemmas.List.{length-append, append-nil, take-append-le, take-append-drop}
+use Rattle.std.proofs.lemmas.List.{length-append, take-append-le, take-append-drop}
 use Rattle.cal_base.specs.Lines.ContentLines.{pieces, every}
 use Rattle.cal_moment.specs.BadPlace.{IsIn, BeginsOne, IsBadAt}
 use Rattle.cal_model.specs.Values.BadValues.{Reads}
 use Rattle.cal_model.specs.Values.RuleTexts.{list_of}
 use Rattle.cal_model.proofs.Values.BadValueLaws.{joined, first_piece, pieces-append, pieces-lacks, begins-take}
-use Rattle.cal_model.proofs.Values.CutLemmas.{Lacks, cut-append, option_map_some}
+use Rattle.cal_model.proofs.Values.CutLemmas.{Lacks, cut-append}
 use Rattle.cal_model.proofs.Values.ListFronts.{every-cons}
 use Rattle.ical_values.proofs.CutTexts.{pieces_at}
 

@@ -1,5 +1,5 @@
 -- Places of values that are made of read ones.
-use Rattle.std.proofs.Common.{◌≡◌, ℕ, List, Option, Some, option_map, ap, ◌∙◌}
+use Rattle.std.proofs.Common.{ℕ, List, Option, option_map, ap}
 use Rattle.cal_moment.specs.BadPlace.{IsBadAt}
 use Rattle.cal_model.specs.Values.BadValues.{Reads}
 use Rattle.cal_model.proofs.Values.BadValueLaws.{bad_by_same}

@@ -1,10 +1,9 @@
 -- What a TRIGGER says, by its parameter VALUE.
-use Rattle.std.proofs.Common.{◌≡◌, ℕ, Bool, true, false, if◌then◌else◌, List, codes, Option, Some, option_map, refl, sym, ap, ◌∙◌}
+use Rattle.std.proofs.Common.{◌≡◌, ℕ, Bool, true, false, if◌then◌else◌, List, codes, Some, option_map, sym, ap, ◌∙◌}
 use Rattle.cal_base.specs.declared.line.Line.{Line}
 use Rattle.cal_moment.specs.BadPlace.{IsBadAt}
 use Rattle.cal_moment.specs.declared.stamp.Length.{Length}
 use Rattle.cal_moment.specs.declared.stamp.Utc.{Utc}
-use Rattle.cal_model.specs.declared.object.Trigger.{Trigger}
 use Rattle.cal_model.specs.declared.object.Trigger.TheVariants.{At, From}
 use Rattle.cal_model.specs.Values.BadValues.{Reads}
 use Rattle.cal_model.specs.Values.StampTexts.{param_is, related_of, trigger_of}

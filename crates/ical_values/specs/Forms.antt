@@ -1,5 +1,5 @@
 -- How the stamps and the periods of a line are read, once its name and its parameters are known.
-use Rattle.std.specs.Prelude.{ℕ, Bool, true, ◌&&◌, ◌==◌, nat_lt, if◌then◌else◌, List, [], ◌∷◌, length, Option, Some, option_map}
+use Rattle.std.specs.Prelude.{ℕ, Bool, true, ◌&&◌, ◌==◌, nat_lt, if◌then◌else◌, List, [], ◌∷◌, length, Option, option_map}
 use Rattle.cal_base.specs.declared.line.Line.{Line}
 use Rattle.cal_moment.specs.declared.stamp.Local.{Local}
 use Rattle.cal_moment.specs.declared.stamp.Period.{Period}
@@ -8,7 +8,7 @@ use Rattle.cal_moment.specs.declared.stamp.PeriodEnd.TheVariants.{At as EndAt, A
 use Rattle.cal_moment.specs.declared.stamp.Stamp.{Stamp}
 use Rattle.cal_moment.specs.declared.stamp.Stamp.TheVariants.{Date as AtDate, Floating, Zoned, Utc as AtUtc}
 use Rattle.cal_model.specs.Values.ValueTexts.{date_of, date_time_of, utc_of_local}
-use Rattle.cal_model.specs.Values.StampTexts.{stamp_of, stamp_of_time, period_of, period_with}
+use Rattle.cal_model.specs.Values.StampTexts.{stamp_of, stamp_of_time, period_with}
 use Rattle.ical_values.specs.declared.stamps.TimeForm.{TimeForm}
 use Rattle.ical_values.specs.declared.stamps.TimeForm.TheVariants.{Utc, Local as InZone}
 use Rattle.ical_values.specs.declared.stamps.StampForm.{StampForm}

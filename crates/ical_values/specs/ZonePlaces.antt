@@ -1,5 +1,5 @@
 -- The numbers of zones in an ordered map: each name has that of its first place.
-use Rattle.std.specs.Prelude.{◌≡◌, ℕ, Bool, true, false, if◌then◌else◌, List, bytes_eq, Option, Some, None}
+use Rattle.std.specs.Prelude.{◌≡◌, ℕ, Bool, if◌then◌else◌, List, bytes_eq, Option, Some, None}
 use Rattle.std.specs.List.{position}
 use Rattle.cal_base.specs.Lists.NameMap.{Named, value_at}
 

@@ -1,4 +1,4 @@
-use Rattle.std.proofs.Common.{◌≡◌, ◌≤◌, ◌+◌, ◌*◌, length, arith, sym}
+use Rattle.std.proofs.Common.{◌≡◌, ◌≤◌, length, arith, sym}
 use borrow.Author.Tests.{false-eqb, true-eqb}
 use Rattle.ical_values.proofs.Counts.{no_count_of_length, no_count_at, count_whole, digit_fits, next_digit, more_digits}
 use Rattle.ical_values.proofs.numbers.read_count.Goals as goal

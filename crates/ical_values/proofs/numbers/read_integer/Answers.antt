@@ -1,4 +1,4 @@
-use Rattle.std.proofs.Common.{◌≡◌, arith, sym, ap, ap₂, ◌∙◌, Some, FitsSigned, w32, to_z-of_z}
+use Rattle.std.proofs.Common.{arith, sym, ap, ◌∙◌, Some, FitsSigned, w32, to_z-of_z}
 use Rattle.std.proofs.lemmas.Int.{ints}
 use Rattle.cal_moment.specs.Texts.{signed}
 use Rattle.cal_model.specs.Values.ValueTexts.{count_of}

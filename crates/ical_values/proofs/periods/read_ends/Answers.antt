@@ -1,4 +1,4 @@
-use Rattle.std.proofs.Common.{◌+◌, ◌∷◌, ◌++◌, List, ℕ, length, arith, sym, subst}
+use Rattle.std.proofs.Common.{◌+◌, List, ℕ, length, arith, sym, subst}
 use Rattle.cal_moment.specs.BadPlace.{IsBadAt}
 use Rattle.cal_model.specs.Values.BadValues.{Reads}
 use Rattle.cal_model.proofs.Values.CutLemmas.{cut-some}

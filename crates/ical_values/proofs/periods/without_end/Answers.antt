@@ -1,5 +1,4 @@
-use Rattle.std.proofs.Common.{ℕ, List, arith}
-use Rattle.cal_moment.specs.BadPlace.{IsIn}
+use Rattle.std.proofs.Common.{arith}
 use Rattle.ical_values.specs.Forms.{time_by}
 use Rattle.ical_values.proofs.FormPlaces.{time_by-lacks}
 use Rattle.ical_values.proofs.ListReading.{no_cut-lacks}

@@ -1,4 +1,4 @@
-use Rattle.std.proofs.Common.{sym, ap, ◌∙◌}
+use Rattle.std.proofs.Common.{sym, ◌∙◌}
 use Rattle.ical_values.proofs.Triggers.{trigger_at, trigger_from, bad_trigger_at, bad_trigger_from}
 use Rattle.ical_values.proofs.single.read_trigger.Goals as goal
 

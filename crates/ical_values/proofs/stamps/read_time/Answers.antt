@@ -1,4 +1,4 @@
-use Rattle.std.proofs.Common.{Bool, Some, option_map, sym, ap, ◌∙◌}
+use Rattle.std.proofs.Common.{Some, option_map, sym, ap, ◌∙◌}
 use Rattle.cal_model.specs.Values.ValueTexts.{date_time_of}
 use Rattle.cal_model.proofs.Values.ValueLaws.{date_time_of-SpellsDateTime}
 use Rattle.cal_model.proofs.Values.ValuePlaces.{bad_date_time}
