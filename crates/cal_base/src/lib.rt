@@ -61,8 +61,3 @@ pub use system_clock::SystemClock;
 pub use tcp::{TcpDoor, TcpLink};
 pub use text::{Name, Word};
 pub use whole::{ReadEnd, read_up_to, send_all, write_all};
-
-#[cfg(test)]
-mod outside_tests;
-#[cfg(test)]
-mod tests;

@@ -22,8 +22,6 @@ pub mod rule;
 pub mod rules;
 pub mod selection;
 pub mod store;
-#[cfg(test)]
-mod tests;
 pub mod zone;
 mod zone_time;
 
