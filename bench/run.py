@@ -1,13 +1,16 @@
 #!/usr/bin/env python3
 """Times the programs over generated input, and prints the figures. It needs Python 3, and Debian's package `time` for the memory.
 
-Build the programs once before: `rt run` in crates/caldav_server and in crates/lines_bench.
+Build the programs once before: `rt run` in crates/caldav_server, lines_bench, index_bench and turns_bench. Words name the
+parts that are to run (scripts, lines, index, turns); without a word all do.
 """
 import os, subprocess, sys, tempfile, time
 
 TOP = os.path.dirname(os.path.dirname(os.path.abspath(__file__)))
 SERVER = os.path.join(TOP, "crates/caldav_server/out/caldav_server")
 LINES = os.path.join(TOP, "crates/lines_bench/out/lines_bench")
+INDEX = os.path.join(TOP, "crates/index_bench/out/index_bench")
+TURNS = os.path.join(TOP, "crates/turns_bench/out/turns_bench")
 USERS = b"user alice ba7816bf8f01cfea414140de5dae2223b00361a396177a9cb410ff61f20015ad\n"
 
 
@@ -109,8 +112,43 @@ def lines():
             print(f"{name:34} {len(text):8d} {best:8.4f} {best / len(text) * 1e9:9.1f}  {answer}")
 
 
-for program in (SERVER, LINES):
-    if not os.path.exists(program):
-        sys.exit(f"{program} is not built: run `rt run` in its crate's folder first")
-scripts()
-lines()
+def index():
+    print(f"{'index':34} {'add':>8} {'find':>8} {'miss':>8} {'drop':>8} {'MiB':>6}  ns a piece, of a miss an object")
+    for pieces in (10000, 100000):
+        for windows in (1, 5, 50):
+            for rows in (0, 60):
+                objects = pieces // windows
+                best, most = None, 0
+                for _ in range(3):
+                    _, memory, output = run(INDEX, [str(objects), str(windows), str(rows)], b"")
+                    told = [line.split() for line in output.decode().splitlines()]
+                    if [int(line[1]) for line in told] != [pieces, pieces, 0, 0]:
+                        sys.exit(f"{INDEX} answered {told}")
+                    taken = [int(line[2]) for line in told]
+                    best = taken if best is None else [min(a, b) for a, b in zip(best, taken)]
+                    most = max(most, memory)
+                each = [1000 * micros / count for micros, count in zip(best, (pieces, pieces, objects, pieces))]
+                label = f"{objects} objects, {windows} windows, {rows} rows"
+                print(f"{label:34} {each[0]:8.0f} {each[1]:8.0f} {each[2]:8.0f} {each[3]:8.0f} {most:6.1f}")
+
+
+def turns():
+    print(f"{'turns':34} {'seconds':>8} {'us each':>8}")
+    for threads, each in ((1, 400000), (4, 20000), (16, 5000)):
+        output = run(TURNS, [str(threads), str(each)], b"")[2]
+        micros = int(output.split()[1])
+        label = f"{threads} threads, {each} turns each"
+        print(f"{label:34} {micros / 1e6:8.3f} {micros / (threads * each):8.3f}")
+
+
+PARTS = {
+    "scripts": (scripts, SERVER), "lines": (lines, LINES), "index": (index, INDEX), "turns": (turns, TURNS),
+}
+chosen = sys.argv[1:] or list(PARTS)
+for name in chosen:
+    if name not in PARTS:
+        sys.exit(f"no part {name}: there are {', '.join(PARTS)}")
+    if not os.path.exists(PARTS[name][1]):
+        sys.exit(f"{PARTS[name][1]} is not built: run `rt run` in its crate's folder first")
+for name in chosen:
+    PARTS[name][0]()

@@ -8,13 +8,19 @@
 #![tactic(auto)]
 
 #[cfg(test)]
+mod door_threads;
+#[cfg(test)]
 mod lines;
+#[cfg(test)]
+mod link_times;
 #[cfg(test)]
 mod moments;
 #[cfg(test)]
 mod objects;
 #[cfg(test)]
 mod outside;
+#[cfg(test)]
+mod stacks;
 #[cfg(test)]
 mod streams;
 #[cfg(test)]

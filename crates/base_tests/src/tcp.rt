@@ -91,7 +91,7 @@ fn a_link_sets_its_time_out(rt: HostRuntime) -> Result<(), Fail> {
     let twin = stream.try_clone()?;
     let time = Some(Duration::from_secs(LINK_TIMEOUT_SECONDS));
     assert!(rt; !has_options(&twin, time)?);
-    let _link = TcpLink::new(stream);
+    let _link = TcpLink::new(&rt, stream);
     assert!(rt; has_options(&twin, time)?);
     Ok(())
 }

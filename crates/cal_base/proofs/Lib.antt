@@ -1,4 +1,5 @@
 pub mod Lists
+pub mod Texts
 pub mod World
 pub mod Lines
 pub mod Xml

@@ -1,6 +1,7 @@
 //! A reader or writer of the standard library, with the counts that the traits of streams ask for.
-ghost use Rattle.std.specs.Prelude.{◌≡◌, ◌<◌, ◌≤◌, ◌^◌, [], false, length, Some, None, if◌then◌else◌, IfOk, OnErr};
+ghost use Rattle.std.specs.Prelude.{◌≡◌, ◌<◌, ◌≤◌, ◌^◌, [], length, Some, None, if◌then◌else◌, IfOk, OnOk, OnErr};
 ghost use Rattle.cal_base.specs.World.Outside.{Rose};
+ghost use Rattle.cal_base.specs.World.Adapter.{new_stream};
 
 use crate::failed::Failed;
 use crate::stream::Source;
@@ -34,7 +35,7 @@ impl<T> Model for CountedStream<T> {
 impl<T> CountedStream<T> {
     /// A stream of which nothing was asked yet.
     pub(crate) fn new(stream: T) -> CountedStream<T>
-        ensures { result ≡ record { faults = 0; allowance = 2 ^ 62; ended = false } }
+        ensures { result ≡ new_stream }
     {
         CountedStream {
             stream,
@@ -42,6 +43,11 @@ impl<T> CountedStream<T> {
             faults: 0,
             ended: false,
         }
+    }
+
+    /// The stream itself.
+    pub(crate) fn stream(&self) -> &T {
+        &self.stream
     }
 
     /// Counts a failed call.
@@ -85,6 +91,7 @@ impl<T: Write> CountedStream<T> {
     /// Writes the front of a piece and flushes.
     pub(crate) fn write(&mut self, piece: &[u8]) -> Result<usize, Failed>
         ensures failed { OnErr result (Rose self.old.faults self.new.faults) }
+        ensures uncounted { OnOk result (self.new.faults ≡ self.old.faults) }
         ensures never_falls { self.old.faults ≤ self.new.faults }
         ensures allowance_kept { self.new.allowance ≡ self.old.allowance }
         ensures ended_kept { self.new.ended ≡ self.old.ended }
@@ -100,7 +107,7 @@ impl<T: Write> CountedStream<T> {
 
 /// Writes the front of a piece and flushes. It is a failure, which the caller counts, where either
 /// fails, and where nothing was taken of a piece that is not empty.
-pub(crate) fn write_some<W: Write>(writer: &mut W, piece: &[u8]) -> Result<usize, Failed>
+fn write_some<W: Write>(writer: &mut W, piece: &[u8]) -> Result<usize, Failed>
     ensures within { IfOk result (λ n. n ≤ length piece.now) }
     ensures some { IfOk result (λ n. 0 < length piece.now → 0 < n) }
 {

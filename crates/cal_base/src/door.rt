@@ -14,11 +14,12 @@ pub trait Gate {
     fn pass<R: Wait>(&self, rt: &R, number: u64);
 }
 
-/// Connections come through it.
-pub trait Door: Sized + Send {
-    type Link: Link;
+/// Connections come through it. A door, its links and its clocks may go to another thread, and may
+/// be let go at any time.
+pub trait Door: Sized + Send + Drop {
+    type Link: Link + Send + Drop;
 
-    type Clock: Clock;
+    type Clock: Clock + Send + Drop;
 
     /// How many of its calls failed. It never falls.
     ghost faults: { Self → ℕ };

@@ -3,7 +3,7 @@
 use crate::list::{List, Octets};
 
 /// An attribute that declares no namespace.
-#[derive(Clone, Drop, PartialEq, Eq)]
+#[derive(Drop)]
 pub struct Attr {
     /// The namespace, empty for none.
     pub space: Octets,
@@ -14,7 +14,7 @@ pub struct Attr {
 }
 
 /// What stands in an element.
-#[derive(Drop, PartialEq, Eq)]
+#[derive(Drop)]
 #[cycle(element)]
 pub enum Item {
     /// An element.
@@ -24,7 +24,7 @@ pub enum Item {
 }
 
 /// An element.
-#[derive(Drop, PartialEq, Eq)]
+#[derive(Drop)]
 #[cycle(element)]
 pub struct Element {
     /// The namespace, empty for none.

@@ -4,7 +4,7 @@ use crate::list::{List, Octets};
 use crate::text::Name;
 
 /// A parameter of a line with its values in order. Quotes are no part of a value.
-#[derive(Clone, Drop, PartialEq, Eq)]
+#[derive(Drop, PartialEq)]
 pub struct Param {
     /// The name, in upper case.
     pub name: Name,
@@ -13,7 +13,7 @@ pub struct Param {
 }
 
 /// A content line.
-#[derive(Clone, Drop, PartialEq, Eq)]
+#[derive(Drop, PartialEq)]
 pub struct Line {
     /// The name, in upper case.
     pub name: Name,
@@ -27,7 +27,7 @@ pub struct Line {
 
 /// A component: its lines and its child components, each in order. How the two are mixed in the
 /// text is not kept.
-#[derive(Drop, PartialEq, Eq)]
+#[derive(Drop)]
 pub struct Node {
     /// The name behind BEGIN and END, in upper case.
     pub name: Name,

@@ -6,8 +6,8 @@ ghost use Rattle.cal_base.specs.World.Memory.{is_listed, new_door, door_after_fa
 use crate::clock::Clock;
 use crate::door::{Door, Gate};
 use crate::failed::Failed;
+use crate::failing_calls::FailingCalls;
 use crate::list::List;
-use crate::memory_calls::MemoryCalls;
 use crate::memory_clock::FixedClock;
 use crate::memory_link::MemoryLink;
 use std::alloc::Global;
@@ -37,7 +37,7 @@ pub struct MemoryDoor {
     links: List<MemoryLink>,
     clock: FixedClock,
     tries: u64,
-    calls: MemoryCalls,
+    calls: FailingCalls,
 }
 
 impl Model for MemoryDoor {
@@ -59,7 +59,7 @@ impl MemoryDoor {
             links,
             clock: FixedClock::new(moment),
             tries: 0,
-            calls: MemoryCalls::new(failing),
+            calls: FailingCalls::new(failing),
         }
     }
 }
@@ -104,7 +104,7 @@ impl Door for MemoryDoor {
             links: List::new(alloc),
             clock: self.clock,
             tries: 0,
-            calls: MemoryCalls::new(List::new(alloc)),
+            calls: FailingCalls::new(List::new(alloc)),
         })
     }
 

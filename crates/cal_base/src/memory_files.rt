@@ -3,9 +3,9 @@ ghost use Rattle.std.specs.Prelude.{◌≡◌, ◌<◌, ◌≤◌, ◌↔◌, �
 ghost use Rattle.std.specs.Option.{option_copied};
 ghost use Rattle.cal_base.specs.World.Memory.{no_calls, content_of, files_read_fails, files_after_fault, files_after_read};
 
+use crate::failing_calls::FailingCalls;
 use crate::files::{FileFault, Files};
 use crate::list::{List, Octets};
-use crate::memory_calls::MemoryCalls;
 use std::alloc::Global;
 use std::marker::Model;
 
@@ -14,7 +14,7 @@ use std::marker::Model;
 #[derive(Drop)]
 pub struct MemoryFiles {
     files: List<(Octets, Octets)>,
-    calls: MemoryCalls,
+    calls: FailingCalls,
 }
 
 impl Model for MemoryFiles {
@@ -33,7 +33,7 @@ impl MemoryFiles {
     {
         MemoryFiles {
             files,
-            calls: MemoryCalls::new(failing),
+            calls: FailingCalls::new(failing),
         }
     }
 }

@@ -3,9 +3,9 @@ ghost use Rattle.std.specs.Prelude.{◌≡◌, ◌≤◌, ◌^◌, ◌↔◌, �
 ghost use Rattle.cal_base.specs.World.Memory.{no_calls, given_len, is_listed, link_read_fails, link_after_fault, link_after_read, link_after_write};
 
 use crate::failed::Failed;
+use crate::failing_calls::FailingCalls;
 use crate::list::{List, Octets};
-use crate::memory_calls::MemoryCalls;
-use crate::memory_supply::MemorySupply;
+use crate::octet_supply::OctetSupply;
 use crate::stream::Link;
 use std::alloc::Global;
 use std::marker::Model;
@@ -16,9 +16,9 @@ use std::marker::Model;
 /// fit and as are allowed, and every other write takes the whole piece.
 #[derive(Drop)]
 pub struct MemoryLink {
-    supply: MemorySupply,
+    supply: OctetSupply,
     written: Octets,
-    calls: MemoryCalls,
+    calls: FailingCalls,
 }
 
 impl Model for MemoryLink {
@@ -40,9 +40,9 @@ impl MemoryLink {
         ensures { result ≡ record { supply = record { rest = octets; allowance = allowance }; written = []; calls = no_calls failing } }
     {
         MemoryLink {
-            supply: MemorySupply::new(octets, allowance),
+            supply: OctetSupply::new(octets, allowance),
             written: Octets::new(alloc),
-            calls: MemoryCalls::new(failing),
+            calls: FailingCalls::new(failing),
         }
     }
 

@@ -3,8 +3,8 @@ ghost use Rattle.std.specs.Prelude.{◌≡◌, ◌≤◌, [], length, Some, IsTr
 ghost use Rattle.cal_base.specs.World.Memory.{no_calls, is_listed, sink_after_fault, sink_after_write};
 
 use crate::failed::Failed;
+use crate::failing_calls::FailingCalls;
 use crate::list::{List, Octets};
-use crate::memory_calls::MemoryCalls;
 use crate::stream::Sink;
 use std::alloc::Global;
 use std::marker::Model;
@@ -14,7 +14,7 @@ use std::marker::Model;
 #[derive(Drop)]
 pub struct MemorySink {
     written: Octets,
-    calls: MemoryCalls,
+    calls: FailingCalls,
 }
 
 impl Model for MemorySink {
@@ -33,7 +33,7 @@ impl MemorySink {
     {
         MemorySink {
             written: Octets::new(alloc),
-            calls: MemoryCalls::new(failing),
+            calls: FailingCalls::new(failing),
         }
     }
 

@@ -3,9 +3,9 @@ ghost use Rattle.std.specs.Prelude.{◌≡◌, ◌≤◌, ◌^◌, ◌↔◌, �
 ghost use Rattle.cal_base.specs.World.Memory.{no_calls, given_len, source_read_fails, source_after_fault, source_after_read};
 
 use crate::failed::Failed;
+use crate::failing_calls::FailingCalls;
 use crate::list::{List, Octets};
-use crate::memory_calls::MemoryCalls;
-use crate::memory_supply::MemorySupply;
+use crate::octet_supply::OctetSupply;
 use crate::stream::Source;
 use std::marker::Model;
 
@@ -13,8 +13,8 @@ use std::marker::Model;
 /// spent; every other read gives as many octets as there are, as fit and as are allowed.
 #[derive(Drop)]
 pub struct MemorySource {
-    supply: MemorySupply,
-    calls: MemoryCalls,
+    supply: OctetSupply,
+    calls: FailingCalls,
 }
 
 impl Model for MemorySource {
@@ -36,8 +36,8 @@ impl MemorySource {
         ensures { result ≡ record { supply = record { rest = octets; allowance = allowance }; calls = no_calls failing } }
     {
         MemorySource {
-            supply: MemorySupply::new(octets, allowance),
-            calls: MemoryCalls::new(failing),
+            supply: OctetSupply::new(octets, allowance),
+            calls: FailingCalls::new(failing),
         }
     }
 }

@@ -1,11 +1,12 @@
 //! The files of the system.
-ghost use Rattle.std.specs.Prelude.{◌≡◌, ◌≤◌, None};
+ghost use Rattle.std.specs.Prelude.{◌≡◌, ◌≤◌, None, IsErrOf};
 ghost use Rattle.cal_base.specs.World.Outside.{Rose};
+ghost use Rattle.cal_base.specs.World.Adapter.{fault_told};
 
 use crate::counted_stream::CountedStream;
 use crate::files::{FileFault, Files};
 use crate::list::Octets;
-use crate::whole::{ReadEnd, read_up_to};
+use crate::read_whole::{ReadEnd, read_up_to};
 use std::alloc::Global;
 use std::fs;
 use std::marker::Model;
@@ -33,13 +34,21 @@ impl<R: std::rt::Files + Copy + Drop> StdFiles<R> {
         StdFiles { rt: *rt, faults: 0 }
     }
 
-    fn fail(&mut self) -> FileFault
-        ensures failed { result ≡ FileFault.Failed }
-        ensures rose { Rose self.old self.new }
+    /// What is told where the reading of an open file ended so; a failure is counted.
+    fn told(&mut self, end: ReadEnd) -> FileFault
+        ensures fault { result ≡ fault_told end }
+        ensures failed { result ≡ FileFault.Failed → Rose self.old self.new }
+        ensures no_memory { result ≡ FileFault.NoMemory → self.new ≡ self.old }
         ensures never_falls { self.old ≤ self.new }
     {
-        self.faults = self.faults.saturating_add(1);
-        FileFault::Failed
+        match end {
+            ReadEnd::Failed => {
+                self.faults = self.faults.saturating_add(1);
+                FileFault::Failed
+            }
+            ReadEnd::TooLong => FileFault::TooLong,
+            ReadEnd::NoMemory => FileFault::NoMemory,
+        }
     }
 }
 
@@ -51,13 +60,11 @@ impl<R: std::rt::Files + Copy + Drop> Files for StdFiles<R> {
     /// Reads at most `limit` + 1 octets of the file.
     fn read(&mut self, alloc: Global, path: &str, limit: u64) -> Result<Octets, FileFault> {
         let Ok(file) = fs::open(&self.rt, path) else {
-            return Err(self.fail());
+            return Err(self.told(ReadEnd::Failed));
         };
         match read_up_to(alloc, &mut CountedStream::new(file), limit) {
             Ok(octets) => Ok(octets),
-            Err(ReadEnd::Failed) => Err(self.fail()),
-            Err(ReadEnd::TooLong) => Err(FileFault::TooLong),
-            Err(ReadEnd::NoMemory) => Err(FileFault::NoMemory),
+            Err(end) => Err(self.told(end)),
         }
     }
 }

@@ -1,11 +1,12 @@
 //! Standard input as a source, and standard output as a sink.
-ghost use Rattle.std.specs.Prelude.{◌≡◌, ◌^◌, [], false, Some, None, if◌then◌else◌};
+ghost use Rattle.std.specs.Prelude.{◌≡◌, [], Some, None, if◌then◌else◌};
+ghost use Rattle.cal_base.specs.World.Adapter.{new_stream};
 
-use crate::counted_stream::{CountedStream, write_some};
+use crate::counted_stream::CountedStream;
 use crate::failed::Failed;
 use crate::stream::{Sink, Source};
 use std::io;
-use std::io::Input;
+use std::io::{Input, Write};
 use std::marker::Model;
 
 /// Standard input. It tells nothing of what is left until its end.
@@ -25,7 +26,7 @@ impl<R: Input> Model for StdSource<R> {
 impl<R: Input> StdSource<R> {
     /// The standard input of the runtime.
     pub fn new(rt: &R) -> StdSource<R>
-        ensures { result ≡ record { faults = 0; allowance = 2 ^ 62; ended = false } }
+        ensures { result ≡ new_stream }
     {
         StdSource {
             source: CountedStream::new(rt.reader()),
@@ -45,41 +46,53 @@ impl<R: Input> Source for StdSource<R> {
     }
 }
 
-/// Standard output. It tells nothing of what was written. Contracts see how many of its calls
-/// failed.
+/// Standard output. It tells nothing of what was written.
 #[derive(Drop)]
 pub struct StdSink<R: Print + Copy + Drop> {
-    rt: R,
-    faults: u64,
+    sink: CountedStream<StdWriter<R>>,
 }
 
 impl<R: Print + Copy + Drop> Model for StdSink<R> {
-    ghost use Rattle.std.specs.Prelude.{ℕ};
+    ghost use Rattle.cal_base.specs.World.Adapter.{StreamState};
 
-    ghost Value = { ℕ };
+    ghost Value = { StreamState };
 
-    ghost view = { λ s. s.faults };
+    ghost view = { λ s. s.sink };
 }
 
 impl<R: Print + Copy + Drop> StdSink<R> {
     /// The standard output of the runtime.
     pub fn new(rt: &R) -> StdSink<R>
-        ensures { result ≡ 0 }
+        ensures { result ≡ new_stream }
     {
-        StdSink { rt: *rt, faults: 0 }
+        StdSink {
+            sink: CountedStream::new(StdWriter { rt: *rt }),
+        }
     }
 }
 
 impl<R: Print + Copy + Drop> Sink for StdSink<R> {
-    ghost faults = { λ s. s };
+    ghost faults = { λ s. s.faults };
 
     ghost written = { λ _. None };
 
     fn write(&mut self, piece: &[u8]) -> Result<usize, Failed> {
-        let Ok(n) = write_some(&mut io::writer(&self.rt), piece) else {
-            self.faults = self.faults.saturating_add(1);
-            return Err(Failed);
-        };
-        Ok(n)
+        self.sink.write(piece)
+    }
+}
+
+/// What writes to the standard output of a runtime that it has a copy of.
+#[derive(Drop)]
+struct StdWriter<R: Print + Copy + Drop> {
+    rt: R,
+}
+
+impl<R: Print + Copy + Drop> Write for StdWriter<R> {
+    fn write(&mut self, buf: &[u8]) -> io::Result<usize> {
+        io::writer(&self.rt).write(buf)
+    }
+
+    fn flush(&mut self) -> io::Result<()> {
+        io::writer(&self.rt).flush()
     }
 }

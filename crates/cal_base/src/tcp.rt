@@ -1,6 +1,7 @@
 //! Connections over TCP.
-ghost use Rattle.std.specs.Prelude.{◌≡◌, ◌≤◌, ◌^◌, [], false, Some, None, if◌then◌else◌};
+ghost use Rattle.std.specs.Prelude.{◌≡◌, ◌≤◌, [], Some, None, if◌then◌else◌};
 ghost use Rattle.cal_base.specs.World.Outside.{Rose};
+ghost use Rattle.cal_base.specs.World.Adapter.{new_stream};
 
 use crate::counted_stream::CountedStream;
 use crate::door::Door;
@@ -11,22 +12,29 @@ use std::alloc::Global;
 use std::marker::Model;
 use std::net::{Net, TcpListener, TcpStream};
 use std::sync::Wait;
-use std::time::Duration;
+use std::time::{Duration, Instant};
 
 /// How many seconds a read or a write of a connection may wait for the other side.
 pub const LINK_TIMEOUT_SECONDS: u64 = 10;
+
+/// How many seconds after the last write, at first after the connection, a connection is read. A
+/// client that sends an octet now and then cannot hold its session longer without a reply.
+pub const READING_SECONDS: u64 = 120;
 
 /// How many milliseconds `rest` of a door waits.
 pub const REST_MILLISECONDS: u64 = 100;
 
 /// A connection. It tells nothing of what is left until its end, nor of what was written.
 #[derive(Drop)]
-pub struct TcpLink {
+pub struct TcpLink<R: std::rt::Clock + Copy + Drop> {
+    rt: R,
     stream: CountedStream<TcpStream>,
-    is_prepared: bool,
+    /// The moment of the last write, at first that of the connection; none where the system gave no
+    /// moment for the connection, or did not take its options.
+    last_write: Option<Instant>,
 }
 
-impl Model for TcpLink {
+impl<R: std::rt::Clock + Copy + Drop> Model for TcpLink<R> {
     ghost use Rattle.cal_base.specs.World.Adapter.{StreamState};
 
     ghost Value = { StreamState };
@@ -34,30 +42,63 @@ impl Model for TcpLink {
     ghost view = { λ l. l.stream };
 }
 
-impl TcpLink {
-    /// A connection whose small writes the kernel does not hold back, and whose reads and writes
-    /// fail after `LINK_TIMEOUT_SECONDS` without an octet. Where the system does not grant this,
-    /// every call of the link fails, since one without a time-out could hold its session for ever.
-    pub fn new(stream: TcpStream) -> TcpLink
-        ensures { result ≡ record { faults = 0; allowance = 2 ^ 62; ended = false } }
+impl<R: std::rt::Clock + Copy + Drop> TcpLink<R> {
+    /// A connection whose small writes the kernel does not hold back.
+    ///
+    /// A read and a write fail after `LINK_TIMEOUT_SECONDS` without an octet, and a read also
+    /// `READING_SECONDS` after the last write or, before the first, after the connection. Where the
+    /// system does not grant this, every call of the link fails, since one without a time-out could
+    /// hold its session for ever.
+    pub fn new(rt: &R, stream: TcpStream) -> TcpLink<R>
+        ensures { result ≡ new_stream }
     {
-        let is_prepared = prepare(&stream);
+        let last_write = if is_prepared(&stream) {
+            Instant::now(rt).ok()
+        } else {
+            None
+        };
         TcpLink {
+            rt: *rt,
             stream: CountedStream::new(stream),
-            is_prepared,
+            last_write,
+        }
+    }
+
+    /// How long the next read may wait for an octet, if it may be made.
+    fn waiting_time(&self) -> Option<Duration> {
+        let since = self.last_write?.elapsed(&self.rt).ok()?;
+        let left = Duration::from_secs(READING_SECONDS).checked_sub(since)?;
+        Some(left.min(Duration::from_secs(LINK_TIMEOUT_SECONDS)))
+    }
+
+    /// Whether the next read may be made, and the system took how long it may wait. (A time of no
+    /// length is not taken.)
+    fn may_read(&self) -> bool {
+        match self.waiting_time() {
+            Some(time) => self.stream.stream().set_read_timeout(Some(time)).is_ok(),
+            None => false,
+        }
+    }
+
+    /// Keeps the moment of a write, where the system gives one.
+    fn note_write(&mut self)
+        ensures { self.new ≡ self.old }
+    {
+        if let Ok(now) = Instant::now(&self.rt) {
+            self.last_write = Some(now);
         }
     }
 }
 
 /// Whether the system took the options of a connection.
-fn prepare(stream: &TcpStream) -> bool {
+fn is_prepared(stream: &TcpStream) -> bool {
     let time = Duration::from_secs(LINK_TIMEOUT_SECONDS);
     stream.set_nodelay(true).is_ok()
         && stream.set_read_timeout(Some(time)).is_ok()
         && stream.set_write_timeout(Some(time)).is_ok()
 }
 
-impl Link for TcpLink {
+impl<R: std::rt::Clock + Copy + Drop> Link for TcpLink<R> {
     ghost faults = { λ l. l.faults };
 
     ghost left = { λ l. if l.ended then Some [] else None };
@@ -67,17 +108,21 @@ impl Link for TcpLink {
     ghost allowance = { λ l. l.allowance };
 
     fn read(&mut self, into: &mut [u8]) -> Result<usize, Failed> {
-        if !self.is_prepared {
+        if !self.may_read() {
             return Err(self.stream.fail());
         }
         self.stream.read(into)
     }
 
     fn write(&mut self, piece: &[u8]) -> Result<usize, Failed> {
-        if !self.is_prepared {
+        if self.last_write.is_none() {
             return Err(self.stream.fail());
         }
-        self.stream.write(piece)
+        let n = self.stream.write(piece)?;
+        if 0 < n {
+            self.note_write();
+        }
+        Ok(n)
     }
 }
 
@@ -126,7 +171,7 @@ impl<R: Net<Listener = TcpListener, Stream = TcpStream> + std::rt::Clock + Copy 
 
 impl<R: Net<Listener = TcpListener, Stream = TcpStream> + std::rt::Clock + Copy + Drop + Send> Door
     for TcpDoor<R> {
-    type Link = TcpLink;
+    type Link = TcpLink<R>;
 
     type Clock = SystemClock<R>;
 
@@ -159,7 +204,7 @@ impl<R: Net<Listener = TcpListener, Stream = TcpStream> + std::rt::Clock + Copy 
         })
     }
 
-    fn accept<W: Wait>(&mut self, _rt: &W) -> Result<TcpLink, Failed> {
+    fn accept<W: Wait>(&mut self, _rt: &W) -> Result<TcpLink<R>, Failed> {
         self.tries = self.tries.saturating_add(1);
         let Some(listener) = &self.listener else {
             return Err(self.fail());
@@ -167,7 +212,7 @@ impl<R: Net<Listener = TcpListener, Stream = TcpStream> + std::rt::Clock + Copy 
         let Ok((stream, _)) = listener.accept() else {
             return Err(self.fail());
         };
-        Ok(TcpLink::new(stream))
+        Ok(TcpLink::new(&self.rt, stream))
     }
 
     fn clock(&self) -> SystemClock<R> {

@@ -2,7 +2,7 @@
 ghost use Rattle.std.specs.Prelude.{◌≡◌, ℕ, List, IfOk, nat_eq};
 ghost use Rattle.std.specs.Cmp.{partial_equiv_from_equiv, nat_eq_equiv};
 ghost use Rattle.std.specs.Cmp.Lexicographic.{pointwise, lists_per, nat_list_eq_equiv};
-ghost use Rattle.cal_base.specs.Texts.Text.{raised, raised_all};
+ghost use Rattle.cal_base.specs.Texts.Text.{raised, raised_all, IsRaised};
 
 use crate::list::Octets;
 use crate::no_memory::NoMemory;
@@ -21,6 +21,8 @@ impl Model for Name {
     ghost Value = { List ℕ };
 
     ghost view = { λ n. n.octets };
+
+    ghost invariant = { λ n. IsRaised n.octets };
 }
 
 impl Name {
@@ -28,19 +30,25 @@ impl Name {
     pub fn of(alloc: Global, text: &[u8]) -> Result<Name, NoMemory>
         ensures { IfOk result (λ n. n ≡ raised_all text.now) }
     {
-        let Ok(octets) = text.iter().map(|c| raise(*c)).collect::<Vec<u8>>(alloc) else {
-            return Err(NoMemory);
-        };
-        Ok(Name {
-            octets: Octets::from_vec(octets),
-        })
+        let octets = raise_all(alloc, text)?;
+        Ok(Name { octets })
     }
 
-    /// The octets.
+    /// The octets. (That none of them is a lower-case letter holds of every name.)
     pub fn as_slice(&self) -> &[u8]
-        ensures { result.now ≡ self.now }
+        ensures octets { result.now ≡ self.now }
+        ensures raised { IsRaised self.now }
     {
         self.octets.as_slice()
+    }
+}
+
+fn raise_all(alloc: Global, text: &[u8]) -> Result<Octets, NoMemory>
+    ensures { IfOk result (λ octets. octets ≡ raised_all text.now) }
+{
+    match text.iter().map(|c| raise(*c)).collect::<Vec<u8>>(alloc) {
+        Ok(octets) => Ok(Octets::from_vec(octets)),
+        Err(_) => Err(NoMemory),
     }
 }
 

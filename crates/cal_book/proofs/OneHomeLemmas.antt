@@ -22,7 +22,7 @@ use Rattle.cal_model.specs.declared.row.Range.{Range}
 use Rattle.cal_model.specs.Replies.XmlText.{multistatus}
 use Rattle.cal_book.specs.ThinAnswer.{Answers, CarriesOut, IsWantOfMemory}
 use Rattle.cal_book.specs.Responses.{responses}
-use Rattle.cal_model.specs.Scripts.UsersFile.{alice_alone}
+use Rattle.cal_model.specs.FirstPath.FirstPathUsersFile.{alice_alone}
 use Rattle.cal_model.specs.declared.path.Path.TheVariants.{Calendar as CalendarPath, Object as ObjectPath}
 use Rattle.cal_book.specs.OneHome.{alice, calendar_name, one_home}
 

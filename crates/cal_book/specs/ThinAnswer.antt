@@ -6,7 +6,7 @@ use Rattle.cal_model.specs.declared.request.Event.{Event}
 use Rattle.cal_model.specs.Server.Answer.{reply_of, state_of, reply_to, state_after}
 use Rattle.cal_model.specs.Server.ServerState.{ServerState}
 use Rattle.cal_model.specs.Server.Step.{Outcome, bare_reply}
-use Rattle.cal_model.specs.Scripts.UsersFile.{alice_alone}
+use Rattle.cal_model.specs.FirstPath.FirstPathUsersFile.{alice_alone}
 
 -- for want of memory: 503, and the state is as it was
 abbrev pub IsWantOfMemory : ServerState → ServerState → Reply → Type 0

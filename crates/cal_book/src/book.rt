@@ -49,7 +49,7 @@ impl Book {
     ghost use Rattle.cal_model.specs.Server.Queries.{query_range};
     ghost use Rattle.cal_model.specs.Server.Step.{found_or, put_at, query_at};
     ghost use Rattle.cal_model.specs.declared.request.Content.{Content};
-    ghost use Rattle.cal_model.specs.Scripts.UsersFile.{alice_alone};
+    ghost use Rattle.cal_model.specs.FirstPath.FirstPathUsersFile.{alice_alone};
     ghost use Rattle.cal_model.specs.declared.path.Path.TheVariants.{Calendar as CalendarPath, Object as ObjectPath};
     ghost use Rattle.cal_model.specs.declared.request.Content.TheVariants.{Put as PutContent, Report as ReportContent};
     ghost use Rattle.cal_book.specs.OneHome.{alice, calendar_name};

@@ -1,6 +1,8 @@
 //! The one form of calendar-query that is answered so far (RFC 4791, 7.8).
 ghost use Rattle.std.specs.Prelude.{◌≡◌};
-ghost use Rattle.cal_model.specs.Server.Queries.{query_range as range_of_query, is_name, are_both, asks_both as asks_both_properties, is_whole, shows_all as shows_whole, is_plain, event_range as range_of_event, only_range as range_of_only, calendar_range as range_of_calendar};
+ghost use Rattle.cal_model.specs.Access.Privileges.{same_name};
+ghost use Rattle.cal_model.specs.Selections.ShownData.{is_whole, takes_all};
+ghost use Rattle.cal_model.specs.Server.Queries.{query_range as range_of_query, are_both, asks_both as asks_both_properties, is_plain, event_range as range_of_event, only_range as range_of_only, calendar_range as range_of_calendar};
 ghost use Rattle.cal_model.specs.declared.filter.CompFilter.TheViews.{out-CompFilter};
 
 use cal_model::{CompFilter, PropName, Props, Range, Recur, ReportRequest, Selection};
@@ -22,7 +24,7 @@ pub fn query_range(report: &ReportRequest) -> Option<Range>
             filter,
             zone,
         } => {
-            if asks_both(props) && shows_all(select) && zone.is_none() {
+            if asks_both(props) && takes_all(select) && zone.is_none() {
                 calendar_range(&filter.top)
             } else {
                 None
@@ -54,16 +56,16 @@ fn are_both(names: &[PropName]) -> bool
 }
 
 fn is_name(name: &PropName, space: &[u8], local: &[u8]) -> bool
-    ensures { result ≡ is_name (record { space = space.now; name = local.now }) name.now }
+    ensures { result ≡ same_name name.now (record { space = space.now; name = local.now }) }
 {
     name.space.as_slice() == space && name.name.as_slice() == local
 }
 
 /// Whether all of an object is asked for, as it is stored.
-fn shows_all(select: &Selection) -> bool
-    ensures { result ≡ shows_whole select.now }
+fn takes_all(select: &Selection) -> bool
+    ensures { result ≡ takes_all select.now }
 {
-    select.comp.is_none() && is_whole(&select.recur) && select.busy.is_none()
+    select.comp.is_none() && select.busy.is_none() && is_whole(&select.recur)
 }
 
 fn is_whole(recur: &Recur) -> bool

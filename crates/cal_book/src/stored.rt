@@ -1,6 +1,6 @@
 //! Stored objects.
 ghost use Rattle.std.specs.Prelude.{◌≡◌, IfOk};
-ghost use Rattle.cal_model.specs.Server.EventTimes.{start_of, end_of, overlaps as does_overlap};
+ghost use Rattle.cal_model.specs.Server.EventTimes.{start_of, end_of, event_overlaps as does_overlap};
 ghost use Rattle.cal_model.specs.Replies.Etags.{etag_of};
 ghost use Rattle.cal_book.specs.Moments.{seconds_of};
 

@@ -8,7 +8,7 @@ use Rattle.cal_model.specs.declared.object.Component.{Component}
 use Rattle.cal_model.specs.declared.object.Kind.TheVariants.{FreeBusy}
 use Rattle.cal_model.specs.declared.object.Extent.TheVariants as extent
 use Rattle.cal_model.specs.declared.rule.Freq.TheVariants.{Daily}
-use Rattle.cal_model.specs.Words.Numbers.{counted_from}
+use Rattle.cal_model.specs.Words.Lists.{counted_from}
 use Rattle.cal_model.specs.Recurrence.Passing.{day_passes, time_passes}
 use Rattle.cal_model.specs.TimeZones.Zones.{offset_at, exists_in, instant_of}
 use Rattle.cal_model.specs.Instances.Alignment.{utc_zone}
@@ -63,6 +63,13 @@ stored : busy_times_over [] utc_zone (object_of (record (from_to 0 23 None) {
 } ∷ []))
     ≡ on_the_10th class.Unavailable 9 10 ∷ on_the_10th class.Busy 12 14 ∷ []
 stored = refl
+
+-- in another kind FREEBUSY lines say nothing, also where the component itself counts as free
+stored_in_event : busy_times_over [] utc_zone (object_of (record (from_to 9 10 None) {
+  stored_busy = (Some class.Busy, record { start = utc 2025 3 10 12 0; end = After (days_and_time (pos 0) (pos 3600)) }) ∷ [];
+} ∷ []))
+    ≡ []
+stored_in_event = refl
 
 -- a component without a start makes nobody busy
 undated : busy_times_over [] utc_zone (object_of (record (event None extent.Point) { busy = Some class.Busy } ∷ [])) ≡ []

@@ -9,7 +9,7 @@ use Rattle.cal_model.specs.declared.object.Trigger.TheVariants as trigger
 use Rattle.cal_model.specs.declared.row.Range.{Range}
 use Rattle.cal_model.specs.declared.row.Row.{Row}
 use Rattle.cal_model.specs.declared.rule.Freq.TheVariants.{Daily, Weekly}
-use Rattle.cal_model.specs.Words.Numbers.{counted_from}
+use Rattle.cal_model.specs.Words.Lists.{counted_from}
 use Rattle.cal_model.specs.Recurrence.Passing.{day_passes, time_passes}
 use Rattle.cal_examples.proofs.PassingExamples.{each}
 use Rattle.cal_examples.proofs.RecurrenceSetExamples.{daily_at}
@@ -18,7 +18,8 @@ use Rattle.cal_examples.proofs.RowExamples.{event, object_of, instant_row, days_
 use Rattle.cal_model.specs.Instances.Alignment.{utc_zone}
 use Rattle.cal_model.specs.Instances.Rows.{rows_in_over}
 use Rattle.cal_model.specs.Ranges.Overlap.{row_overlaps}
-use Rattle.cal_model.specs.Ranges.Cost.{cost_over, margin, window_meets, is_looked_at}
+use Rattle.cal_model.specs.Ranges.Cost.{cost_over, margin, window_meets}
+use Rattle.cal_model.specs.Reports.NeededWindows.{counts}
 
 abbrev pub from_new_year : List ℕ
 from_new_year = daily_at 32400 (day_of_date 2025 1 1) 200
@@ -82,5 +83,5 @@ counted = refl
 abbrev pub far_override : Object
 far_override = object_of (event (Some (utc 2025 3 25 9 0)) extent.Point ∷ record (event (Some (utc 2025 6 2 9 0)) extent.Point) { recurrence_id = Some (utc 2025 3 25 9 0) } ∷ [])
 
-looked_at : (is_looked_at far_override near_its_end (pos 316) ≡ true) × (is_looked_at far_override near_its_end (pos 315) ≡ true) × (is_looked_at far_override near_its_end (pos 314) ≡ false)
+looked_at : (counts far_override (near_its_end ∷ []) (pos 316) ≡ true) × (counts far_override (near_its_end ∷ []) (pos 315) ≡ true) × (counts far_override (near_its_end ∷ []) (pos 314) ≡ false)
 looked_at = (refl, refl, refl)

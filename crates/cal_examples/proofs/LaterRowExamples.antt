@@ -1,10 +1,11 @@
 -- Examples of overrides that move all later instances.
-use Rattle.std.specs.Prelude.{◌≡◌, refl, ℕ, ◌==◌, Bool, true, [], ◌∷◌, pos, Some}
+use Rattle.std.specs.Prelude.{◌≡◌, refl, ℕ, ◌==◌, Bool, true, false, [], ◌∷◌, pos, Some, None}
 use Rattle.cal_moment.specs.Calendar.{day_of_date, year_of, month_of, day_of_month}
 use Rattle.cal_model.specs.declared.rule.Freq.TheVariants.{Daily, Weekly}
 use Rattle.cal_model.specs.declared.object.Object.{Object}
 use Rattle.cal_model.specs.declared.object.Extent.TheVariants as extent
-use Rattle.cal_model.specs.Words.Numbers.{counted_from}
+use Rattle.cal_model.specs.declared.object.Kind.TheVariants.{Todo}
+use Rattle.cal_model.specs.Words.Lists.{counted_from}
 use Rattle.cal_model.specs.Recurrence.Passing.{day_passes, time_passes}
 use Rattle.cal_examples.proofs.PassingExamples.{each}
 use Rattle.cal_examples.proofs.RecurrenceSetExamples.{daily_at}
@@ -75,3 +76,25 @@ to_earlier = object_of (record (event (Some (utc 2025 3 3 9 0)) extent.Point) { 
 
 later_days : (later_last_day (only 1) [] to_earlier (pos 315) ≡ day_of_date 2025 5 20) × (later_last_day (only 9) [] to_earlier (pos 315) ≡ day_of_date 2025 5 15)
 later_days = (refl, refl)
+
+-- a to-do whose override has DUE and no DTSTART moves itself alone: who is given which overrides move later instances leaves it out
+abbrev pub due_moved : Object
+due_moved =
+    object_of (record (event (Some (utc 2025 3 3 9 0)) extent.Point) { kind = Todo; rules = record (each Weekly) { count = Some 3 } ∷ [] }
+    ∷ record (event None (extent.Due (utc 2025 3 11 9 0))) { kind = Todo; recurrence_id = Some (utc 2025 3 10 9 0) } ∷ [])
+
+moves_itself : later_rows_over (λ n. false) (daily_at 32400 (day_of_date 2025 3 1) 30) due_moved
+    ≡ instant_row (written 2025 3 3 9 0 0) (written 2025 3 3 9 0 0) (written 2025 3 3 9 0 0) 0
+    ∷ instant_row (written 2025 3 10 9 0 0) (written 2025 3 11 9 0 0) (written 2025 3 11 9 0 0) 1
+    ∷ instant_row (written 2025 3 17 9 0 0) (written 2025 3 17 9 0 0) (written 2025 3 17 9 0 0) 0
+    ∷ []
+unfolding year_of month_of day_of_month day_passes time_passes counted_from
+moves_itself = refl
+
+would_move : later_rows_over (only 1) (daily_at 32400 (day_of_date 2025 3 1) 30) due_moved
+    ≡ instant_row (written 2025 3 3 9 0 0) (written 2025 3 3 9 0 0) (written 2025 3 3 9 0 0) 0
+    ∷ instant_row (written 2025 3 10 9 0 0) (written 2025 3 11 9 0 0) (written 2025 3 11 9 0 0) 1
+    ∷ instant_row (written 2025 3 17 9 0 0) (written 2025 3 18 9 0 0) (written 2025 3 18 9 0 0) 1
+    ∷ []
+unfolding year_of month_of day_of_month day_passes time_passes counted_from
+would_move = refl

@@ -35,7 +35,7 @@ use Rattle.cal_model.specs.Objects.ObjectReading.{read_object}
 use Rattle.std.specs.Str.{is_utf8, chars}
 use lib.Utf8.{encode}
 use Rattle.cal_model.specs.declared.object.Class.TheVariants.{Busy}
-use Rattle.cal_model.specs.Words.Numbers.{counted_from}
+use Rattle.cal_model.specs.Words.Lists.{counted_from}
 use Rattle.cal_model.specs.Instances.Rows.{rows_over, row_of}
 use Rattle.cal_model.specs.Values.StampTexts.{stamps_in_grammar, trigger_of}
 use Rattle.cal_model.specs.Filters.TextTests.{text_passes, param_filter_holds}
@@ -204,6 +204,25 @@ without_rows : matches (record { top = comp (codes "VCALENDAR") None [] (event_a
 unfolding N.out-Node N.roll-Node B.shown-the_row-Node-0 B.hidden-the_row-Node-0 B.shape-the_row-Node-0 H.out H.roll H.shown H.hidden counted_from
 without_rows = simp (comp_filter_holds_roll) refl
 
+-- one that goes off at a moment of its own needs no row: here the only start is taken away by an EXDATE
+abbrev pub without_starts : Object
+without_starts = record (object false) {
+  tree = node (codes "VCALENDAR") [] (node (codes "VEVENT") (event_lines ++ line (codes "EXDATE") (codes "20250310T090000Z") ∷ [])
+      (node (codes "VALARM") (record { name = codes "TRIGGER"; params = record { name = codes "VALUE"; values = codes "DATE-TIME" ∷ [] } ∷ []; value = codes "20250310T080000Z"; raw = codes "TRIGGER;VALUE=DATE-TIME:20250310T080000Z" } ∷ []) [] ∷ []) ∷ []);
+  components = record (meeting false) {
+    except = Utc (record { 0 = pos nine }) ∷ [];
+    alarms = record { trigger = trigger.At (record { 0 = pos 1_741_593_600 }); repeat = 0; gap = days_and_time (pos 0) (pos 0) } ∷ [];
+  } ∷ [];
+}
+
+no_row_left : rows_over [] without_starts ≡ []
+no_row_left = refl
+
+alarm_of_its_own : (matches (record { top = comp (codes "VCALENDAR") None [] (event_asks None [] (alarm_in (minutes 0 1) ∷ []) ∷ []) }) without_starts [] utc_zone ≡ true)
+    × (matches (record { top = comp (codes "VCALENDAR") None [] (event_asks None [] (alarm_in (minutes 1 2) ∷ []) ∷ []) }) without_starts [] utc_zone ≡ false)
+unfolding N.out-Node N.roll-Node B.shown-the_row-Node-0 B.hidden-the_row-Node-0 B.shape-the_row-Node-0 H.out H.roll H.shown H.hidden counted_from
+alarm_of_its_own = simp (comp_filter_holds_roll) (refl, refl)
+
 -- a VALARM outside the four kinds has its absolute trigger alone
 abbrev pub lone : List ℕ → List ℕ → Object
 lone name value = record (object false) {
@@ -244,6 +263,22 @@ effective_end : (finds false (end_in (minutes 120 121)) ≡ true) × (finds fals
     × (finds false (event_asks None (prop (codes "DTEND") Defined [] ∷ []) []) ≡ false)
 unfolding N.out-Node N.roll-Node B.shown-the_row-Node-0 B.hidden-the_row-Node-0 B.shape-the_row-Node-0 H.out H.roll H.shown H.hidden stamps_in_grammar date_time_of date_of time_of length_of count_of
 effective_end = simp (comp_filter_holds_roll) (refl, refl, refl, refl)
+
+-- in a to-do it is as if DUE were written
+abbrev pub lasting_to_do : Object
+lasting_to_do = record (object false) {
+  kind = Todo;
+  tree = node (codes "VCALENDAR") [] (node (codes "VTODO") event_lines [] ∷ []);
+  components = record (meeting false) { kind = Todo; busy = None; alarms = [] } ∷ [];
+}
+
+abbrev pub to_do_has : List ℕ → CompFilter
+to_do_has name = comp (codes "VCALENDAR") None [] (comp (codes "VTODO") None (prop name (Time (minutes 120 121)) [] ∷ []) [] ∷ [])
+
+effective_due : (matches (record { top = to_do_has (codes "DUE") }) lasting_to_do (meeting_row ∷ []) utc_zone ≡ true)
+    × (matches (record { top = to_do_has (codes "DTEND") }) lasting_to_do (meeting_row ∷ []) utc_zone ≡ false)
+unfolding N.out-Node N.roll-Node B.shown-the_row-Node-0 B.hidden-the_row-Node-0 B.shape-the_row-Node-0 H.out H.roll H.shown H.hidden stamps_in_grammar date_time_of date_of time_of length_of count_of
+effective_due = simp (comp_filter_holds_roll) (refl, refl)
 
 -- the written start
 start_in_range : (finds false (event_asks None (prop (codes "DTSTART") (Time (minutes 60 61)) [] ∷ []) []) ≡ true) × (finds false (event_asks None (prop (codes "DTSTART") (Time (minutes 61 120)) [] ∷ []) []) ≡ false)

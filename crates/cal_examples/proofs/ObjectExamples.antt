@@ -24,7 +24,7 @@ use Rattle.cal_model.specs.declared.object.Related.TheVariants.{End}
 use Rattle.cal_model.specs.declared.object.Trigger.TheVariants.{At as AtMoment, From}
 use Rattle.cal_model.specs.declared.rule.Freq.TheVariants.{Weekly, Yearly}
 use Rattle.cal_model.specs.declared.zone.ZoneTable.{ZoneTable}
-use Rattle.cal_model.specs.Words.Numbers.{counted_from}
+use Rattle.cal_model.specs.Words.Lists.{counted_from}
 use Rattle.cal_model.specs.Recurrence.Passing.{day_passes, time_passes}
 use Rattle.cal_model.specs.TimeZones.Zones.{offset_at, exists_in, instant_of}
 use Rattle.cal_model.specs.Values.ValueTexts.{date_of, time_of, date_time_of, count_of, integer_of, length_of, offset_of}

@@ -255,6 +255,7 @@ not_stored : map fault_in (
     ∷ codes "BEGIN:VEVENT\nUID:1\nEND:VEVENT\nBEGIN:VEVENT\nUID:1\nRECURRENCE-ID:20250310T090000Z\nEXDATE;TZID=x:20250310T090000\nEND:VEVENT\nBEGIN:VTIMEZONE\nTZID:X\nBEGIN:STANDARD\nDTSTART:19700101T000000\nTZOFFSETFROM:+0100\nTZOFFSETTO:+0100\nEND:STANDARD\nEND:VTIMEZONE\n"
     ∷ codes "BEGIN:VEVENT\nUID:1\nEXRULE:FREQ=DAILY\nEND:VEVENT\n"
     ∷ codes "BEGIN:VEVENT\nUID:1\nRECURRENCE-ID;RANGE=thisandfuture:20250310T090000Z\nEND:VEVENT\n"
+    ∷ codes "BEGIN:VEVENT\nUID:1\nRECURRENCE-ID;RANGE=x,ThisAndFuture:20250310T090000Z\nEND:VEVENT\n"
     ∷ codes "BEGIN:VEVENT\nUID:1\nRECURRENCE-ID;RANGE=THISANDPRIOR:20250310T090000Z\nEND:VEVENT\n"
     ∷ []
     ) ≡ Some (not_resource Method)
@@ -266,6 +267,7 @@ not_stored : map fault_in (
     ∷ Some (not_resource SameRecurrenceId)
     ∷ Some (not_resource ZoneMissing)
     ∷ Some (not_resource ExRule)
+    ∷ Some (not_resource ThisAndFuture)
     ∷ Some (not_resource ThisAndFuture)
     ∷ None
     ∷ []
@@ -340,6 +342,17 @@ dates_outside : map fault_in (
     ∷ []
 unfolding is_utf8 chars encode date_of time_of date_time_of count_of integer_of length_of offset_of stamps_in_grammar periods_in_grammar trigger_of rule_in_grammar offset_at exists_in instant_of N.out-Node N.roll-Node B.shown-the_row-Node-0 B.hidden-the_row-Node-0 B.shape-the_row-Node-0 H.out H.roll H.shown H.hidden
 dates_outside = refl
+
+-- the moment of a TRIGGER is a date of a VALARM, and of no other component in an event
+other_triggers : map fault_of_event (
+    codes "UID:1\nBEGIN:X-A\nTRIGGER;VALUE=DATE-TIME:21010101T000000Z\nEND:X-A\n"
+    ∷ codes "UID:1\nBEGIN:VALARM\nTRIGGER;VALUE=DATE-TIME:21010101T000000Z\nEND:VALARM\n"
+    ∷ []
+    ) ≡ None
+    ∷ Some (date_outside Event (Utc (record { 0 = pos 4133980800 })))
+    ∷ []
+unfolding is_utf8 chars encode date_of time_of date_time_of count_of integer_of length_of offset_of stamps_in_grammar periods_in_grammar trigger_of rule_in_grammar offset_at exists_in instant_of N.out-Node N.roll-Node B.shown-the_row-Node-0 B.hidden-the_row-Node-0 B.shape-the_row-Node-0 H.out H.roll H.shown H.hidden
+other_triggers = refl
 
 -- four components may be open and not five; and one octet is no calendar
 depth : map fault_of (

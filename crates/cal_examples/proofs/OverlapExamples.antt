@@ -15,7 +15,7 @@ use Rattle.cal_model.specs.declared.row.Range.{Range}
 use Rattle.cal_model.specs.declared.row.Fixed.{Fixed}
 use Rattle.cal_model.specs.declared.row.Row.{Row}
 use Rattle.cal_model.specs.declared.row.RowKind.TheVariants as kind
-use Rattle.cal_model.specs.Words.Numbers.{counted_from}
+use Rattle.cal_model.specs.Words.Lists.{counted_from}
 use Rattle.cal_examples.proofs.RowExamples.{event, days_and_time, date, floating, utc, zoned}
 use Rattle.cal_examples.proofs.ZoneExamples.{new_york, written}
 use Rattle.cal_model.specs.TimeZones.Zones.{offset_at, instant_of}
@@ -24,7 +24,7 @@ use Rattle.cal_model.specs.Filters.DateProperties.{DatedLine, date_of_line}
 use Rattle.cal_model.specs.Instances.Rows.{row_of}
 use Rattle.cal_model.specs.Values.StampTexts.{stamps_in_grammar}
 use Rattle.cal_model.specs.Values.ValueTexts.{date_of, time_of, date_time_of}
-use Rattle.cal_model.specs.Ranges.Overlap.{overlaps, row_overlaps, alarm_overlaps, is_in, date_in, effective_end}
+use Rattle.cal_model.specs.Ranges.Overlap.{overlaps, row_overlaps, fixed, alarm_overlaps, is_in, date_in, effective_end}
 
 abbrev pub hour : ℕ → ℤ
 hour h = pos (3600 * h)
@@ -150,6 +150,11 @@ event_days : row_overlaps (event (Some (date 2025 1 6)) (extent.End (date 2025 1
 unfolding instant_of offset_at
 event_days = refl
 
+-- the row's own end would say otherwise, so the test takes the row
+journal_by_its_end : (overlaps (journal (extent.End (date 2025 1 8))) (fixed (of_days 6 8) new_york) (on 7 5 7 6) ≡ true) × (row_overlaps (journal (extent.End (date 2025 1 8))) (of_days 6 8) (on 7 5 7 6) new_york ≡ false)
+unfolding instant_of offset_at
+journal_by_its_end = (refl, refl)
+
 -- a journal at a time counts at its start alone
 journal_at_time : (overlaps (record meeting { kind = Journal }) (instance 9 10) (from_to 9 10) ≡ true) × (overlaps (record meeting { kind = Journal }) (instance 9 10) (minutes 541 560) ≡ false)
 journal_at_time = (refl, refl)
@@ -164,6 +169,16 @@ stored_from_9 = record (event None extent.None) { kind = FreeBusy; stored_busy =
 
 free_busy_stored : (overlaps stored_from_9 (instance 0 0) (from_to 8 9) ≡ false) × (overlaps stored_from_9 (instance 0 0) (minutes 599 610) ≡ true) × (overlaps stored_from_9 (instance 0 0) (from_to 10 11) ≡ false)
 free_busy_stored = (refl, refl, refl)
+
+-- DURATION is no DTEND there: a VFREEBUSY of the first day with a period at 9 on the third counts by that period alone
+abbrev pub lasting_from_0 : Component
+lasting_from_0 = record (event (Some (at_hour 0)) (extent.Lasting (days_and_time (pos 1) (pos 0)))) {
+  kind = FreeBusy;
+  stored_busy = (None, record { start = at_hour 57; end = After (days_and_time (pos 0) (pos 3600)) }) ∷ [];
+}
+
+free_busy_lasting : (overlaps lasting_from_0 (instance 0 0) (minutes 3450 3465) ≡ true) × (overlaps lasting_from_0 (instance 0 0) (from_to 0 24) ≡ false)
+free_busy_lasting = (refl, refl)
 
 -- COMPLETED and CREATED, here at 9 and 12: either may lie before, in or after
 abbrev pub done_and_made : Component

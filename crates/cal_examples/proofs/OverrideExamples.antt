@@ -7,7 +7,7 @@ use Rattle.cal_model.specs.declared.object.Kind.TheVariants.{Todo}
 use Rattle.cal_model.specs.declared.object.Extent.TheVariants as extent
 use Rattle.cal_model.specs.declared.row.RowKind.TheVariants as kind
 use Rattle.cal_model.specs.declared.rule.Freq.TheVariants.{Weekly}
-use Rattle.cal_model.specs.Words.Numbers.{counted_from}
+use Rattle.cal_model.specs.Words.Lists.{counted_from}
 use Rattle.cal_model.specs.Recurrence.Passing.{day_passes, time_passes}
 use Rattle.cal_model.specs.TimeZones.Zones.{offset_at, exists_in, instant_of}
 use Rattle.cal_model.specs.Instances.Rows.{rows_over, rows_in_over, row_of}

@@ -24,23 +24,23 @@ carol = 2
 abbrev shared : List Grant
 shared = grant (Principal bob) 1 ∷ []
 
-of_each : (privileges_held shared alice alice ≡ 511) × (privileges_held shared alice bob ≡ 1) × (privileges_held shared alice carol ≡ 0)
+of_each : (privileges_held [] shared alice alice ≡ 511) × (privileges_held [] shared alice bob ≡ 1) × (privileges_held [] shared alice carol ≡ 0)
 unfolding privileges_held
 of_each = (refl, refl, refl)
 
 -- so bob may ask when she is busy and may not read, and carol sees neither the calendar nor the home
-asks : (has_all (privileges_held shared alice bob) read_free_busy ≡ true) × (has_all (privileges_held shared alice bob) read ≡ false)
+asks : (has_all (privileges_held [] shared alice bob) read_free_busy ≡ true) × (has_all (privileges_held [] shared alice bob) read ≡ false)
 unfolding privileges_held
 asks = (refl, refl)
 
-sees : (is_visible shared alice bob ≡ true) × (is_visible shared alice carol ≡ false) × (is_home_visible ([] ∷ shared ∷ []) alice bob ≡ true)
-    × (is_home_visible ([] ∷ shared ∷ []) alice carol ≡ false) × (is_home_visible [] alice alice ≡ true)
+sees : (is_visible [] shared alice bob ≡ true) × (is_visible [] shared alice carol ≡ false) × (is_home_visible [] ([] ∷ shared ∷ []) alice bob ≡ true)
+    × (is_home_visible [] ([] ∷ shared ∷ []) alice carol ≡ false) × (is_home_visible [] [] alice alice ≡ true)
 unfolding privileges_held
 sees = (refl, refl, refl, refl, refl)
 
 -- grants are united, those to everyone among them; one to the owner adds nothing
-several : (privileges_held (grant Everyone 1 ∷ grant (Principal bob) 68 ∷ grant Owner 2 ∷ grant (Principal carol) 8 ∷ grant (Principal bob) 65 ∷ []) alice bob ≡ 69)
-    × (privileges_held (grant Owner 511 ∷ []) alice bob ≡ 0)
+several : (privileges_held [] (grant Everyone 1 ∷ grant (Principal bob) 68 ∷ grant Owner 2 ∷ grant (Principal carol) 8 ∷ grant (Principal bob) 65 ∷ []) alice bob ≡ 69)
+    × (privileges_held [] (grant Owner 511 ∷ []) alice bob ≡ 0)
 unfolding privileges_held
 several = (refl, refl)
 

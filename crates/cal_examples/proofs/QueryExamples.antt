@@ -8,10 +8,10 @@ use Rattle.sha2.specs.Sha256.{first_words, schedule, rounds, compress, hash_afte
 use Rattle.std.proofs.Common.{arith}
 use Rattle.std.proofs.lemmas.Int.{ints}
 use Rattle.cal_model.specs.FirstPath.QueryTexts.{query_head, query_body, query_octets, query_request}
-use Rattle.cal_model.specs.FirstPath.Requests.{SpellsQuery}
+use Rattle.cal_model.specs.FirstPath.FirstPathRequests.{SpellsQuery}
 use Rattle.cal_model.specs.Server.ServerState.{found_calendar}
 use Rattle.cal_model.specs.Server.Step.{outcome, unchanged, refused}
-use Rattle.cal_model.specs.Scripts.UsersFile.{alice_alone}
+use Rattle.cal_model.specs.FirstPath.FirstPathUsersFile.{alice_alone}
 use Rattle.cal_model.proofs.FirstPath.QueryLemmas.{query_range-event_query}
 use Rattle.cal_model.specs.Server.Multistatus.{query_reply, object_response}
 use Rattle.cal_model.specs.declared.row.Range.{Range}
@@ -20,22 +20,23 @@ use Rattle.cal_model.specs.Server.EventTimes.{start_of, end_of}
 use Rattle.cal_model.specs.Replies.Hrefs.{segment}
 use Rattle.cal_model.specs.Replies.Statuses.{reason}
 use Rattle.cal_model.specs.Values.UtcTexts.{utc_of}
+use Rattle.cal_model.specs.Values.ValueTexts.{date_of, time_of, date_time_of}
 use Rattle.cal_model.specs.Replies.XmlText.{document, xml_text, attribute_text}
 use Rattle.cal_examples.proofs.Samples.{stand_up_octets, morning, range_of, eight, nine, ten, eleven, event_at}
 use Rattle.cal_examples.proofs.StepExamples.{with_stand_up, found_reply, found_body, empty_body}
 
 -- the event of 09:00 to 10:00 is found
 pub found : query_reply (codes "alice") (codes "calendar") ((codes "one.ics", stand_up_octets) ∷ []) (range_of nine ten) ≡ found_reply found_body
-unfolding etag_of encode_with first_words schedule rounds compress hash_after digest_bytes sha256 start_of end_of utc_of object_response segment reason digits document xml_text attribute_text is_utf8 chars encode
+unfolding etag_of encode_with first_words schedule rounds compress hash_after digest_bytes sha256 start_of end_of utc_of date_time_of date_of time_of object_response segment reason digits document xml_text attribute_text is_utf8 chars encode
 found = refl
 
 -- it is missed from 10:00 on, and up to 09:00
 pub missed_after : query_reply (codes "alice") (codes "calendar") ((codes "one.ics", stand_up_octets) ∷ []) (range_of ten eleven) ≡ found_reply empty_body
-unfolding start_of end_of utc_of document attribute_text is_utf8 chars encode
+unfolding start_of end_of utc_of date_time_of date_of time_of document attribute_text is_utf8 chars encode
 missed_after = refl
 
 pub missed_before : query_reply (codes "alice") (codes "calendar") ((codes "one.ics", stand_up_octets) ∷ []) (range_of eight nine) ≡ found_reply empty_body
-unfolding start_of end_of utc_of document attribute_text is_utf8 chars encode
+unfolding start_of end_of utc_of date_time_of date_of time_of document attribute_text is_utf8 chars encode
 missed_before = refl
 
 -- the request of a query changes nothing, and has this reply
@@ -63,7 +64,7 @@ query_body_length = refl
 
 -- they are that request
 pub query_spelled : SpellsQuery (query_octets morning) (query_request (range_of nine ten))
-unfolding utc_of
+unfolding utc_of date_time_of date_of time_of
 query_spelled = record {
   query = morning;
   range = range_of nine ten;

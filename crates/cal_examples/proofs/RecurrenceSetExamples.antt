@@ -6,7 +6,7 @@ use Rattle.cal_model.specs.declared.rule.Until.{Until}
 use Rattle.cal_model.specs.declared.rule.Until.TheVariants.{Day, Local, Utc}
 use Rattle.cal_model.specs.declared.rule.Freq.TheVariants.{Hourly, Daily, Monthly, Yearly}
 use Rattle.cal_model.specs.declared.zone.ZoneTable.{ZoneTable}
-use Rattle.cal_model.specs.Words.Numbers.{counted_from, last_or_else}
+use Rattle.cal_model.specs.Words.Lists.{counted_from, last_or_else}
 use Rattle.cal_model.specs.Recurrence.Passing.{day_passes, time_passes}
 use Rattle.cal_examples.proofs.PassingExamples.{each, every_weekday, at_nine, tuesday_and_sunday}
 use Rattle.cal_model.specs.Recurrence.RecurrenceSet.{Reading, recurrence_set_over, not_past, plain_reading, utc_reading}

@@ -4,16 +4,17 @@ use Rattle.std.proofs.lemmas.Int.{ints}
 use Rattle.std.specs.Prelude.{◌≡◌, refl, ℕ, List, [], ◌∷◌, ◌++◌, length, slice_index, codes, pos}
 use Rattle.std.specs.Fmt.{digits}
 use Rattle.cal_model.specs.declared.row.Range.{Range}
-use Rattle.cal_model.specs.Replies.DateField.{civil_after}
+use Rattle.cal_moment.specs.Calendar.{year_of, month_of, day_of_month}
 use Rattle.cal_model.specs.FirstPath.EventTexts.{EventText, event_octets, put_head, put_octets, put_request}
 use Rattle.cal_model.specs.Scripts.Frames.{bytes, reply_frame}
 use Rattle.cal_model.specs.FirstPath.QueryTexts.{QueryText, IsQueryText, query_head, query_body, query_request}
 use Rattle.cal_model.specs.Replies.ReplyOctets.{fields, reply_octets}
-use Rattle.cal_model.specs.FirstPath.Requests.{SpellsPut, SpellsQuery, SpellsNone}
+use Rattle.cal_model.specs.FirstPath.FirstPathRequests.{SpellsPut, SpellsQuery, SpellsNone}
 use Rattle.cal_model.specs.Scripts.Script.{Standing, event_of, open_reply, Follows, Turn, at_start}
 use Rattle.cal_model.specs.Replies.Statuses.{reason}
-use Rattle.cal_model.specs.Scripts.UsersFile.{alice_alone}
+use Rattle.cal_model.specs.FirstPath.FirstPathUsersFile.{alice_alone}
 use Rattle.cal_model.specs.Values.UtcTexts.{utc_of}
+use Rattle.cal_model.specs.Values.ValueTexts.{date_of, time_of, date_time_of}
 use Rattle.cal_examples.proofs.Samples.{stand_up, stand_up_octets, range_of, eight, nine, ten, eleven, moment}
 use Rattle.cal_examples.proofs.StepExamples.{with_stand_up, found_reply, found_body, empty_body}
 use Rattle.cal_examples.proofs.QueryExamples.{queried, found, missed_after, missed_before}
@@ -44,7 +45,7 @@ turned_away = codes "reply 0 107\nHTTP/1.1 501 Not Implemented\r\nDate: Mon, 10 
 
 -- after it the connection is closed, and nothing more is answered
 pub one_octet_twice : Follows alice_alone (at_start alice_alone) (bytes 0 moment (codes "x") ∷ bytes 0 moment (codes "x") ∷ []) turned_away
-unfolding reply_frame reply_octets fields reason civil_after digits
+unfolding reply_frame reply_octets fields reason year_of month_of day_of_month digits
 one_octet_twice = (
   turned_away,
   [],
@@ -64,7 +65,7 @@ pub put_length : length put_text ≡ 335
 put_length = refl
 
 pub put_spelled : SpellsPut put_text (put_request stand_up)
-unfolding put_head event_octets digits utc_of
+unfolding put_head event_octets digits utc_of date_time_of date_of time_of
 put_spelled = record {
   event = stand_up;
   bounds = record {
@@ -104,11 +105,11 @@ missed_answer = codes "reply 0 243\nHTTP/1.1 207 Multi-Status\r\nDate: Mon, 10 M
 
 -- the frame of a reply with status 207 and this body
 found_in_frame : open_reply 0 moment (found_reply found_body) ≡ found_answer
-unfolding reply_frame reply_octets fields reason civil_after digits
+unfolding reply_frame reply_octets fields reason year_of month_of day_of_month digits
 found_in_frame = refl
 
 missed_in_frame : open_reply 0 moment (found_reply empty_body) ≡ missed_answer
-unfolding reply_frame reply_octets fields reason civil_after digits
+unfolding reply_frame reply_octets fields reason year_of month_of day_of_month digits
 missed_in_frame = refl
 
 -- where the script stands after the PUT
@@ -116,7 +117,7 @@ abbrev stored : Standing
 stored = record { server = with_stand_up; closed = [] }
 
 put_turn : Turn alice_alone (at_start alice_alone) (bytes 0 moment put_text) put_answer stored
-unfolding outcome put_request event_octets found_calendar opening_state reply_frame reply_octets fields reason civil_after digits etag_of encode_with first_words schedule rounds compress hash_after digest_bytes sha256
+unfolding outcome put_request event_octets found_calendar opening_state reply_frame reply_octets fields reason year_of month_of day_of_month digits etag_of encode_with first_words schedule rounds compress hash_after digest_bytes sha256
 put_turn = inr (inl (record { is_open = refl; request = put_request stand_up; asked = inl put_spelled; answered = inl (refl, refl) }))
 
 -- a query of the calendar, whose reply has this body
@@ -140,15 +141,15 @@ abbrev at_hour : List ℕ → List ℕ → QueryText
 at_hour start end = record { start = start; end = end }
 
 in_bounds : IsQueryText (at_hour (codes "20250310T090000Z") (codes "20250310T100000Z")) (range_of nine ten)
-unfolding utc_of
+unfolding utc_of date_time_of date_of time_of
 in_bounds = record { start_is = refl; end_is = refl; not_too_early = omega (arith, ints); in_order = omega (arith, ints); not_too_late = omega (arith, ints) }
 
 after_in_bounds : IsQueryText (at_hour (codes "20250310T100000Z") (codes "20250310T110000Z")) (range_of ten eleven)
-unfolding utc_of
+unfolding utc_of date_time_of date_of time_of
 after_in_bounds = record { start_is = refl; end_is = refl; not_too_early = omega (arith, ints); in_order = omega (arith, ints); not_too_late = omega (arith, ints) }
 
 before_in_bounds : IsQueryText (at_hour (codes "20250310T080000Z") (codes "20250310T090000Z")) (range_of eight nine)
-unfolding utc_of
+unfolding utc_of date_time_of date_of time_of
 before_in_bounds = record { start_is = refl; end_is = refl; not_too_early = omega (arith, ints); in_order = omega (arith, ints); not_too_late = omega (arith, ints) }
 
 -- the whole script

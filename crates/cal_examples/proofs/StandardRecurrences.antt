@@ -7,7 +7,7 @@ use Rattle.cal_model.specs.declared.rule.Until.{Until}
 use Rattle.cal_model.specs.declared.rule.Until.TheVariants.{Utc}
 use Rattle.cal_model.specs.declared.rule.Freq.TheVariants.{Daily, Weekly, Monthly, Yearly}
 use Rattle.cal_model.specs.declared.zone.ZoneTable.{ZoneTable}
-use Rattle.cal_model.specs.Words.Numbers.{counted_from}
+use Rattle.cal_model.specs.Words.Lists.{counted_from}
 use Rattle.cal_model.specs.Recurrence.Passing.{day_passes, time_passes}
 use Rattle.cal_model.specs.Recurrence.RecurrenceSet.{recurrence_set_over}
 use Rattle.cal_model.specs.TimeZones.Zones.{offset_at, exists_in, instant_of}

@@ -9,12 +9,13 @@ use Rattle.cal_model.specs.declared.reply.Media.TheVariants.{Xml}
 use Rattle.cal_model.specs.declared.reply.Reply.{Reply}
 use Rattle.cal_model.specs.Replies.Etags.{etag_of}
 use Rattle.cal_model.specs.FirstPath.EventTexts.{event_octets, put_request}
-use Rattle.cal_model.specs.Server.EventTimes.{start_of, end_of, overlaps}
+use Rattle.cal_model.specs.Server.EventTimes.{start_of, end_of, event_overlaps}
 use Rattle.cal_model.specs.Words.Limits.{home_limit}
 use Rattle.cal_model.specs.Server.ServerState.{ServerState, opening_state, first_calendar, found_calendar}
 use Rattle.cal_model.specs.Server.Step.{accepted, refused, outcome}
-use Rattle.cal_model.specs.Scripts.UsersFile.{alice_alone}
+use Rattle.cal_model.specs.FirstPath.FirstPathUsersFile.{alice_alone}
 use Rattle.cal_model.specs.Values.UtcTexts.{utc_of}
+use Rattle.cal_model.specs.Values.ValueTexts.{date_of, time_of, date_time_of}
 use Rattle.cal_examples.proofs.Samples.{stand_up, stand_up_octets, stand_up_etag, range_of, eight, nine, ten, eleven, event_at}
 
 -- the octets of the event
@@ -32,11 +33,11 @@ event_etag = refl
 
 -- when it takes place
 pub event_start : start_of stand_up_octets ≡ Some (pos nine)
-unfolding start_of utc_of is_utf8 chars encode
+unfolding start_of utc_of date_time_of date_of time_of is_utf8 chars encode
 event_start = refl
 
 pub event_end : end_of stand_up_octets ≡ Some (pos ten)
-unfolding end_of utc_of is_utf8 chars encode
+unfolding end_of utc_of date_time_of date_of time_of is_utf8 chars encode
 event_end = refl
 
 -- the first PUT
@@ -76,38 +77,38 @@ put_over = refl
 
 -- Overlaps: 09:00 to 10:00
 
-pub same_hour : overlaps (range_of nine ten) stand_up_octets ≡ true
-unfolding start_of end_of utc_of is_utf8 chars encode
+pub same_hour : event_overlaps (range_of nine ten) stand_up_octets ≡ true
+unfolding start_of end_of utc_of date_time_of date_of time_of is_utf8 chars encode
 same_hour = refl
 
 -- one second is enough
-pub first_second : overlaps (range_of eight (nine + 1)) stand_up_octets ≡ true
-unfolding start_of end_of utc_of is_utf8 chars encode
+pub first_second : event_overlaps (range_of eight (nine + 1)) stand_up_octets ≡ true
+unfolding start_of end_of utc_of date_time_of date_of time_of is_utf8 chars encode
 first_second = refl
 
-pub last_second : overlaps (range_of (ten - 1) eleven) stand_up_octets ≡ true
-unfolding start_of end_of utc_of is_utf8 chars encode
+pub last_second : event_overlaps (range_of (ten - 1) eleven) stand_up_octets ≡ true
+unfolding start_of end_of utc_of date_time_of date_of time_of is_utf8 chars encode
 last_second = refl
 
 -- a touch is none
-pub hour_before : overlaps (range_of eight nine) stand_up_octets ≡ false
-unfolding start_of end_of utc_of is_utf8 chars encode
+pub hour_before : event_overlaps (range_of eight nine) stand_up_octets ≡ false
+unfolding start_of end_of utc_of date_time_of date_of time_of is_utf8 chars encode
 hour_before = refl
 
-pub hour_after : overlaps (range_of ten eleven) stand_up_octets ≡ false
-unfolding start_of end_of utc_of is_utf8 chars encode
+pub hour_after : event_overlaps (range_of ten eleven) stand_up_octets ≡ false
+unfolding start_of end_of utc_of date_time_of date_of time_of is_utf8 chars encode
 hour_after = refl
 
 -- an event with no length overlaps a range that it lies within, and neither touches
 abbrev pub instant_octets : List ℕ
 instant_octets = event_octets (record stand_up { end = codes "20250310T090000Z" })
 
-pub instant_within : overlaps (range_of eight ten) instant_octets ≡ true
-unfolding start_of end_of utc_of event_octets is_utf8 chars encode
+pub instant_within : event_overlaps (range_of eight ten) instant_octets ≡ true
+unfolding start_of end_of utc_of date_time_of date_of time_of event_octets is_utf8 chars encode
 instant_within = refl
 
-pub instant_at_start : overlaps (range_of nine ten) instant_octets ≡ false
-unfolding start_of end_of utc_of event_octets is_utf8 chars encode
+pub instant_at_start : event_overlaps (range_of nine ten) instant_octets ≡ false
+unfolding start_of end_of utc_of date_time_of date_of time_of event_octets is_utf8 chars encode
 instant_at_start = refl
 
 -- Queries

@@ -7,7 +7,7 @@ use Rattle.cal_model.specs.declared.rule.Freq.TheVariants.{Daily, Yearly}
 use Rattle.cal_model.specs.declared.rule.Until.TheVariants.{Utc}
 use Rattle.cal_model.specs.declared.zone.ZoneTable.{ZoneTable}
 use Rattle.cal_model.specs.declared.zone.ZonePart.{ZonePart}
-use Rattle.cal_model.specs.Words.Numbers.{counted_from}
+use Rattle.cal_model.specs.Words.Lists.{counted_from}
 use Rattle.cal_model.specs.Recurrence.Passing.{day_passes, time_passes}
 use Rattle.cal_examples.proofs.PassingExamples.{each, nth_weekday}
 use Rattle.cal_examples.proofs.RecurrenceSetExamples.{daily_at, in_zone}

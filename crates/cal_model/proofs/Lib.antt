@@ -9,7 +9,12 @@ pub mod Filters
 pub mod Selections
 pub mod Busy
 pub mod Reports
+pub mod Pieces
 mod Access
 mod Replies
+pub mod Streams
+pub mod Paths
+pub mod Bodies
+pub mod Requests
 pub mod FirstPath
 pub mod Scripts

@@ -1,2 +1,2 @@
--- The date that is counted day by day is the one that httpdate writes.
-pub mod Dates
+-- The date of a moment by the one calendar is the one that httpdate writes, for `date_value`.
+pub mod DateLemmas

@@ -1,8 +1,10 @@
 -- Values are those that their texts spell, and the place of a bad one is the least; from fronts of numbers up to fronts of rules.
+-- UtcLaws serves first_path and cal_book. ValueLaws, LengthLaws, RuleFronts (`FrontsOfRulesAreTried`) and ValuePlaces wait for ical_values, whose readers are held to the
+-- definitions by them; the others are steps.
 pub mod CutLemmas
 pub mod ValueLaws
 pub mod LengthLaws
-pub mod UtcLemmas
+pub mod UtcLaws
 pub mod BadValueLaws
 pub mod NumberFronts
 pub mod ListFronts

@@ -9,8 +9,14 @@ pub mod Filters
 pub mod Selections
 pub mod Busy
 pub mod Reports
+pub mod Pieces
 pub mod Access
 pub mod Server
 pub mod Replies
+pub mod Streams
+pub mod Paths
+pub mod Users
+pub mod Bodies
+pub mod Requests
 pub mod FirstPath
 pub mod Scripts

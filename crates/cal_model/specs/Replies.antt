@@ -1,8 +1,13 @@
--- The octets of a reply (RFC 9112, 2.1 and 4; RFC 4918, 14): status line, fields, XML, paths, entity tags.
--- Given: a typed reply. ReplyOctets is the whole; the others are its parts.
+-- The octets of a reply (RFC 9110; RFC 9112, 2.1 and 4; RFC 4918, 14).
+-- Given: a typed reply, the moment, whether the connection closes, and whether the request was HEAD. ReplyOctets is the answer; WireReplies says when a reply closes the
+-- connection, when it has no content, and what a fault of the stream is answered.
+-- Read before it: Statuses (status lines), BareReplies (a status alone), Etags (entity tags), DateField (the field Date), and for bodies Hrefs (paths as they are written)
+-- and XmlText (multistatus).
 pub mod Statuses
+pub mod BareReplies
 pub mod Etags
 pub mod DateField
 pub mod Hrefs
 pub mod XmlText
 pub mod ReplyOctets
+pub mod WireReplies

@@ -1,5 +1,6 @@
--- What a report rests on beside the objects: the zone of floating times, the ranges that it names, the windows that it may have to expand.
--- Given: the request. The windows bound work and say nothing of the answer.
+-- What a report rests on beside the objects themselves (RFC 4791, 7.3, 7.8 to 7.10 and 9.8).
+-- Given: the request, and an object. Each of the three is an answer: FloatingZone the zone in which floating times are read, NamedRanges the ranges that the report names,
+-- NeededWindows the windows of 64 days whose rows it may need. The standards know no windows: they bound the work of a report, and that no answer changes by them is proved.
 pub mod FloatingZone
 pub mod NamedRanges
-pub mod ReportPairs
+pub mod NeededWindows

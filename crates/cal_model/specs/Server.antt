@@ -1,5 +1,8 @@
--- The server itself: what it holds, what a request does to that, and what is answered (RFC 4791, 5 and 7).
--- Given: a typed request. ServerState, Step and Answer are the whole; EventTimes, Queries and Multistatus are the first path's share of a report.
+-- The server itself: what it holds, what a request does to that, and what is answered (RFC 4791, 4.2, 5 and 7).
+-- Given: the users, a state, and an event: a typed request with who makes it and when. Answer is the whole (`reply_to`, `state_after`). Read before it: ServerState (what is
+-- held) and Step (what a request does).
+-- So far a PUT of an object and one form of calendar-query are answered. Queries, EventTimes and Multistatus are what these two need, and go when Filters and Selections
+-- answer every report.
 pub mod ServerState
 pub mod Queries
 pub mod EventTimes

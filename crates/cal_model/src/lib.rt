@@ -1,17 +1,20 @@
 //! The data that all layers share, and what the server is held to.
 //!
 //! Given: the base types and the dates of the crates below. Gives: the types of calendar objects,
-//! recurrence, filters, requests, replies and stored collections, the conversions of time zones, and
-//! in `specs/` the definitions that every public call above is measured by: what texts of values and
-//! rules spell, which calendar object octets are, its instances and which of them a range meets,
-//! filters, calendar data, busy time and privileges; and the state of the server, what a request does
-//! to it and what the reply to it is, the octets of a reply, and what a script prints. Used by: every
-//! crate above.
+//! recurrence, filters, requests as they come and as they are understood, replies and stored
+//! collections, the conversions of time zones, and in `specs/` the definitions that every public call
+//! above is measured by: what texts of values and rules spell, which calendar object octets are, its
+//! instances and which of them a range meets, filters, calendar data, busy time and privileges; which
+//! requests the octets of a connection are, who sent them and what they ask for; and the state of the
+//! server, what a request does to it and what the reply to it is, the octets of a reply, and what a
+//! script prints. Used by: every crate above.
 #![tactic(auto)]
 
 pub mod filter;
+pub mod next_passing;
 pub mod object;
 pub mod path;
+pub mod piece;
 pub mod privilege;
 pub mod property;
 pub mod reply;
@@ -19,17 +22,19 @@ pub mod report;
 pub mod request;
 pub mod row;
 pub mod rule;
-pub mod rules;
 pub mod selection;
 pub mod store;
+pub mod wire;
 pub mod zone;
 mod zone_time;
 
 pub use filter::{
     Collation, CompFilter, Filter, ParamFilter, ParamTest, PropFilter, PropTest, TextMatch,
 };
+pub use next_passing::Rules;
 pub use object::{Alarm, Class, Component, Extent, Kind, NotResource, Object, Related, Trigger};
 pub use path::{ObjectPath, Path};
+pub use piece::Piece;
 pub use privilege::{Acl, Grant, PrivilegeSet, Who};
 pub use property::{PropName, PropSet, Props};
 pub use reply::{Cond, Etag, Media, Refusal, Reply, date_value};
@@ -37,8 +42,8 @@ pub use report::ReportRequest;
 pub use request::{Content, Event, Method, Request, Tags};
 pub use row::{Fixed, Range, Row, RowKind};
 pub use rule::{DayPart, Freq, Rule, Until};
-pub use rules::Rules;
 pub use selection::{CompPick, PropPick, Recur, Selection};
 pub use store::CalendarData;
+pub use wire::{WireFault, WireRequest};
 pub use zone::{Onset, ZonePart, ZoneTable};
 pub use zone_time::{exists, offset_at, to_utc};

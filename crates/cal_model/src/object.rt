@@ -18,9 +18,9 @@ pub enum Kind {
     FreeBusy,
 }
 
-/// How a component says when it ends (RFC 5545, 3.6.1 to 3.6.4). Only one of DTEND, DUE and
-/// DURATION is in a component that is read: DUE counts in a VTODO alone, DTEND in the other kinds
-/// alone, DURATION in all.
+/// How a component says when it ends (RFC 5545, 3.6.1 to 3.6.4). DUE counts in a VTODO alone, DTEND
+/// in the other kinds alone, and DURATION in all. A component that is read has DURATION beside
+/// neither of the two; DTEND and DUE may stand together, and then the one that counts says the end.
 #[derive(Clone, Copy, PartialEq, Eq)]
 pub enum Extent {
     /// By DTEND, of a VEVENT, VJOURNAL or VFREEBUSY: at that value.

@@ -1,9 +1,10 @@
 //! Zone conversion (RFC 5545, 3.3.5 and 3.6.5).
 
 ghost use Rattle.std.specs.Prelude.{ℕ, pos, ◌+ℤ◌, ◌-ℤ◌, ◌≡◌, ◌<◌, ◌≤◌, length, true, false, int_le, slice_index_or, IfSome, IfNone};
+ghost use Rattle.std.specs.Bool.{OnTrue, OnFalse};
 ghost use Rattle.std.specs.List.{AllWithin};
 ghost use Rattle.cal_model.specs.declared.zone.Onset.{Onset};
-ghost use Rattle.cal_model.specs.Words.Numbers.{local_seconds};
+ghost use Rattle.cal_model.specs.Values.LocalTimes.{local_seconds};
 ghost use Rattle.cal_model.specs.TimeZones.Stretches as stretches;
 ghost use Rattle.cal_model.specs.TimeZones.TableBounds.{IsRising, IsTable, IsDigits};
 ghost use Rattle.cal_model.specs.TimeZones.Zones as spec;
@@ -34,7 +35,8 @@ fn offset_of(onsets: &[Onset], k: usize) -> i32
 #[tactic(auto, using(crate::proofs::TimeZones::Onsets::offset_among_none, crate::proofs::TimeZones::Onsets::offset_among_last), unfolding(crate::specs::TimeZones::Zones::offset_at))]
 pub fn offset_at(table: &ZoneTable, at: Utc) -> i32
     requires { IsRising table.now.onsets }
-    ensures { result ≡ spec.offset_at table.now at.0 }
+    ensures value { result ≡ spec.offset_at table.now at.0 }
+    ensures meaning { spec.IsOffsetAt table.now at.0 result }
 {
     let onsets = table.onsets.as_slice();
     let n = onsets_until(onsets, at.0);
@@ -197,9 +199,12 @@ fn instant_at(table: &ZoneTable, local: i64) -> i64
 }
 
 /// Whether some instant has this local time.
+#[tactic(auto, using(crate::proofs::TimeZones::ConversionLaws::OnTrue_exists_in, crate::proofs::TimeZones::ConversionLaws::OnFalse_exists_in))]
 pub fn exists(table: &ZoneTable, local: Local) -> bool
     requires { IsTable table.now }
-    ensures { result ≡ spec.exists_in table.now (local_seconds local) }
+    ensures value { result ≡ spec.exists_in table.now (local_seconds local) }
+    ensures shown { OnTrue result (spec.IsShown table.now (local_seconds local)) }
+    ensures skipped { OnFalse result (spec.IsSkipped table.now (local_seconds local)) }
 {
     exists_at(table, seconds_of(local))
 }

@@ -122,7 +122,8 @@ begun_months y m d month day k =
 count_by-same : (p q : ℕ → Bool) → ((k : ℕ) → p k ≡ q k) → (xs : List ℕ) → count_by p xs ≡ count_by q xs
 count_by-same p q same xs = ap (λ (r : ℕ → Bool). count_by r xs) (λ i k. same k i)
 
-months_until : (m : ℕ) → m ≤ 12 → count_by (λ k. nat_le k m) the_months ≡ m
+-- the first m months are so many
+pub months_until : (m : ℕ) → m ≤ 12 → count_by (λ k. nat_le k m) the_months ≡ m
 months_until zero h = refl
 months_until (suc (zero)) h = refl
 months_until (suc (suc (zero))) h = refl

@@ -10,7 +10,7 @@ use Rattle.cal_base.specs.World.Outside.{Adds}
 use Rattle.cal_base.proofs.World.Taking.{Adds-more}
 use Rattle.cal_model.specs.Scripts.Frames.{Frame, bytes, frame_text, frames_text, reply_frame, IsFrame, IsCutInto}
 use Rattle.cal_model.specs.Scripts.Script.{Standing, Turn, Follows, IsPrinted, at_start}
-use Rattle.cal_model.specs.Scripts.UsersFile.{alice_alone}
+use Rattle.cal_model.specs.FirstPath.FirstPathUsersFile.{alice_alone}
 use Rattle.cal_script.specs.Answered.{Reaches, IsAnsweredWhole, IsAnsweredInPart, IsAnsweredTo}
 use Rattle.cal_script.specs.AnsweredFrames.{AnswersFrame, AnswersInPart}
 use Rattle.cal_script.specs.FirstFrames.{BeginsNoFrame, NeverBeginsFrame, IsFrameThen}

@@ -10,7 +10,7 @@ use Rattle.cal_base.specs.World.Outside.{Takes, Goes, Adds}
 use Rattle.cal_base.proofs.World.Taking.{Takes-more, Takes-end}
 use Rattle.cal_model.specs.Scripts.Frames.{Frame, bytes, frame_text, frames_text, IsFrame, IsCutInto}
 use Rattle.cal_model.specs.Scripts.Script.{Standing, IsPrinted, at_start}
-use Rattle.cal_model.specs.Scripts.UsersFile.{alice_alone}
+use Rattle.cal_model.specs.FirstPath.FirstPathUsersFile.{alice_alone}
 use Rattle.cal_script.specs.declared.answering.Answering.TheVariants.{Cut, Bad}
 use Rattle.cal_script.specs.Answered.{Reaches, IsAnsweredWhole, IsAnsweredInPart, IsAnsweredTo, HasAnswered}
 use Rattle.cal_script.specs.declared.running.FrameEnd.{FrameEnd}

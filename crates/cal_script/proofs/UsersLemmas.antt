@@ -3,7 +3,7 @@ use Rattle.std.proofs.Common.{◌≡◌, ℕ, ◌<◌, ◌≤◌, List, length, 
 use Rattle.std.proofs.lemmas.Slice.Eq.{bytes_eq-Decides}
 use Rattle.std.specs.Bool.{IsTrue, Decides}
 use Rattle.std.specs.Str.{bytes_eq}
-use Rattle.cal_model.specs.Scripts.UsersFile.{users_line, alice_alone, IsUsersFile}
+use Rattle.cal_model.specs.FirstPath.FirstPathUsersFile.{users_line, alice_alone, IsUsersFile}
 
 -- a longer file is not it
 pub too_long : (content : Option (List ℕ)) (limit : ℕ) → 100 ≤ limit → IfSome content (λ all. limit < length all) → IfSome content (λ octets. ¬ IsUsersFile octets alice_alone)

@@ -3,7 +3,7 @@ use Rattle.std.specs.Prelude.{◌≡◌, ℕ, ◌≤◌, List, [], ◌∷◌, �
 use Rattle.cal_base.specs.World.Outside.{Adds}
 use Rattle.cal_model.specs.Scripts.Frames.{Frame, bytes, frames_text, IsFrame}
 use Rattle.cal_model.specs.Scripts.Script.{Standing, Turn}
-use Rattle.cal_model.specs.Scripts.UsersFile.{alice_alone}
+use Rattle.cal_model.specs.FirstPath.FirstPathUsersFile.{alice_alone}
 use Rattle.cal_script.specs.FrameHeads.{IsFrameStart}
 use Rattle.cal_script.specs.FirstFrames.{NeverBeginsFrame}
 use Rattle.cal_script.specs.declared.answering.Answering.{Answering}

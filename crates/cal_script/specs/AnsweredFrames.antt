@@ -3,7 +3,7 @@ use Rattle.std.specs.Prelude.{ℕ, List, take, Option}
 use Rattle.cal_base.specs.World.Outside.{Adds}
 use Rattle.cal_model.specs.Scripts.Frames.{bytes}
 use Rattle.cal_model.specs.Scripts.Script.{Standing, Turn}
-use Rattle.cal_model.specs.Scripts.UsersFile.{alice_alone}
+use Rattle.cal_model.specs.FirstPath.FirstPathUsersFile.{alice_alone}
 
 -- a frame of connection 0 was answered, and what it prints was written
 pub record AnswersFrame (moment : ℕ) (payload : List ℕ) (before : Standing) (written : Option (List ℕ)) (after : Standing) (now : Option (List ℕ)) : Type 0 where

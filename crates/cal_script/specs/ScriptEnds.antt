@@ -3,7 +3,7 @@ use Rattle.std.specs.Prelude.{◌≡◌, ◌≢◌, ◌⊎◌, ℕ, ◌+◌, Lis
 use Rattle.cal_base.specs.World.Outside.{Takes, Adds}
 use Rattle.cal_model.specs.Scripts.Script.{IsPrinted}
 use Rattle.cal_script.specs.FrameHeads.{IsFrameStart}
-use Rattle.cal_model.specs.Scripts.UsersFile.{alice_alone}
+use Rattle.cal_model.specs.FirstPath.FirstPathUsersFile.{alice_alone}
 
 -- the path of the users file, where the words are `script`, `--users` and a path that is not empty
 abbrev pub users_path : List (List ℕ) → Option (List ℕ)

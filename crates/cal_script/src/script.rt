@@ -1,7 +1,7 @@
 //! The command `script`.
 ghost use Rattle.std.specs.Prelude.{◌≡◌, ◌≢◌, ◌≤◌, ◌⊎◌, ◌↔◌, None, IfSome};
 ghost use Rattle.cal_base.specs.World.Outside.{Rose};
-ghost use Rattle.cal_model.specs.Scripts.UsersFile.{IsUsersFile, alice_alone};
+ghost use Rattle.cal_model.specs.FirstPath.FirstPathUsersFile.{IsUsersFile, alice_alone};
 ghost use Rattle.cal_script.specs.ScriptEnds.{users_path, RefusesStart, RunsFrames, EndsInPart, HasPlace, RanToEnd, MetBadFrame, StoppedReading, WroteFront};
 
 use crate::running::{FrameEnd, run_frames};

@@ -8,7 +8,7 @@ ghost use Rattle.cal_model.specs.Words.Limits.{last_moment};
 ghost use Rattle.cal_model.specs.Scripts.Script.{at_start, Turn};
 ghost use Rattle.cal_model.specs.Scripts.Frames.{bytes};
 ghost use Rattle.cal_model.specs.Server.Step.{bare_reply};
-ghost use Rattle.cal_model.specs.Scripts.UsersFile.{alice_alone};
+ghost use Rattle.cal_model.specs.FirstPath.FirstPathUsersFile.{alice_alone};
 ghost use Rattle.cal_script.specs.Printed.{printed_of};
 
 use cal_base::{NoMemory, Octets};

@@ -1,7 +1,7 @@
 //! The users file.
 ghost use Rattle.std.specs.Prelude.{◌≡◌, ◌≤◌, ◌↔◌, IsTrue, OnOk, IfSome, IsErrOf};
 ghost use Rattle.cal_base.specs.World.Outside.{Rose};
-ghost use Rattle.cal_model.specs.Scripts.UsersFile.{IsUsersFile, alice_alone};
+ghost use Rattle.cal_model.specs.FirstPath.FirstPathUsersFile.{IsUsersFile, alice_alone};
 
 use cal_base::{FileFault, Files};
 use std::alloc::Global;

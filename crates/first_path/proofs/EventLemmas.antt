@@ -6,9 +6,9 @@ use Rattle.std.proofs.lemmas.Bool.{and_parts, leb-true, le-leb, cases_Bool}
 use Rattle.std.proofs.lemmas.Bool.Decides.{nat_tests}
 use Rattle.std.proofs.lemmas.List.Folds.{list_all-append}
 use Rattle.cal_moment.specs.Texts.{digits, date_text, time_text}
-use Rattle.cal_model.proofs.Values.UtcLemmas.{SpellsDateTime-utc_of}
+use Rattle.cal_model.proofs.Values.UtcLaws.{moment_text, spelled_whole, SpellsDateTime-utc_of}
 use Rattle.cal_model.specs.FirstPath.EventTexts.{EventText, IsEventText, event_octets, is_name_octet, is_printable}
-use Rattle.cal_model.specs.Values.UtcTexts.{utc_of, moment_text}
+use Rattle.cal_model.specs.Values.UtcTexts.{utc_of}
 use Rattle.first_path.specs.Spans.{IsSpan}
 use Rattle.first_path.specs.Cuts.{lacks}
 
@@ -96,11 +96,10 @@ moment_text_is y m d h n s = record {
 
 pub moment_is : (text : List ℕ) (at : ℤ) → utc_of text ≡ Some at → IsMomentText text
 moment_is text at e =
-    let w = (SpellsDateTime-utc_of text at e).1 in
-    let d = w.spells_date in
-    let t = w.spells_time in
-    let whole : text ≡ moment_text d.year d.month d.day t.hour t.minute t.second =
-    w.spelled ∙ ap₂ (λ date time. date ++ (codes "T" ++ (time ++ codes "Z"))) d.spelled t.spelled in
+    let spelled = SpellsDateTime-utc_of text at e in
+    let d = spelled.1.spells_date in
+    let t = spelled.1.spells_time in
+    let whole : text ≡ moment_text d.year d.month d.day t.hour t.minute t.second = spelled_whole text spelled.0 spelled.1 in
     rw whole (moment_text_is d.year d.month d.day t.hour t.minute t.second)
 
 -- the parts of an event lack CR

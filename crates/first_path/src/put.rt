@@ -2,7 +2,7 @@
 
 ghost use Rattle.std.specs.Prelude.{◌≡◌, ◌↔◌, ◌++◌, List, ℕ, length, codes, decimal, IsTrue, IsSomeAnd, IfOk, IfSome, MatchOption};
 ghost use Rattle.cal_model.specs.FirstPath.EventTexts.{IsEventText, event_octets, put_head, put_request as put_request_of};
-ghost use Rattle.cal_model.specs.FirstPath.Requests.{SpellsPut};
+ghost use Rattle.cal_model.specs.FirstPath.FirstPathRequests.{SpellsPut};
 ghost use Rattle.cal_model.specs.declared.request.Request.{Request as Asked};
 ghost use Rattle.first_path.specs.Cuts.{lacks};
 ghost use Rattle.first_path.specs.Parts.{text_of};

@@ -5,7 +5,7 @@ ghost use Rattle.std.specs.Prelude.{◌≡◌, List, ℕ, Option, IsSomeAnd, IfO
 ghost use Rattle.cal_base.specs.Texts.Text.{raised_all};
 ghost use Rattle.cal_model.specs.Server.Queries.{component_filter, event_filter as event_filter_of, event_query as event_query_of};
 ghost use Rattle.cal_model.specs.FirstPath.QueryTexts.{QueryText, IsQueryText, query_octets, query_request as query_request_of};
-ghost use Rattle.cal_model.specs.FirstPath.Requests.{SpellsQuery};
+ghost use Rattle.cal_model.specs.FirstPath.FirstPathRequests.{SpellsQuery};
 ghost use Rattle.cal_model.specs.declared.request.Request.{Request as Asked};
 ghost use Rattle.cal_model.specs.declared.row.Range.{Range as Span};
 

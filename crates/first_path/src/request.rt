@@ -1,7 +1,7 @@
 //! Requests as they stand in frames.
 
 ghost use Rattle.std.specs.Prelude.{IfOk, MatchOption};
-ghost use Rattle.cal_model.specs.FirstPath.Requests.{SpellsRequest, SpellsNone};
+ghost use Rattle.cal_model.specs.FirstPath.FirstPathRequests.{SpellsRequest, SpellsNone};
 
 use crate::put::read_put;
 use crate::query::read_query;

@@ -8,7 +8,7 @@ use Rattle.cal_base.specs.declared.line.Line.{Line}
 use Rattle.cal_base.specs.declared.line.Node.{Node}
 use Rattle.cal_base.specs.Lines.ComponentTrees.{is_begin, is_end, component_name, NestingFault, wrong_end, too_deep, or_else, Level, component, with_line, with_begin, levels_before, outermost}
 use Rattle.ical_objects.specs.declared.fault.TreeFault.TheVariants.{WrongEnd, TooDeep}
-use Rattle.ical_objects.specs.declared.stack.OpenComponent.{OpenComponent}
+use Rattle.ical_objects.specs.declared.open_component.OpenComponent.{OpenComponent}
 use Rattle.ical_objects.specs.declared.from_lines.Progress.TheVariants.{Nothing, Within, Whole}
 use Rattle.cal_base.specs.Lines.Nesting.{Opening, fault_of_next, open_behind, fault_from}
 use Rattle.ical_objects.specs.Building.{IsBehind, IsStep, IsStop, opening_of, openings, with_so_far, closed, tree_with, whole_node, ended}

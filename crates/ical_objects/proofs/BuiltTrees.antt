@@ -13,7 +13,7 @@ use Rattle.cal_base.specs.Lines.Nesting.{Opening, fault_of_next, open_behind, fa
 use Rattle.ical_objects.specs.Printing.{IsPrintable, printable, ArePrintable, no_more, one_more, IsOwnLine}
 use Rattle.cal_base.proofs.Lines.NestingSteps.{Kind, begins, ends, neither, kind_of, open_behind_begin, open_behind_end, open_behind_own, fault_of_stray, fault_of_later, fault_of_begin, fault_of_end, before_begin, before_end, before_own}
 use Rattle.cal_base.proofs.Lines.FaultsFromFront.{nesting_fault-from_front}
-use Rattle.ical_objects.proofs.CleanTexts.{raised_all-raised_all}
+use Rattle.cal_base.proofs.Texts.RaisedTexts.{IsRaised-raised_all}
 use Rattle.ical_objects.proofs.ComponentLines.{IsReadLine-begin_line, IsReadLine-end_line}
 
 -- Lines in which the innermost open component has its END. `Outer` says the same of the components around it, of which there
@@ -96,7 +96,7 @@ closed_begin opening around number line lines levels read begin closed =
     let part = line ∷ closed.body ++ closed.end ∷ [] in
     let room : suc closed.room ≡ rest.room = omega (arith, closed.room_is, rest.room_is) in
     let fits : IsPrintable rest.room child = subst (λ levels_left. IsPrintable levels_left child) room
-    (printable closed.room name closed.level (raised_all-raised_all line.value) (IsReadLine-begin_line line read) (IsReadLine-end_line line read) closed.own closed.fit) in
+    (printable closed.room name closed.level (IsRaised-raised_all line.value) (IsReadLine-begin_line line read) (IsReadLine-end_line line read) closed.own closed.fit) in
     record {
       body = part ++ rest.body;
       end = rest.end;
@@ -188,7 +188,7 @@ tree_of_closed line lines read begin closed =
         nested = subst (λ these. IsComponent these node) (sym all)
             (whole line closed.end closed.body closed.level.lines closed.level.children begin closed.end_is (sym closed.name_is) closed.body_is);
         printed = subst (λ levels_left. IsPrintable levels_left node) (let three : suc closed.room ≡ 4 = omega (arith, closed.room_is) in three)
-            (printable closed.room name closed.level (raised_all-raised_all line.value) (IsReadLine-begin_line line read) (IsReadLine-end_line line read) closed.own closed.fit);
+            (printable closed.room name closed.level (IsRaised-raised_all line.value) (IsReadLine-begin_line line read) (IsReadLine-end_line line read) closed.own closed.fit);
       },
     )
 

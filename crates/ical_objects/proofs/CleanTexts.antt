@@ -11,6 +11,7 @@ use Rattle.std.proofs.lemmas.List.{map-append, length-append}
 use Rattle.std.proofs.lemmas.List.Folds.{list_any-append}
 use Rattle.std.proofs.lemmas.Str.{IsUtf8-from_is_utf8, is_utf8-from_IsUtf8, IsUtf8-take, IsUtf8-drop, IsCharBoundary-before_ascii, IsCharBoundary-after_ascii, encode_ascii, encodes-append, encodes_same, encodes-chars, scalars-chars, chars-encodes, inside_one}
 use Rattle.cal_base.specs.Texts.Text.{raised, raised_all}
+use Rattle.cal_base.proofs.Texts.RaisedTexts.{raised-high, raised_cases}
 use Rattle.cal_base.specs.Texts.Octets.{line_feed, tab}
 use Rattle.cal_base.specs.Lines.ContentLines.{is_refused_character, pieces, onto_first}
 
@@ -86,33 +87,9 @@ high_octets c high = each_octet (λ octet. 128 ≤ octet) (encode c) (λ k withi
 
 -- Upper case
 
-raised_low : (n : ℕ) → n < 97 → raised n ≡ n
-raised_low n low = ap (λ b. if b && nat_le n 122 then n - 32 else n) (lt-leb 97 n low)
-
-raised_high : (n : ℕ) → 122 < n → raised n ≡ n
-raised_high n high = ap (λ b. if b then n - 32 else n) (and_right (nat_le 97 n) (nat_le n 122) (lt-leb n 122 high))
-
-raised_letter : (n : ℕ) → 97 ≤ n → n ≤ 122 → raised n ≡ n - 32
-raised_letter n low high = ap (λ b. if b then n - 32 else n) (and_from (nat_le 97 n) (nat_le n 122) (le-leb 97 n low) (le-leb n 122 high))
-
--- a letter in lower case, or an octet or character that stays
-raised_cases : (n : ℕ) → ((97 ≤ n) × (n ≤ 122) × (raised n ≡ n - 32)) ⊎ (raised n ≡ n)
-raised_cases n =
-    elim (cases_lt n 97) [
-      | inl low ↦ inr (raised_low n low)
-      | inr from ↦ elim (cases_lt 122 n) [ inl high ↦ inr (raised_high n high) | inr to ↦ inl (from, to, raised_letter n from to) ]
-    ]
-
-raised-raised : (n : ℕ) → raised (raised n) ≡ raised n
-raised-raised n = elim (raised_cases n) [ inl letter ↦ ap raised letter.2 ∙ raised_low (n - 32) (omega (arith, letter.1)) ∙ sym letter.2 | inr same ↦ ap raised same ]
-
-pub raised_all-raised_all : (text : List ℕ) → raised_all (raised_all text) ≡ raised_all text
-raised_all-raised_all [] = refl
-raised_all-raised_all (octet ∷ text) = ap (λ first. first ∷ raised_all (raised_all text)) (raised-raised octet) ∙ ap (λ rest. raised octet ∷ rest) (raised_all-raised_all text)
-
 map_raised_high : (octets : List ℕ) → AllByRecursion (λ octet. 128 ≤ octet) octets → raised_all octets ≡ octets
 map_raised_high [] high = refl
-map_raised_high (octet ∷ octets) high = ap (λ first. first ∷ raised_all octets) (raised_high octet (omega (arith, high.0))) ∙ ap (λ rest. octet ∷ rest) (map_raised_high octets high.1)
+map_raised_high (octet ∷ octets) high = ap (λ first. first ∷ raised_all octets) (raised-high octet (omega (arith, high.0))) ∙ ap (λ rest. octet ∷ rest) (map_raised_high octets high.1)
 
 raised_all-encode : (c : ℕ) → raised_all (encode c) ≡ encode (raised c)
 raised_all-encode c =
@@ -120,7 +97,7 @@ raised_all-encode c =
       | inl low ↦
           let still_low : raised c < 128 = elim (raised_cases c) [ inl letter ↦ omega (arith, letter.2) | inr same ↦ omega (arith, same) ] in
           ap raised_all (encode_ascii c low) ∙ sym (encode_ascii (raised c) still_low)
-      | inr high ↦ map_raised_high (encode c) (high_octets c high) ∙ ap encode (sym (raised_high c (omega (arith, high))))
+      | inr high ↦ map_raised_high (encode c) (high_octets c high) ∙ ap encode (sym (raised-high c (omega (arith, high))))
     ]
 
 raised_all-encodes : (cs : List ℕ) → raised_all (encodes cs) ≡ encodes (raised_all cs)

@@ -5,7 +5,7 @@ use Rattle.cal_base.specs.declared.line.Line.{Line}
 use Rattle.cal_base.specs.declared.line.Node.{Node}
 use Rattle.cal_base.specs.Lines.ComponentTrees.{Level, with_begin, levels_before, outermost, tree_of, component}
 use Rattle.ical_objects.specs.declared.fault.TreeFault.{TreeFault}
-use Rattle.ical_objects.specs.declared.stack.OpenComponent.{OpenComponent}
+use Rattle.ical_objects.specs.declared.open_component.OpenComponent.{OpenComponent}
 use Rattle.ical_objects.specs.declared.from_lines.Progress.{Progress}
 use Rattle.ical_objects.specs.declared.from_lines.Progress.TheVariants.{Nothing, Within, Whole}
 use Rattle.ical_objects.specs.Faults.{IsFaultOf}

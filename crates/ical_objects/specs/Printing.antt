@@ -5,7 +5,7 @@ use Rattle.cal_base.specs.declared.line.Line.{Line}
 use Rattle.cal_base.specs.declared.line.Node.{Node}
 use Rattle.cal_base.specs.declared.line.Node.TheOpen.{Node-F}
 use Rattle.cal_base.specs.declared.line.Node.TheFolds.{fold-Node}
-use Rattle.cal_base.specs.Texts.Text.{raised_all}
+use Rattle.cal_base.specs.Texts.Text.{IsRaised}
 use Rattle.cal_base.specs.Lines.ComponentTrees.{is_begin, is_end, Level, component}
 use Rattle.cal_base.specs.Lines.LineGrammar.{IsReadLine, EndsLine}
 use Rattle.cal_base.specs.Lines.ContentLines.{read_lines}
@@ -34,7 +34,7 @@ IsOwnLine line = IsReadLine line × IsFalse (is_begin line) × IsFalse (is_end l
 -- a tree of at most so many levels, each of whose printed lines is read from its own text
 mutual
   pub data IsPrintable : ℕ → Node → Type 0 where
-    printable : (levels : ℕ) (name : List ℕ) (level : Level) → raised_all name ≡ name → IsReadLine (begin_line name) → IsReadLine (end_line name) → AllByRecursion IsOwnLine level.lines → ArePrintable levels level.children → IsPrintable (suc levels) (component name level)
+    printable : (levels : ℕ) (name : List ℕ) (level : Level) → IsRaised name → IsReadLine (begin_line name) → IsReadLine (end_line name) → AllByRecursion IsOwnLine level.lines → ArePrintable levels level.children → IsPrintable (suc levels) (component name level)
 
   pub data ArePrintable : ℕ → List Node → Type 0 where
     no_more : (levels : ℕ) → ArePrintable levels []

@@ -7,8 +7,8 @@ ghost use Rattle.ical_objects.specs.Faults.{IsFaultOf};
 ghost use Rattle.ical_objects.specs.Building.{IsBehind, IsStep, IsStop, whole_node, ended, openings, tree_with};
 
 use crate::fault::TreeFault;
-use crate::stack::{OpenComponent, Stack};
-use cal_base::{Line, List, Name, NoMemory, Node};
+use crate::open_component::OpenComponent;
+use cal_base::{Line, List, Name, NoMemory, Node, Stack};
 use std::alloc::Global;
 
 /// How many components may be open.

@@ -7,7 +7,7 @@
 
 mod fault;
 mod from_lines;
-mod stack;
+mod open_component;
 mod to_text;
 
 pub use fault::TreeFault;

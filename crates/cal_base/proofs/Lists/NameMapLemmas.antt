@@ -1,8 +1,12 @@
 -- A map whose keys stand for names is seen as the list of its pairs with the names in place of the keys.
-use Rattle.std.proofs.Common.{◌≡◌, ℕ, refl, sym, ap, ◌∙◌, List, [], ◌∷◌, map, filter, Bool, true, false, cond, Some}
+use Rattle.std.proofs.Common.{◌≡◌, ℕ, refl, sym, ap, ◌∙◌, inl, inr, List, [], ◌∷◌, map, filter, Bool, true, false, cond, Some, None}
 use Rattle.std.specs.declared.cmp.Ordering.{Ordering}
 use Rattle.std.specs.declared.cmp.Ordering.TheVariants.{Less, Equal, Greater}
-use Rattle.std.specs.Ordering.{match_ordering, is_lt}
+use Rattle.std.specs.Ordering.{match_ordering, is_lt, is_eq}
+use Rattle.std.specs.Str.{bytes_eq}
+use Rattle.std.proofs.lemmas.Bool.{cases_Bool}
+use Rattle.std.proofs.lemmas.Map.Text.{is_eq-slice_cmp}
+use Rattle.std.proofs.lemmas.Slice.Eq.{bytes_eq-Decides}
 use Rattle.std.specs.Option.{option_map}
 use Rattle.std.specs.List.{slice_get, AllByRecursion}
 use Rattle.std.specs.List.Sorted.{IsStrictlySortedBy}
@@ -10,7 +14,7 @@ use Rattle.std.proofs.lemmas.Option.{slice_get-map}
 use Rattle.std.proofs.lemmas.Cmp.{nat_list_cmp_total}
 use Rattle.std.specs.Map.{lookup, remove_entry, set_value, keys_of}
 use Rattle.std.specs.BTreeMap.{insert_entry, is_at}
-use Rattle.cal_base.specs.Lists.NameMap.{name_order, IsInOrder, value_at, with_value, with_changed, without, above, next_above}
+use Rattle.cal_base.specs.Lists.NameMap.{Named, name_order, IsInOrder, value_at, with_value, with_changed, without, above, next_above}
 
 module _ {X Y : Type 0} (g : X → Y) where
   -- a function of one of three lists
@@ -84,3 +88,32 @@ module _ {K V : Type 0} (octets : K → List ℕ) where
   unfolding IsStrictlySortedBy
   IsInOrder-shown [] sorted = tt
   IsInOrder-shown (pair ∷ pairs) sorted = (all_behind-shown (octets pair.0) pairs sorted.0, IsInOrder-shown pairs sorted.1)
+
+-- What a map has at a name behind a write
+
+text_is : (one other : List ℕ) → bytes_eq one other ≡ true → one ≡ other
+text_is one other same = (bytes_eq-Decides one other).0 same
+
+module _ {V : Type 0} (key : List ℕ) (value : V) (name : List ℕ) where
+  behind_entry : (entry : List ℕ × V) (entries : Named V) (order : Ordering) → name_order key entry.0 ≡ order
+      → value_at (with_value entries key value) name ≡ cond (bytes_eq name key) (Some value) (value_at entries name)
+      → value_at (match_ordering order ((key, value) ∷ entry ∷ entries) ((entry.0, value) ∷ entries) (entry ∷ with_value entries key value)) name ≡ cond (bytes_eq name key) (Some value) (value_at (entry ∷ entries) name)
+  behind_entry entry entries Less is later = ap (λ b. cond b (Some value) (value_at (entry ∷ entries) name)) (is_eq-slice_cmp name key)
+  behind_entry entry entries Equal is later =
+      let same : key ≡ entry.0 = text_is key entry.0 (sym (is_eq-slice_cmp key entry.0) ∙ ap is_eq is) in
+      let here : is_at (name_order name) entry.0 ≡ bytes_eq name key = is_eq-slice_cmp name entry.0 ∙ ap (bytes_eq name) (sym same) in
+      rw here (elim (bytes_eq name key) as (λ b. cond b (Some value) (value_at entries name) ≡ cond b (Some value) (cond b (Some entry.1) (value_at entries name))) [ true ↦ refl | false ↦ refl ])
+  behind_entry entry entries Greater is later =
+      let here : is_at (name_order name) entry.0 ≡ bytes_eq name entry.0 = is_eq-slice_cmp name entry.0 in
+      let apart : bytes_eq key entry.0 ≡ false = sym (is_eq-slice_cmp key entry.0) ∙ ap is_eq is in
+      elim (cases_Bool (bytes_eq name key)) [
+        | inl same ↦
+            let other : bytes_eq name entry.0 ≡ false = ap (λ n. bytes_eq n entry.0) (text_is name key same) ∙ apart in
+            rw (here, later, other, same) refl
+        | inr different ↦ rw (later, different) refl
+      ]
+
+  -- the value that was written, at its name, and what was there before, at any other
+  pub value_at_with : (entries : Named V) → value_at (with_value entries key value) name ≡ cond (bytes_eq name key) (Some value) (value_at entries name)
+  value_at_with [] = ap (λ b. cond b (Some value) None) (is_eq-slice_cmp name key)
+  value_at_with (entry ∷ entries) = behind_entry entry entries (name_order key entry.0) refl (value_at_with entries)

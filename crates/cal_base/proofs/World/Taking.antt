@@ -3,11 +3,7 @@ use Rattle.std.proofs.Common.{◌≡◌, ℕ, ◌+◌, ◌≤◌, arith, refl, s
 use Rattle.std.proofs.lemmas.List.{append_assoc, append-nil}
 use Rattle.std.proofs.lemmas.Option.{same_Some}
 use Rattle.std.proofs.Math.Seq.{take-add}
-use Rattle.cal_base.specs.World.Outside.{Rose, Takes, TakesUpTo, Goes, Adds}
-
--- a count that rose later rose
-pub Rose-later : (a b c : ℕ) → a ≤ b → b ≤ c → Rose b c → Rose a c
-Rose-later a b c h k r = grind arith
+use Rattle.cal_base.specs.World.Outside.{Takes, TakesUpTo, Goes, Adds}
 
 -- two pieces one after the other
 pub Takes-more : (old mid new : Option (List ℕ)) (xs ys : List ℕ) → Takes old xs mid → Takes mid ys new → Takes old (xs ++ ys) new
@@ -27,15 +23,6 @@ Takes-end (Some zs) new xs (rest, f, h) e =
 pub Goes-more : (old mid new : Option (List ℕ)) (xs ys zs : List ℕ) → Goes old mid xs ys → Goes mid new ys zs → Goes old new xs zs
 Goes-more old mid new xs ys zs (ps, t, e) (qs, u, f) =
     (ps ++ qs, Takes-more old mid new ps qs t u, f ∙ (ap (λ l. l ++ qs) e ∙ append_assoc xs ps qs))
-
--- all that was taken, when nothing is left
-pub Goes-end : (old new : Option (List ℕ)) (all : List ℕ) → Goes old new [] all → new ≡ Some [] → IfSome old (λ xs. all ≡ xs)
-Goes-end old new all (ps, t, e) n = Takes-end old new all (subst (λ l. Takes old l new) (sym e) t) n
-
--- nothing was taken yet
-pub Goes-none : (old : Option (List ℕ)) → Goes old old [] []
-Goes-none None = ([], tt, refl)
-Goes-none (Some xs) = ([], (xs, refl, refl), refl)
 
 -- what went to an empty list was taken
 pub Goes-takes : (old new : Option (List ℕ)) (all : List ℕ) → Goes old new [] all → Takes old all new

@@ -7,7 +7,7 @@ use Rattle.cal_base.specs.declared.element.Element.{Element}
 use Rattle.cal_base.specs.Lines.ComponentTrees.{or_else}
 use Rattle.cal_base.specs.Xml.XmlMarkup.{Tag, Markup, opening, closing, character, section, reference, skipped, markups, markup_of}
 use Rattle.cal_base.specs.Xml.XmlScopes.{Scope}
-use Rattle.cal_base.specs.Xml.XmlFaults.{Why, Fault, syntax, cut_short, fault_at, open_tags, has_root, is_within, can_stand, closes_innermost, own_fault, markup_fault, references_fault, no_markup_fault, end_fault, first_fault, is_declaration, declaration_fault, fault_behind, mark_size, body_fault}
+use Rattle.cal_base.specs.Xml.XmlFaults.{Why, Fault, syntax, cut_short, fault_at, tags_behind, rooted_behind, can_stand, own_fault, markup_fault, references_fault, no_markup_fault, end_fault, first_fault, is_declaration, declaration_fault, fault_behind, mark_size, body_fault}
 use Rattle.cal_base.specs.Xml.XmlBodies.{Part, said, Level, with_part, with_tag, levels_before, outermost, without_declaration, IsBody, IsBodyFault}
 
 -- Not both
@@ -32,38 +32,42 @@ or_else-None None other e = (refl, e)
 or_else-None (Some x) other e = absurd cc
 
 -- the first markup of a list without a fault, and the list behind it
-record Goes (end : ℕ) (before : List Markup) (place : ℕ) (text : List ℕ) (texts : List (List ℕ)) : Type 0 where
+record Goes (end : ℕ) (around : List Tag) (rooted : Bool) (place : ℕ) (text : List ℕ) (texts : List (List ℕ)) : Type 0 where
   markup : Markup
   is : markup_of text ≡ Some markup
-  stands : can_stand before markup ≡ true
-  on : first_fault end (markup ∷ before) (place + length text) texts ≡ None
+  stands : can_stand around rooted markup ≡ true
+  on : first_fault end (tags_behind around markup) (rooted_behind rooted markup) (place + length text) texts ≡ None
 
-stands_of : (before : List Markup) (markup : Markup) → markup_fault before markup ≡ None → can_stand before markup ≡ true
-stands_of before markup e = by_test (can_stand before markup) e
+stands_of : (around : List Tag) (rooted : Bool) (markup : Markup) → markup_fault around rooted markup ≡ None → can_stand around rooted markup ≡ true
+stands_of around rooted markup e = by_test (can_stand around rooted markup) e
   where
-    by_test : (test : Bool) → (if test then own_fault before markup else Some syntax) ≡ None → test ≡ true
+    by_test : (test : Bool) → (if test then own_fault around markup else Some syntax) ≡ None → test ≡ true
     by_test true h = refl
     by_test false h = absurd cc
 
-goes_behind : (end : ℕ) (before : List Markup) (place : ℕ) (text : List ℕ) (texts : List (List ℕ)) (markup : Markup) (fault : Option Why) → markup_fault before markup ≡ fault → markup_of text ≡ Some markup →
-    ◌≡◌ {A = Option Fault} (elim fault [ Some why ↦ Some (fault_at place why) | None ↦ or_else (references_fault place text) (first_fault end (markup ∷ before) (place + length text) texts) ]) None → Goes end before place text texts
-goes_behind end before place text texts markup None f e h =
-    record { markup = markup; is = e; stands = stands_of before markup f; on = (or_else-None _ _ h).1 }
-goes_behind end before place text texts markup (Some why) f e h = absurd cc
+-- the faults of a markup and of those behind it
+abbrev faults_with : ℕ → List Tag → Bool → ℕ → List ℕ → List (List ℕ) → Markup → Option Why → Option Fault
+faults_with end around rooted place text texts markup fault = elim fault [
+  | Some why ↦ Some (fault_at place why)
+  | None ↦ or_else (references_fault place text) (first_fault end (tags_behind around markup) (rooted_behind rooted markup) (place + length text) texts)
+]
 
-goes_of : (end : ℕ) (before : List Markup) (place : ℕ) (text : List ℕ) (texts : List (List ℕ)) (found : Option Markup) → markup_of text ≡ found →
+goes_behind : (end : ℕ) (around : List Tag) (rooted : Bool) (place : ℕ) (text : List ℕ) (texts : List (List ℕ)) (markup : Markup) (fault : Option Why) → markup_fault around rooted markup ≡ fault → markup_of text ≡ Some markup →
+    faults_with end around rooted place text texts markup fault ≡ None → Goes end around rooted place text texts
+goes_behind end around rooted place text texts markup None f e h =
+    record { markup = markup; is = e; stands = stands_of around rooted markup f; on = (or_else-None _ _ h).1 }
+goes_behind end around rooted place text texts markup (Some why) f e h = absurd cc
+
+goes_of : (end : ℕ) (around : List Tag) (rooted : Bool) (place : ℕ) (text : List ℕ) (texts : List (List ℕ)) (found : Option Markup) → markup_of text ≡ found →
     ◌≡◌ {A = Option Fault} (elim found [
       | None ↦ Some (no_markup_fault end place text)
-      | Some markup ↦ elim (markup_fault before markup) [
-        | Some why ↦ Some (fault_at place why)
-        | None ↦ or_else (references_fault place text) (first_fault end (markup ∷ before) (place + length text) texts)
-      ]
-    ]) None → Goes end before place text texts
-goes_of end before place text texts None e h = absurd cc
-goes_of end before place text texts (Some markup) e h = goes_behind end before place text texts markup (markup_fault before markup) refl e h
+      | Some markup ↦ faults_with end around rooted place text texts markup (markup_fault around rooted markup)
+    ]) None → Goes end around rooted place text texts
+goes_of end around rooted place text texts None e h = absurd cc
+goes_of end around rooted place text texts (Some markup) e h = goes_behind end around rooted place text texts markup (markup_fault around rooted markup) refl e h
 
-goes : (end : ℕ) (before : List Markup) (place : ℕ) (text : List ℕ) (texts : List (List ℕ)) → first_fault end before place (text ∷ texts) ≡ None → Goes end before place text texts
-goes end before place text texts h = goes_of end before place text texts (markup_of text) refl h
+goes : (end : ℕ) (around : List Tag) (rooted : Bool) (place : ℕ) (text : List ℕ) (texts : List (List ℕ)) → first_fault end around rooted place (text ∷ texts) ≡ None → Goes end around rooted place text texts
+goes end around rooted place text texts h = goes_of end around rooted place text texts (markup_of text) refl h
 
 -- the markup of a list
 filter_map-Some : (text : List ℕ) (texts : List (List ℕ)) (markup : Markup) → markup_of text ≡ Some markup → filter_map markup_of (text ∷ texts) ≡ markup ∷ filter_map markup_of texts
@@ -81,38 +85,29 @@ with_tag-length tag true around levels e h = rw e (with_part-length _ levels ∙
 with_tag-length tag false around [] e h = absurd (omega arith)
 with_tag-length tag false around (level ∷ levels) e h = rw e (with_part-length _ levels ∙ omega arith)
 
-one_more : (before : List Markup) (markup : Markup) (levels : List Markup) → can_stand before markup ≡ true → length (levels_before levels) ≡ suc (length (open_tags (markup ∷ before))) → length (levels_before (markup ∷ levels)) ≡ suc (length (open_tags before))
-one_more before (opening tag) more s h = with_tag-length tag tag.is_empty (open_tags before) (levels_before more) refl h
-one_more before (closing name) more s h = by_open (open_tags before) s h
-  where
-    by_open : (around : List Tag) → closes_innermost name around ≡ true → length (levels_before more) ≡ suc (length (drop 1 around)) → suc (length (levels_before more)) ≡ suc (length around)
-    by_open [] t k = absurd cc
-    by_open (tag ∷ around) t k = omega arith
-one_more before (character text) more s h = with_part-length _ (levels_before more) ∙ h
-one_more before (section text) more s h = with_part-length _ (levels_before more) ∙ h
-one_more before (reference name) more s h = with_part-length _ (levels_before more) ∙ h
-one_more before skipped more s h = h
-
-none_within : (around : List Tag) → is_within around ≡ false → around ≡ []
-none_within [] e = refl
-none_within (tag ∷ around) e = absurd (omega (arith, ltb-false 0 (length (tag ∷ around)) e))
+one_more : (around : List Tag) (rooted : Bool) (markup : Markup) (levels : List Markup) → can_stand around rooted markup ≡ true → length (levels_before levels) ≡ suc (length (tags_behind around markup)) → length (levels_before (markup ∷ levels)) ≡ suc (length around)
+one_more around rooted (opening tag) more s h = with_tag-length tag tag.is_empty around (levels_before more) refl h
+one_more [] rooted (closing name) more s h = absurd cc
+one_more (tag ∷ around) rooted (closing name) more s h = omega arith
+one_more around rooted (character text) more s h = with_part-length _ (levels_before more) ∙ h
+one_more around rooted (section text) more s h = with_part-length _ (levels_before more) ∙ h
+one_more around rooted (reference name) more s h = with_part-length _ (levels_before more) ∙ h
+one_more around rooted skipped more s h = h
 
 -- where the root is closed no tag is open
-end_closed : (end : ℕ) (before : List Markup) → end_fault end before ≡ None → (has_root before ≡ true) × (open_tags before ≡ [])
-end_closed end before h = by_root (has_root before) (is_within (open_tags before)) refl h
-  where
-    by_root : (root within : Bool) → is_within (open_tags before) ≡ within → ◌≡◌ {A = Option Fault} (if root && not within then None else Some (fault_at end cut_short)) None → (root ≡ true) × (open_tags before ≡ [])
-    by_root false within e k = absurd cc
-    by_root true true e k = absurd cc
-    by_root true false e k = (refl, none_within (open_tags before) e)
+end_closed : (end : ℕ) (around : List Tag) (rooted : Bool) → end_fault end around rooted ≡ None → (rooted ≡ true) × (around ≡ [])
+end_closed end [] true h = (refl, refl)
+end_closed end [] false h = absurd cc
+end_closed end (tag ∷ around) true h = absurd cc
+end_closed end (tag ∷ around) false h = absurd cc
 
 -- the levels of a list without a fault are one more than the tags that are open before it
-levels-length : (end : ℕ) (before : List Markup) (place : ℕ) (texts : List (List ℕ)) → first_fault end before place texts ≡ None → length (levels_before (filter_map markup_of texts)) ≡ suc (length (open_tags before))
-levels-length end before place [] h = ap (λ (around : List Tag). suc (length around)) (sym (end_closed end before h).1)
-levels-length end before place (text ∷ texts) h =
-    let first = goes end before place text texts h in
-    let more = levels-length end (first.markup ∷ before) (place + length text) texts first.on in
-    rw (filter_map-Some text texts first.markup first.is) (one_more before first.markup (filter_map markup_of texts) first.stands more)
+levels-length : (end : ℕ) (around : List Tag) (rooted : Bool) (place : ℕ) (texts : List (List ℕ)) → first_fault end around rooted place texts ≡ None → length (levels_before (filter_map markup_of texts)) ≡ suc (length around)
+levels-length end around rooted place [] h = ap (λ (tags : List Tag). suc (length tags)) (sym (end_closed end around rooted h).1)
+levels-length end around rooted place (text ∷ texts) h =
+    let first = goes end around rooted place text texts h in
+    let more = levels-length end (tags_behind around first.markup) (rooted_behind rooted first.markup) (place + length text) texts first.on in
+    rw (filter_map-Some text texts first.markup first.is) (one_more around rooted first.markup (filter_map markup_of texts) first.stands more)
 
 -- Before the root there is one level, and it gets the root
 
@@ -131,38 +126,36 @@ rooted_tag tag false (level ∷ []) e h = absurd (omega arith)
 rooted_tag tag false (level ∷ around ∷ levels) e h = rw e (_, refl)
 
 -- one more markup before a root
-root_comes : (end : ℕ) (before : List Markup) (place : ℕ) (markup : Markup) (texts : List (List ℕ)) → has_root before ≡ false → open_tags before ≡ [] → can_stand before markup ≡ true →
-    first_fault end (markup ∷ before) place texts ≡ None →
-    (has_root (markup ∷ before) ≡ false → open_tags (markup ∷ before) ≡ [] → IsRooted (levels_before (filter_map markup_of texts))) →
+root_comes : (end place : ℕ) (markup : Markup) (texts : List (List ℕ)) → can_stand [] false markup ≡ true →
+    first_fault end (tags_behind [] markup) (rooted_behind false markup) place texts ≡ None →
+    (first_fault end [] false place texts ≡ None → IsRooted (levels_before (filter_map markup_of texts))) →
     IsRooted (levels_before (markup ∷ filter_map markup_of texts))
-root_comes end before place (opening tag) texts r o s h more =
+root_comes end place (opening tag) texts s h more =
     rooted_tag tag tag.is_empty (levels_before (filter_map markup_of texts)) refl
-    (levels-length end (opening tag ∷ before) place texts h ∙ rw o refl)
-root_comes end before place (closing name) texts r o s h more =
-    let outside : closes_innermost name [] ≡ true = subst (λ around. closes_innermost name around ≡ true) o s in absurd cc
-root_comes end before place (character text) texts r o s h more = rooted_text _ (levels_before (filter_map markup_of texts)) (more r o)
-root_comes end before place (section text) texts r o s h more = rooted_text _ (levels_before (filter_map markup_of texts)) (more r o)
-root_comes end before place (reference name) texts r o s h more = rooted_text _ (levels_before (filter_map markup_of texts)) (more r o)
-root_comes end before place skipped texts r o s h more = more r o
+    (levels-length end (tags_behind [] (opening tag)) true place texts h)
+root_comes end place (closing name) texts s h more = absurd cc
+root_comes end place (character text) texts s h more = rooted_text _ (levels_before (filter_map markup_of texts)) (more h)
+root_comes end place (section text) texts s h more = absurd cc
+root_comes end place (reference name) texts s h more = absurd cc
+root_comes end place skipped texts s h more = more h
 
 -- a list without a fault has its root
-levels_rooted : (end : ℕ) (before : List Markup) (place : ℕ) (texts : List (List ℕ)) → has_root before ≡ false → open_tags before ≡ [] → first_fault end before place texts ≡ None → IsRooted (levels_before (filter_map markup_of texts))
-levels_rooted end before place [] r o h = let both = end_closed end before h in absurd cc
-levels_rooted end before place (text ∷ texts) r o h =
-    let first = goes end before place text texts h in
+levels_rooted : (end place : ℕ) (texts : List (List ℕ)) → first_fault end [] false place texts ≡ None → IsRooted (levels_before (filter_map markup_of texts))
+levels_rooted end place [] h = absurd cc
+levels_rooted end place (text ∷ texts) h =
+    let first = goes end [] false place text texts h in
     rw (filter_map-Some text texts first.markup first.is)
-    (root_comes end before (place + length text) first.markup texts r o first.stands first.on
-    (λ root around. levels_rooted end (first.markup ∷ before) (place + length text) texts root around first.on))
+    (root_comes end (place + length text) first.markup texts first.stands first.on (λ on. levels_rooted end (place + length text) texts on))
 
 -- the same behind a mark and a declaration
 behind_rooted : (end place : ℕ) (texts : List (List ℕ)) → fault_behind end place texts ≡ None → IsRooted (levels_before (filter_map markup_of (without_declaration texts)))
-behind_rooted end place [] h = levels_rooted end [] place [] refl refl h
+behind_rooted end place [] h = levels_rooted end place [] h
 behind_rooted end place (text ∷ texts) h = by_test (is_declaration text) h
   where
-    by_test : (test : Bool) → ◌≡◌ {A = Option Fault} (if test then or_else (declaration_fault end place text) (first_fault end [] (place + length text) texts) else first_fault end [] place (text ∷ texts)) None →
+    by_test : (test : Bool) → ◌≡◌ {A = Option Fault} (if test then or_else (declaration_fault end place text) (first_fault end [] false (place + length text) texts) else first_fault end [] false place (text ∷ texts)) None →
         IsRooted (levels_before (filter_map markup_of (if test then texts else text ∷ texts)))
-    by_test true k = levels_rooted end [] (place + length text) texts refl refl (or_else-None _ _ k).1
-    by_test false k = levels_rooted end [] place (text ∷ texts) refl refl k
+    by_test true k = levels_rooted end (place + length text) texts (or_else-None _ _ k).1
+    by_test false k = levels_rooted end place (text ∷ texts) k
 
 -- a text without a fault has an element
 pub IsBody-from_no_fault : (octets : List ℕ) → body_fault octets ≡ None → (element : Element) × IsBody octets element

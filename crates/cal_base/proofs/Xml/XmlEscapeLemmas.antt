@@ -3,32 +3,31 @@ use Rattle.std.specs.Prelude.{◌≡◌, ℕ, suc, ◌+◌, ◌/◌, ◌≤◌, 
 use Rattle.std.specs.Str.{continuation_len, is_utf8, chars, IsUtf8}
 use lib.Utf8.{encode, encodes, next}
 use Rattle.std.proofs.Common.{inl, inr, arith, refl, sym, ap, subst, ◌∙◌}
-use Rattle.std.proofs.lemmas.Bool.{eqb-true, eqb-false, ltb-true, ltb-false}
+use Rattle.std.proofs.lemmas.Bool.{cases_Bool, eqb-true, eqb-false, ltb-true, ltb-false}
 use Rattle.std.proofs.lemmas.List.{append_assoc}
 use Rattle.cal_base.specs.Xml.XmlNames.{is_xml_text}
 use Rattle.cal_base.specs.Xml.XmlMarkup.{begins, markup_size, markups, markup_of, Markup, character}
 use Rattle.cal_base.specs.Xml.XmlScopes.{piece_octets, value_octets}
 use Rattle.cal_base.specs.Xml.CanonicalXml.{value_octet, attribute_text}
 use Rattle.cal_base.proofs.Xml.XmlMarkupLemmas.{markups-append}
-use Rattle.cal_base.proofs.Xml.XmlNameLemmas.{bool_cases}
 use Rattle.cal_base.proofs.Xml.XmlTagLemmas.{pick, skip, markups-marked}
 
 -- Tests of numbers
 
-differ : (a b : ℕ) → (a ≡ b → ⊥) → nat_eq a b ≡ false
-differ a b h = elim (bool_cases (nat_eq a b)) [
+pub differ : (a b : ℕ) → (a ≡ b → ⊥) → nat_eq a b ≡ false
+differ a b h = elim (cases_Bool (nat_eq a b)) [
   | inl same ↦ absurd (h (eqb-true a b same))
   | inr apart ↦ apart
 ]
 
-less : (a b : ℕ) → a < b → nat_lt a b ≡ true
-less a b h = elim (bool_cases (nat_lt a b)) [
+pub less : (a b : ℕ) → a < b → nat_lt a b ≡ true
+less a b h = elim (cases_Bool (nat_lt a b)) [
   | inl so ↦ so
   | inr other ↦ absurd (omega (arith, h, ltb-false a b other))
 ]
 
-not_less : (a b : ℕ) → b ≤ a → nat_lt a b ≡ false
-not_less a b h = elim (bool_cases (nat_lt a b)) [
+pub not_less : (a b : ℕ) → b ≤ a → nat_lt a b ≡ false
+not_less a b h = elim (cases_Bool (nat_lt a b)) [
   | inl so ↦ absurd (omega (arith, h, ltb-true a b so))
   | inr other ↦ other
 ]
@@ -42,7 +41,7 @@ pub record Plain (octet : ℕ) : Type 0 where
   pub bracket : nat_eq 93 octet ≡ false
   pub return : nat_eq 13 octet ≡ false
 
-plain_size : (octet : ℕ) (text : List ℕ) → Plain octet → markup_size (octet ∷ text) ≡ suc (continuation_len octet)
+pub plain_size : (octet : ℕ) (text : List ℕ) → Plain octet → markup_size (octet ∷ text) ≡ suc (continuation_len octet)
 plain_size octet text plain =
     let comment : begins (octet ∷ text) (codes "<!--") ≡ false = rw (plain.tag) refl in
     let section : begins (octet ∷ text) (codes "<![CDATA[") ≡ false = rw (plain.tag) refl in
@@ -53,7 +52,7 @@ plain_size octet text plain =
     let returns : begins (octet ∷ text) (codes "\r\n") ≡ false = rw (plain.return) refl in
     skip _ _ _ comment ∙ (skip _ _ _ section ∙ (skip _ _ _ instruction ∙ (skip _ _ _ opens ∙ (skip _ _ _ refers ∙ (skip _ _ _ bracket ∙ skip _ _ _ returns)))))
 
-high_plain : (octet : ℕ) → 128 ≤ octet → Plain octet
+pub high_plain : (octet : ℕ) → 128 ≤ octet → Plain octet
 high_plain octet h = record {
   tag = differ 60 octet (λ e. omega arith);
   refers = differ 38 octet (λ e. omega arith);
@@ -64,17 +63,17 @@ high_plain octet h = record {
 -- a character but `<`, `&`, `]` and CR is cut off, whatever stands behind it
 pub markups-character : (code : ℕ) (rest : List ℕ) → (code < 128 → Plain code) → markups (encode code ++ rest) ≡ encode code ∷ markups rest
 unfolding encode
-markups-character code rest plain = elim (bool_cases (nat_lt code 128)) [
+markups-character code rest plain = elim (cases_Bool (nat_lt code 128)) [
   | inl one ↦
       let size : markup_size (code ∷ rest) ≡ 1 = plain_size code rest (plain (ltb-true code 128 one)) ∙ rw one refl in
       rw one (markups-append code [] rest size)
-  | inr more ↦ elim (bool_cases (nat_lt code 2048)) [
+  | inr more ↦ elim (cases_Bool (nat_lt code 2048)) [
     | inl two ↦
         let first = 192 + code / 64 in
         let small : first < 224 = omega (arith, ltb-true code 2048 two) in
         let size : (text : List ℕ) → markup_size (first ∷ text) ≡ 2 = λ text. plain_size first text (high_plain first (omega arith)) ∙ rw (not_less first 128 (omega arith), less first 224 small) refl in
         rw (more, two) (markups-append first _ rest (size (next code ∷ rest)))
-    | inr further ↦ elim (bool_cases (nat_lt code 65536)) [
+    | inr further ↦ elim (cases_Bool (nat_lt code 65536)) [
       | inl three ↦
           let first = 224 + code / 4096 in
           let small : first < 240 = omega (arith, ltb-true code 65536 three) in
@@ -96,17 +95,17 @@ attribute_text-append [] more = refl
 attribute_text-append (octet ∷ text) more = ap (λ rest. value_octet octet ++ rest) (attribute_text-append text more) ∙ sym (append_assoc (value_octet octet) (attribute_text text) (attribute_text more))
 
 -- an octet that is written as it is
-record Unescaped (octet : ℕ) : Type 0 where
-  quote : nat_eq octet 34 ≡ false
-  refers : nat_eq octet 38 ≡ false
-  opens : nat_eq octet 60 ≡ false
-  closes : nat_eq octet 62 ≡ false
-  return : nat_eq octet 13 ≡ false
+pub record Unescaped (octet : ℕ) : Type 0 where
+  pub quote : nat_eq octet 34 ≡ false
+  pub refers : nat_eq octet 38 ≡ false
+  pub opens : nat_eq octet 60 ≡ false
+  pub closes : nat_eq octet 62 ≡ false
+  pub return : nat_eq octet 13 ≡ false
 
-unescaped_octet : (octet : ℕ) → Unescaped octet → value_octet octet ≡ octet ∷ []
+pub unescaped_octet : (octet : ℕ) → Unescaped octet → value_octet octet ≡ octet ∷ []
 unescaped_octet octet u = skip _ _ _ (u.quote) ∙ (skip _ _ _ (u.refers) ∙ (skip _ _ _ (u.opens) ∙ (skip _ _ _ (u.closes) ∙ skip _ _ _ (u.return))))
 
-high_octet : (octet : ℕ) → 128 ≤ octet → value_octet octet ≡ octet ∷ []
+pub high_octet : (octet : ℕ) → 128 ≤ octet → value_octet octet ≡ octet ∷ []
 high_octet octet h = unescaped_octet octet (record {
   quote = differ octet 34 (λ e. omega arith);
   refers = differ octet 38 (λ e. omega arith);
@@ -116,13 +115,13 @@ high_octet octet h = unescaped_octet octet (record {
 })
 
 -- of the octets of a character only ASCII is escaped
-unescaped_character : (code : ℕ) → (code < 128 → Unescaped code) → attribute_text (encode code) ≡ encode code
+pub unescaped_character : (code : ℕ) → (code < 128 → Unescaped code) → attribute_text (encode code) ≡ encode code
 unfolding encode attribute_text
-unescaped_character code u = elim (bool_cases (nat_lt code 128)) [
+unescaped_character code u = elim (cases_Bool (nat_lt code 128)) [
   | inl one ↦ rw one (ap (λ text. text ++ []) (unescaped_octet code (u (ltb-true code 128 one))))
-  | inr more ↦ elim (bool_cases (nat_lt code 2048)) [
+  | inr more ↦ elim (cases_Bool (nat_lt code 2048)) [
     | inl two ↦ rw (more, two) (rw (high_octet (192 + code / 64) (omega arith), high_octet (next code) (omega arith)) refl)
-    | inr further ↦ elim (bool_cases (nat_lt code 65536)) [
+    | inr further ↦ elim (cases_Bool (nat_lt code 65536)) [
       | inl three ↦ rw (more, further, three) (rw (high_octet (224 + code / 4096) (omega arith), high_octet (next (code / 64)) (omega arith), high_octet (next code) (omega arith)) refl)
       | inr four ↦ rw (more, further, four) (rw (high_octet (240 + code / 262144) (omega arith), high_octet (next (code / 4096)) (omega arith), high_octet (next (code / 64)) (omega arith), high_octet (next code) (omega arith)) refl)
     ]
@@ -132,11 +131,11 @@ unescaped_character code u = elim (bool_cases (nat_lt code 128)) [
 -- What a character is written as, and what that stands for
 
 -- a character that is written as a reference
-record Escape (code : ℕ) : Type 0 where
-  text : List ℕ
-  written : attribute_text (encode code) ≡ 38 ∷ text
-  cut_off : (rest : List ℕ) → markups ((38 ∷ text) ++ rest) ≡ (38 ∷ text) ∷ markups rest
-  stands_for : piece_octets (38 ∷ text) ≡ encode code
+pub record Escape (code : ℕ) : Type 0 where
+  pub text : List ℕ
+  pub written : attribute_text (encode code) ≡ 38 ∷ text
+  pub cut_off : (rest : List ℕ) → markups ((38 ∷ text) ++ rest) ≡ (38 ∷ text) ∷ markups rest
+  pub stands_for : piece_octets (38 ∷ text) ≡ encode code
 
 escape_and : Escape 38
 unfolding encode attribute_text is_utf8 chars
@@ -159,23 +158,23 @@ unfolding encode attribute_text is_utf8 chars
 escape_return = record { text = codes "#13;"; written = refl; cut_off = λ rest. markups-marked (codes "&#13;") rest (inr refl) refl; stands_for = refl }
 
 -- a character is a `]`, is written as a reference, or is written as it is
-data Kind (code : ℕ) : Type 0 where
+pub data Kind (code : ℕ) : Type 0 where
   bracketed : code ≡ 93 → Kind code
   escaped : Escape code → Kind code
   unchanged : Plain code → Unescaped code → Kind code
 
-kind_of : (code : ℕ) → Kind code
-kind_of code = elim (bool_cases (nat_eq code 93)) [
+pub kind_of : (code : ℕ) → Kind code
+kind_of code = elim (cases_Bool (nat_eq code 93)) [
   | inl same ↦ bracketed (eqb-true code 93 same)
-  | inr bracket ↦ elim (bool_cases (nat_eq code 34)) [
+  | inr bracket ↦ elim (cases_Bool (nat_eq code 34)) [
     | inl same ↦ escaped (subst Escape (sym (eqb-true code 34 same)) escape_quote)
-    | inr quote ↦ elim (bool_cases (nat_eq code 38)) [
+    | inr quote ↦ elim (cases_Bool (nat_eq code 38)) [
       | inl same ↦ escaped (subst Escape (sym (eqb-true code 38 same)) escape_and)
-      | inr refers ↦ elim (bool_cases (nat_eq code 60)) [
+      | inr refers ↦ elim (cases_Bool (nat_eq code 60)) [
         | inl same ↦ escaped (subst Escape (sym (eqb-true code 60 same)) escape_less)
-        | inr opens ↦ elim (bool_cases (nat_eq code 62)) [
+        | inr opens ↦ elim (cases_Bool (nat_eq code 62)) [
           | inl same ↦ escaped (subst Escape (sym (eqb-true code 62 same)) escape_greater)
-          | inr closes ↦ elim (bool_cases (nat_eq code 13)) [
+          | inr closes ↦ elim (cases_Bool (nat_eq code 13)) [
             | inl same ↦ escaped (subst Escape (sym (eqb-true code 13 same)) escape_return)
             | inr returns ↦ unchanged
                 (record {
@@ -193,20 +192,20 @@ kind_of code = elim (bool_cases (nat_eq code 93)) [
 ]
 
 -- the first octet of a character that is written as it is
-record First (code : ℕ) : Type 0 where
-  octet : ℕ
-  more : List ℕ
-  is : encode code ≡ octet ∷ more
-  plain : Plain octet
-  no_end : nat_eq 62 octet ≡ false
+pub record First (code : ℕ) : Type 0 where
+  pub octet : ℕ
+  pub more : List ℕ
+  pub is : encode code ≡ octet ∷ more
+  pub plain : Plain octet
+  pub no_end : nat_eq 62 octet ≡ false
 
-first_of : (code : ℕ) → Plain code → Unescaped code → First code
+pub first_of : (code : ℕ) → Plain code → Unescaped code → First code
 unfolding encode
-first_of code plain u = elim (bool_cases (nat_lt code 128)) [
+first_of code plain u = elim (cases_Bool (nat_lt code 128)) [
   | inl one ↦ record { octet = code; more = []; is = rw one refl; plain = plain; no_end = differ 62 code (λ e. eqb-false code 62 u.closes (sym e)) }
-  | inr longer ↦ elim (bool_cases (nat_lt code 2048)) [
+  | inr longer ↦ elim (cases_Bool (nat_lt code 2048)) [
     | inl two ↦ record { octet = 192 + code / 64; more = next code ∷ []; is = rw (longer, two) refl; plain = high_plain (192 + code / 64) (omega arith); no_end = differ 62 (192 + code / 64) (λ e. omega arith) }
-    | inr further ↦ elim (bool_cases (nat_lt code 65536)) [
+    | inr further ↦ elim (cases_Bool (nat_lt code 65536)) [
       | inl three ↦ record { octet = 224 + code / 4096; more = next (code / 64) ∷ next code ∷ []; is = rw (longer, further, three) refl; plain = high_plain (224 + code / 4096) (omega arith); no_end = differ 62 (224 + code / 4096) (λ e. omega arith) }
       | inr four ↦ record { octet = 240 + code / 262144; more = next (code / 4096) ∷ next (code / 64) ∷ next code ∷ []; is = rw (longer, further, four) refl; plain = high_plain (240 + code / 262144) (omega arith); no_end = differ 62 (240 + code / 262144) (λ e. omega arith) }
     ]

@@ -4,6 +4,7 @@ use Rattle.std.specs.List.{concat}
 use Rattle.std.specs.Cmp.Lexicographic.{pointwise}
 use Rattle.std.proofs.lemmas.Slice.Eq.{starts_is}
 use Rattle.std.proofs.lemmas.Bool.Decides.{Decides-eqb}
+use Rattle.std.proofs.lemmas.Bool.{cases_Bool}
 use Rattle.std.proofs.Common.{inl, inr, arith, refl, sym, ap, ◌∙◌}
 use Rattle.std.proofs.lemmas.List.{length-append, length-drop, take-append-drop, take_at, drop_at, take-append-le}
 use Rattle.cal_base.specs.Xml.XmlMarkup.{begins, size_through, tag_size, character_size, markup_size, cut, markups}
@@ -101,10 +102,6 @@ size_through-here end octet text e = ap (λ test. elim test [ true ↦ length en
 size_through-later : (end : List ℕ) (octet : ℕ) (text : List ℕ) → begins (octet ∷ text) end ≡ false → size_through end (octet ∷ text) ≡ suc (size_through end text)
 size_through-later end octet text e = ap (λ test. elim test [ true ↦ length end | false ↦ suc (size_through end text) ]) e
 
-bool_cases : (test : Bool) → (test ≡ true) ⊎ (test ≡ false)
-bool_cases true = inl refl
-bool_cases false = inr refl
-
 -- a text that has its first end at its end has it there whatever stands behind it
 pub size_through-append : (end front rest : List ℕ) → 1 ≤ length end → size_through end (front ++ end) ≡ length (front ++ end) → size_through end ((front ++ end) ++ rest) ≡ length (front ++ end)
 size_through-append [] front rest h e = absurd (omega arith)
@@ -114,7 +111,7 @@ size_through-append (first ∷ more) (octet ∷ front) rest h e =
     let text = octet ∷ (front ++ end) in
     let longer : length end ≤ length text = omega (arith, length-append front end) in
     let same : begins (text ++ rest) end ≡ begins text end = begins-append text end rest longer in
-    elim (bool_cases (begins text end)) [
+    elim (cases_Bool (begins text end)) [
       | inl here ↦ absurd (omega (arith, length-append front end, sym (size_through-here end octet (front ++ end) here) ∙ e))
       | inr later ↦
           let shorter : suc (size_through end (front ++ end)) ≡ suc (length (front ++ end)) = sym (size_through-later end octet (front ++ end) later) ∙ e in

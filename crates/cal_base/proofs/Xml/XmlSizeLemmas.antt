@@ -3,7 +3,7 @@ use Rattle.std.specs.Prelude.{◌≡◌, ℕ, suc, ◌+◌, ◌≤◌, Bool, tru
 use Rattle.std.specs.List.{concat, list_all, take_while, prefix_len, cons_option}
 use Rattle.std.specs.Str.{bytes_eq}
 use Rattle.std.proofs.Common.{inl, inr, arith, refl, sym, ap, subst, ◌∙◌}
-use Rattle.std.proofs.lemmas.Bool.{eqb-true}
+use Rattle.std.proofs.lemmas.Bool.{cases_Bool, eqb-true}
 use Rattle.std.proofs.lemmas.List.{length-append, length-drop}
 use Rattle.std.proofs.lemmas.List.Sums.{sum-map, sum_by-cons, sum_by-append}
 use Rattle.std.proofs.lemmas.Str.{length-encode, len_utf8_bounds}
@@ -22,7 +22,7 @@ use Rattle.std.proofs.lemmas.Option.{same_Some}
 use Rattle.cal_base.specs.Xml.XmlFaults.{is_declaration, mark_size}
 use Rattle.cal_base.specs.Xml.XmlBodies.{Part, said, held, text_items, items_behind, with_line_feeds, Level, element_of_tag, with_part, with_opening, with_tag, levels_before, first_element, outermost, without_declaration, IsBody}
 use Rattle.cal_base.specs.Xml.XmlSizes.{value_size, item_size_step, element_size_step, element_size}
-use Rattle.cal_base.proofs.Xml.XmlNameLemmas.{bool_cases, both_true, qname_of-nil}
+use Rattle.cal_base.proofs.Xml.XmlNameLemmas.{both_true, qname_of-nil}
 use Rattle.cal_base.proofs.Xml.XmlTagLemmas.{pick, skip, given, bind_is, map_is, take_drop_length, shape}
 use Rattle.cal_base.proofs.Xml.XmlMarkupLemmas.{concat-markups}
 
@@ -214,35 +214,35 @@ reference-weight text markup b e =
 
 markup-weight : (text : List ℕ) (markup : Markup) → markup_of text ≡ Some markup → markup_weight markup ≤ length text
 unfolding markup_weight
-markup-weight text markup e = elim (bool_cases (is_xml_text text)) [
+markup-weight text markup e = elim (cases_Bool (is_xml_text text)) [
   | inr other ↦ let none : None ≡ Some markup = sym (pick _ _ _ (ap not other)) ∙ e in absurd cc
   | inl characters ↦
       let e0 = sym (skip _ _ _ (ap not characters)) ∙ e in
-      elim (bool_cases (begins text (codes "<!--"))) [
+      elim (cases_Bool (begins text (codes "<!--"))) [
         | inl comment ↦ comment-weight text markup (sym (pick _ _ _ comment) ∙ e0)
         | inr no_comment ↦
             let e1 = sym (skip _ _ _ no_comment) ∙ e0 in
-            elim (bool_cases (begins text (codes "<![CDATA["))) [
+            elim (cases_Bool (begins text (codes "<![CDATA["))) [
               | inl sections ↦ section-weight text markup sections (sym (pick _ _ _ sections) ∙ e1)
               | inr no_section ↦
                   let e2 = sym (skip _ _ _ no_section) ∙ e1 in
-                  elim (bool_cases (begins text (codes "<?"))) [
+                  elim (cases_Bool (begins text (codes "<?"))) [
                     | inl instruction ↦ instruction-weight text markup (sym (pick _ _ _ instruction) ∙ e2)
                     | inr no_instruction ↦
                         let e3 = sym (skip _ _ _ no_instruction) ∙ e2 in
-                        elim (bool_cases (begins text (codes "</"))) [
+                        elim (cases_Bool (begins text (codes "</"))) [
                           | inl closes ↦ closing-weight text markup closes (sym (pick _ _ _ closes) ∙ e3)
                           | inr no_closing ↦
                               let e4 = sym (skip _ _ _ no_closing) ∙ e3 in
-                              elim (bool_cases (begins text (codes "<"))) [
+                              elim (cases_Bool (begins text (codes "<"))) [
                                 | inl opens ↦ opening-weight text markup opens (sym (pick _ _ _ opens) ∙ e4)
                                 | inr no_opening ↦
                                     let e5 = sym (skip _ _ _ no_opening) ∙ e4 in
-                                    elim (bool_cases (begins text (codes "&"))) [
+                                    elim (cases_Bool (begins text (codes "&"))) [
                                       | inl refers ↦ reference-weight text markup refers (sym (pick _ _ _ refers) ∙ e5)
                                       | inr no_reference ↦
                                           let e6 = sym (skip _ _ _ no_reference) ∙ e5 in
-                                          elim (bool_cases (begins text (codes "]]>"))) [
+                                          elim (cases_Bool (begins text (codes "]]>"))) [
                                             | inl stray ↦ let none : None ≡ Some markup = sym (pick _ _ _ stray) ∙ e6 in absurd cc
                                             | inr plain ↦
                                                 let same : character text ≡ markup = same_Some _ markup (sym (skip _ _ _ plain) ∙ e6) in
@@ -263,11 +263,11 @@ number_of_digits-length base [] number e = absurd cc
 number_of_digits-length base (digit ∷ digits) number e = omega arith
 
 referenced_number-length : (name : List ℕ) (number : ℕ) → referenced_number name ≡ Some number → 2 ≤ length name
-referenced_number-length name number e = elim (bool_cases (begins name (codes "#x"))) [
+referenced_number-length name number e = elim (cases_Bool (begins name (codes "#x"))) [
   | inl hexadecimal ↦ omega (arith, length-drop 2 name, number_of_digits-length 16 (drop 2 name) number (sym (pick _ _ _ hexadecimal) ∙ e))
   | inr other ↦
       let e1 = sym (skip _ _ _ other) ∙ e in
-      elim (bool_cases (begins name (codes "#"))) [
+      elim (cases_Bool (begins name (codes "#"))) [
         | inl decimal ↦ omega (arith, length-drop 1 name, number_of_digits-length 10 (drop 1 name) number (sym (pick _ _ _ decimal) ∙ e1))
         | inr none ↦ let no : None ≡ Some number = sym (skip _ _ _ none) ∙ e1 in absurd cc
       ]
@@ -277,7 +277,7 @@ find_passes : {X : Type 0} (test other : X → Bool) (xs : List X) (x : X) → l
 find_passes test other [] x h e = absurd cc
 find_passes test other (first ∷ xs) x h e =
     let each = both_true (other first) _ h in
-    elim (bool_cases (test first)) [
+    elim (cases_Bool (test first)) [
       | inl here ↦ let same : first ≡ x = same_Some first x (sym (pick _ _ _ here) ∙ e) in subst (λ those. other those ≡ true) same each.0
       | inr later ↦ find_passes test other xs x each.1 (sym (skip _ _ _ later) ∙ e)
     ]
@@ -342,7 +342,7 @@ value_octets-length value = omega (arith, pieces_octets-length (markups value), 
 
 filtered-size : (test : WrittenAttribute → Bool) (attributes : List WrittenAttribute) → sum_by written_size (filter test attributes) ≤ sum_by written_size attributes
 filtered-size test [] = omega arith
-filtered-size test (attribute ∷ attributes) = elim (bool_cases (test attribute)) [
+filtered-size test (attribute ∷ attributes) = elim (cases_Bool (test attribute)) [
   | inl kept ↦ rw (pick (test attribute) (attribute ∷ filter test attributes) (filter test attributes) kept)
       (omega (arith, sum_by-cons written_size attribute (filter test attributes), sum_by-cons written_size attribute attributes, filtered-size test attributes))
   | inr left ↦ rw (skip (test attribute) (attribute ∷ filter test attributes) (filter test attributes) left)

@@ -3,14 +3,14 @@ use Rattle.std.specs.Prelude.{◌≡◌, ℕ, zero, suc, ◌+◌, ◌-◌, ◌�
 use Rattle.std.specs.List.{list_any, take_while, prefix_len}
 use Rattle.std.specs.Cmp.Lexicographic.{same_text}
 use Rattle.std.proofs.Common.{inl, inr, arith, refl, sym, ap, subst, ◌∙◌}
-use Rattle.std.proofs.lemmas.Bool.{eqb-true, eqb-false, leb-true}
+use Rattle.std.proofs.lemmas.Bool.{cases_Bool, eqb-true, eqb-false, leb-true}
 use Rattle.std.proofs.lemmas.Option.{same_Some}
 use Rattle.std.proofs.lemmas.List.{append_assoc, take-append-drop, drop-drop}
 use Rattle.cal_base.specs.Lines.ContentLines.{onto_first}
 use Rattle.cal_base.specs.Xml.XmlNames.{QName, qname_of, is_blank, are_blanks, is_xml_text}
 use Rattle.cal_base.specs.Xml.XmlMarkup.{Markup, closing, WrittenAttribute, begins, ends, is_quote, quote_after, size_through, tag_size, markup_size, markups, inside, quoted_pieces, is_not_blank, without_last_blanks, attribute_of, attributes_of, tag_of, opening_of, closing_of, comment_of, section_of, instruction_of, reference_of, markup_of, is_one_markup}
 use Rattle.cal_base.proofs.Xml.XmlMarkupLemmas.{size_through-append, markups-append}
-use Rattle.cal_base.proofs.Xml.XmlNameLemmas.{bool_cases, both_true, both_false, is_one_of, qname_of-lacks, qname_of-nil}
+use Rattle.cal_base.proofs.Xml.XmlNameLemmas.{both_true, both_false, is_one_of, qname_of-lacks, qname_of-nil}
 
 -- Quotes
 
@@ -149,7 +149,7 @@ record TagText (text : List ℕ) : Type 0 where
   apart : (nat_eq 33 first ≡ false) × (nat_eq 63 first ≡ false)
   closed : quote_behind None (first ∷ more) ≡ None
 
-markup_size-tag : (first : ℕ) (more : List ℕ) → nat_eq 33 first ≡ false → nat_eq 63 first ≡ false → markup_size (60 ∷ first ∷ more) ≡ 1 + tag_size None (first ∷ more)
+pub markup_size-tag : (first : ℕ) (more : List ℕ) → nat_eq 33 first ≡ false → nat_eq 63 first ≡ false → markup_size (60 ∷ first ∷ more) ≡ 1 + tag_size None (first ∷ more)
 markup_size-tag first more bang question =
     let comment : begins (60 ∷ first ∷ more) (codes "<!--") ≡ false = rw bang refl in
     let section : begins (60 ∷ first ∷ more) (codes "<![CDATA[") ≡ false = rw bang refl in
@@ -178,7 +178,7 @@ marks_apart octet e =
     (other_way 33 octet bang.0, other_way 63 octet question.0)
   where
     other_way : (a b : ℕ) → (b == a) ≡ false → nat_eq a b ≡ false
-    other_way a b f = elim (bool_cases (nat_eq a b)) [
+    other_way a b f = elim (cases_Bool (nat_eq a b)) [
       | inl same ↦ absurd (eqb-false b a f (sym (eqb-true a b same)))
       | inr apart ↦ apart
     ]
@@ -196,9 +196,9 @@ name_marks : (text : List ℕ) (name : QName) → qname_of text ≡ Some name �
 name_marks text name e = qname_of-lacks marks refl refl refl text name e
 
 blank_unquoted : (octet : ℕ) → is_blank octet ≡ true → is_quote octet ≡ false
-blank_unquoted octet e = elim (bool_cases (octet == 34)) [
+blank_unquoted octet e = elim (cases_Bool (octet == 34)) [
   | inl same ↦ let blank : is_blank 34 ≡ true = subst (λ (other : ℕ). is_blank other ≡ true) (eqb-true octet 34 same) e in absurd cc
-  | inr double ↦ elim (bool_cases (octet == 39)) [
+  | inr double ↦ elim (cases_Bool (octet == 39)) [
     | inl same ↦ let blank : is_blank 39 ≡ true = subst (λ (other : ℕ). is_blank other ≡ true) (eqb-true octet 39 same) e in absurd cc
     | inr single ↦ rw (double, single) refl
   ]
@@ -375,27 +375,27 @@ abbrev pub IsMarked : List ℕ → Type 0
 IsMarked text = (begins text (codes "<") ≡ true) ⊎ (begins text (codes "&") ≡ true)
 
 markup_cut : (text rest : List ℕ) (markup : Markup) → IsMarked text → markup_of text ≡ Some markup → FindsEnd text rest
-markup_cut text rest markup marked e = elim (bool_cases (is_xml_text text)) [
+markup_cut text rest markup marked e = elim (cases_Bool (is_xml_text text)) [
   | inr other ↦ let none : None ≡ Some markup = sym (pick _ _ _ (ap not other)) ∙ e in absurd cc
   | inl characters ↦
       let e0 = sym (skip _ _ _ (ap not characters)) ∙ e in
-      elim (bool_cases (begins text (codes "<!--"))) [
+      elim (cases_Bool (begins text (codes "<!--"))) [
         | inl comment ↦ cut_comment text rest markup comment (sym (pick _ _ _ comment) ∙ e0)
         | inr no_comment ↦
             let e1 = sym (skip _ _ _ no_comment) ∙ e0 in
-            elim (bool_cases (begins text (codes "<![CDATA["))) [
+            elim (cases_Bool (begins text (codes "<![CDATA["))) [
               | inl section ↦ cut_section text rest markup section (sym (pick _ _ _ section) ∙ e1)
               | inr no_section ↦
                   let e2 = sym (skip _ _ _ no_section) ∙ e1 in
-                  elim (bool_cases (begins text (codes "<?"))) [
+                  elim (cases_Bool (begins text (codes "<?"))) [
                     | inl instruction ↦ cut_instruction text rest markup instruction (sym (pick _ _ _ instruction) ∙ e2)
                     | inr no_instruction ↦
                         let e3 = sym (skip _ _ _ no_instruction) ∙ e2 in
-                        elim (bool_cases (begins text (codes "</"))) [
+                        elim (cases_Bool (begins text (codes "</"))) [
                           | inl closes ↦ cut_tag text rest (closing_text text markup closes (sym (pick _ _ _ closes) ∙ e3))
                           | inr no_closing ↦
                               let e4 = sym (skip _ _ _ no_closing) ∙ e3 in
-                              elim (bool_cases (begins text (codes "<"))) [
+                              elim (cases_Bool (begins text (codes "<"))) [
                                 | inl opens ↦ cut_tag text rest (opening_text text markup opens (sym (pick _ _ _ opens) ∙ e4))
                                 | inr no_opening ↦
                                     let e5 = sym (skip _ _ _ no_opening) ∙ e4 in

@@ -1,5 +1,6 @@
 -- The content lines of a text (RFC 5545, 3.1): its physical lines, the logical lines that folds join, and the grammar of a
--- logical line. The whole text is cut into pieces and these are joined; nothing here goes over it octet by octet with a state.
+-- logical line. The whole text is cut into pieces and these are joined. Two cuts carry a state from octet to octet, whether a quote is open:
+-- `unquoted_pieces` and `first_unquoted`. They are tied to the printed grammar, which has none (`LineGrammar.LinesAreTheGrammar`).
 use Rattle.std.specs.Prelude.{ℕ, ◌+◌, ◌-◌, Bool, true, false, not, ◌&&◌, ◌||◌, ◌==◌, nat_eq, nat_lt, nat_le, if◌then◌else◌, List, [], ◌∷◌, ◌++◌, map, length, take, drop, filter, filter_map, flat_map, Option, Some, None, Result, Ok, Err, option_map, option_and_then}
 use Rattle.std.specs.List.{list_any, list_all, ends_with}
 use Rattle.std.specs.Str.{is_utf8, chars}

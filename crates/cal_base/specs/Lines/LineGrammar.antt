@@ -1,5 +1,7 @@
--- The grammars of lines and of nesting as the standard prints them (RFC 5545, 3.1 and 3.4), and the laws that tie them to the
--- definitions that compute.
+-- The grammars of lines and of nesting as the standard prints them (RFC 5545, 3.1 and 3.4), and the law that ties that of lines to
+-- the definition that computes. One thing is told elsewhere: a value here has any octets, since `ContentLines.is_refused` says of
+-- each physical line which characters it cannot have. It takes DEL, which the standard's grammar leaves out, and refuses U+FFFE and
+-- U+FFFF, which that grammar has.
 use Rattle.std.specs.Prelude.{◌≡◌, ℕ, ◌≤◌, Bool, not, ◌==◌, if◌then◌else◌, ◌||◌, nat_eq, List, [], ◌∷◌, ◌++◌, map, flat_map, length, Some, None, Ok, All, ◌↔◌, IsTrue, IsFalse}
 use Rattle.std.specs.List.{list_any, ends_with, join_with_byte}
 use Rattle.cal_base.specs.declared.line.Param.{Param}
@@ -68,10 +70,6 @@ mutual
     empty : IsBody [] [] []
     own_line : (first : Line) (body lines : List Line) (children : List Node) → IsFalse (is_begin first) → IsFalse (is_end first) → IsBody body lines children → IsBody (first ∷ body) (first ∷ lines) children
     own_component : (part body lines : List Line) (first : Node) (children : List Node) → IsComponent part first → IsBody body lines children → IsBody (part ++ body) lines (first ∷ children)
-
--- the tree of lines without a fault is nested so
-abbrev pub TreesAreNested : Type 0
-TreesAreNested = (lines : List Line) (node : Node) → nesting_fault lines ≡ None → tree_of lines ≡ Some node → IsComponent lines node
 
 -- Writing and printing
 

@@ -1,7 +1,8 @@
--- The first fault of a body (XML 1.0; Namespaces in XML 1.0; RFC 4918, 8.2): its place, and why it is one. A table says what can stand at a place, given the markup before it;
--- the first markup for which it has a row decides, and the end comes last.
+-- The first fault of a body (XML 1.0; Namespaces in XML 1.0; RFC 4918, 8.2): its place, and why it is one. A table says what can stand
+-- at a place, given the tags that are open there and whether the root has begun; the first markup that cannot stand decides, and
+-- the end comes last.
 use Rattle.std.specs.Prelude.{ℕ, suc, ◌+◌, Bool, true, false, not, ◌&&◌, ◌||◌, ◌==◌, nat_lt, nat_le, if◌then◌else◌, List, [], ◌∷◌, length, take, drop, Option, Some, None, is_some, option_map, codes}
-use Rattle.std.specs.List.{list_any, take_while}
+use Rattle.std.specs.List.{take_while}
 use Rattle.std.specs.Str.{bytes_eq}
 use Rattle.cal_base.specs.Texts.Text.{raised_all}
 use Rattle.cal_base.specs.Lines.ComponentTrees.{or_else}
@@ -26,16 +27,15 @@ pub record Fault : Type 0 where
 abbrev pub fault_at : ℕ → Why → Fault
 fault_at place why = record { place = place; why = why }
 
--- What is open at a place, of the markup before it, the last first
+-- What is open at a place: the tags of the elements that have not ended, the innermost first, and whether the root has begun
 
-abbrev pub open_tags : List Markup → List Tag
-open_tags [] = []
-open_tags (opening tag ∷ before) = if tag.is_empty then open_tags before else tag ∷ open_tags before
-open_tags (closing name ∷ before) = drop 1 (open_tags before)
-open_tags (character text ∷ before) = open_tags before
-open_tags (section text ∷ before) = open_tags before
-open_tags (reference name ∷ before) = open_tags before
-open_tags (skipped ∷ before) = open_tags before
+abbrev pub tags_behind : List Tag → Markup → List Tag
+tags_behind around (opening tag) = if tag.is_empty then around else tag ∷ around
+tags_behind around (closing name) = drop 1 around
+tags_behind around (character text) = around
+tags_behind around (section text) = around
+tags_behind around (reference name) = around
+tags_behind around skipped = around
 
 abbrev pub is_opening : Markup → Bool
 is_opening (opening tag) = true
@@ -45,11 +45,12 @@ is_opening (section text) = false
 is_opening (reference name) = false
 is_opening skipped = false
 
-abbrev pub has_root : List Markup → Bool
-has_root before = list_any is_opening before
+abbrev pub rooted_behind : Bool → Markup → Bool
+rooted_behind rooted markup = is_opening markup || rooted
 
 abbrev pub is_within : List Tag → Bool
-is_within around = nat_lt 0 (length around)
+is_within [] = false
+is_within (tag ∷ around) = true
 
 -- Where a markup can stand
 
@@ -59,13 +60,13 @@ closes_innermost name (tag ∷ around) = is_same_name tag.name name
 
 -- outside the root there are blanks, comments and processing instructions alone, and one root (XML 1.0, 2.1 and 2.8); an end tag
 -- has the name of the innermost open tag (3, Element Type Match)
-abbrev pub can_stand : List Markup → Markup → Bool
-can_stand before (opening tag) = is_within (open_tags before) || not (has_root before)
-can_stand before (closing name) = closes_innermost name (open_tags before)
-can_stand before (character text) = is_within (open_tags before) || are_blanks text
-can_stand before (section text) = is_within (open_tags before)
-can_stand before (reference name) = is_within (open_tags before)
-can_stand before skipped = true
+abbrev pub can_stand : List Tag → Bool → Markup → Bool
+can_stand around rooted (opening tag) = is_within around || not rooted
+can_stand around rooted (closing name) = closes_innermost name around
+can_stand around rooted (character text) = is_within around || are_blanks text
+can_stand around rooted (section text) = is_within around
+can_stand around rooted (reference name) = is_within around
+can_stand around rooted skipped = true
 
 -- Faults of a markup
 
@@ -85,17 +86,17 @@ tag_fault around tag =
 abbrev pub reference_fault : List ℕ → Option Why
 reference_fault name = if is_some (referenced name) then None else Some entity
 
-abbrev pub own_fault : List Markup → Markup → Option Why
-own_fault before (opening tag) = tag_fault (open_tags before) tag
-own_fault before (closing name) = None
-own_fault before (character text) = None
-own_fault before (section text) = None
-own_fault before (reference name) = reference_fault name
-own_fault before skipped = None
+abbrev pub own_fault : List Tag → Markup → Option Why
+own_fault around (opening tag) = tag_fault around tag
+own_fault around (closing name) = None
+own_fault around (character text) = None
+own_fault around (section text) = None
+own_fault around (reference name) = reference_fault name
+own_fault around skipped = None
 
--- why a markup, itself well formed, cannot stand behind others
-abbrev pub markup_fault : List Markup → Markup → Option Why
-markup_fault before markup = if can_stand before markup then own_fault before markup else Some syntax
+-- why a markup, itself well formed, cannot stand at a place
+abbrev pub markup_fault : List Tag → Bool → Markup → Option Why
+markup_fault around rooted markup = if can_stand around rooted markup then own_fault around markup else Some syntax
 
 -- References within a tag: each is a markup of its own, with its own place
 
@@ -134,17 +135,17 @@ no_markup_fault end place text = if begins text (codes "<!DOCTYPE") then fault_a
     else fault_at place syntax
 
 -- the body is whole where its root is closed
-abbrev pub end_fault : ℕ → List Markup → Option Fault
-end_fault end before = if has_root before && not (is_within (open_tags before)) then None else Some (fault_at end cut_short)
+abbrev pub end_fault : ℕ → List Tag → Bool → Option Fault
+end_fault end around rooted = if rooted && not (is_within around) then None else Some (fault_at end cut_short)
 
--- the first fault of some markup, given the end of the body, the markup before, and the place
-abbrev pub first_fault : ℕ → List Markup → ℕ → List (List ℕ) → Option Fault
-first_fault end before place [] = end_fault end before
-first_fault end before place (text ∷ texts) = elim (markup_of text) [
+-- the first fault of some markup, given the end of the body, what is open at their place, and the place
+abbrev pub first_fault : ℕ → List Tag → Bool → ℕ → List (List ℕ) → Option Fault
+first_fault end around rooted place [] = end_fault end around rooted
+first_fault end around rooted place (text ∷ texts) = elim (markup_of text) [
   | None ↦ Some (no_markup_fault end place text)
-  | Some markup ↦ elim (markup_fault before markup) [
+  | Some markup ↦ elim (markup_fault around rooted markup) [
     | Some why ↦ Some (fault_at place why)
-    | None ↦ or_else (references_fault place text) (first_fault end (markup ∷ before) (place + length text) texts)
+    | None ↦ or_else (references_fault place text) (first_fault end (tags_behind around markup) (rooted_behind rooted markup) (place + length text) texts)
   ]
 ]
 
@@ -193,10 +194,10 @@ declaration_fault end place text =
 
 -- the first fault of the markup behind the mark
 abbrev pub fault_behind : ℕ → ℕ → List (List ℕ) → Option Fault
-fault_behind end place [] = first_fault end [] place []
+fault_behind end place [] = first_fault end [] false place []
 fault_behind end place (text ∷ texts) =
-    if is_declaration text then or_else (declaration_fault end place text) (first_fault end [] (place + length text) texts)
-    else first_fault end [] place (text ∷ texts)
+    if is_declaration text then or_else (declaration_fault end place text) (first_fault end [] false (place + length text) texts)
+    else first_fault end [] false place (text ∷ texts)
 
 -- the first fault of a body, of all its octets
 abbrev pub body_fault : List ℕ → Option Fault

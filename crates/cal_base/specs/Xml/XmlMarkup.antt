@@ -1,5 +1,6 @@
 -- A body cut into its markup, and what each markup is by itself (XML 1.0, 2.4 to 2.7, 3.1 and 4.1). Where each ends is told by
--- how it begins, and what it is by a test of its whole text; no state goes from octet to octet.
+-- how it begins, and what it is by a test of its whole text. In a tag alone a state goes from octet to octet, the quote that is
+-- open: in `tag_size`, and in `quoted_pieces`.
 use Rattle.std.specs.Prelude.{ℕ, zero, suc, ◌+◌, ◌-◌, ◌*◌, Bool, true, false, not, ◌&&◌, ◌||◌, ◌==◌, nat_eq, nat_le, if◌then◌else◌, List, [], ◌∷◌, ◌++◌, map, length, take, drop, fold, find, Option, Some, None, is_some, option_map, option_and_then, codes, encode_utf8}
 use Rattle.std.specs.List.{list_any, starts_with, ends_with, take_while}
 use Rattle.std.specs.Str.{bytes_eq, continuation_len}

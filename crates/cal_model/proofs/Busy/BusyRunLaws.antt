@@ -6,29 +6,29 @@ use Rattle.std.proofs.lemmas.Bool.{false≢true, eq-eqb, and_parts, and_from}
 use Rattle.std.specs.Option.{is_some}
 use Rattle.std.proofs.lemmas.List.Elements.{All-head, All-tail, All-cons, All-nil}
 use Rattle.std.proofs.lemmas.List.Kept.{AllPairs-cons}
-use Rattle.cal_model.proofs.Instances.Everywhere.{same_int-true}
+use Rattle.cal_model.proofs.Words.IntegerLemmas.{same_int-self, same_int-true}
 use Rattle.cal_model.proofs.Words.ListTests.{Keeps, filter_kept}
 use Rattle.cal_model.proofs.Instances.RisingLists.{AllPairs-tail}
 use Rattle.cal_model.specs.declared.object.Class.{Class}
 use Rattle.cal_model.specs.declared.object.Class.TheVariants.{Busy, Unavailable, Tentative}
 use Rattle.cal_model.specs.declared.row.Range.{Range}
 use Rattle.cal_model.specs.Busy.BusyTimes.{BusyTime}
-use Rattle.cal_model.specs.Words.Numbers.{same_int}
-use Rattle.cal_model.specs.Busy.BusyRuns.{holds, greatest_class, greater, class_at, runs, runs_from, with_second, with_class, one_second, same_class, size, AreRuns}
+use Rattle.cal_model.specs.Words.Integers.{same_int}
+use Rattle.cal_model.specs.Busy.BusyRuns.{covers, greatest_class, greater, class_at, runs, runs_of_classes, runs_from, with_second, with_class, one_second, same_class, size, AreRuns}
 
-holds_within : (t : ℤ) (r : BusyTime) → r.start ≤ℤ t → t <ℤ r.end → holds t r ≡ true
-holds_within t r a b = grind (arith, ints)
+covers_within : (t : ℤ) (r : BusyTime) → r.start ≤ℤ t → t <ℤ r.end → covers t r ≡ true
+covers_within t r a b = grind (arith, ints)
 
-holds_before : (t : ℤ) (r : BusyTime) → t <ℤ r.start → holds t r ≡ false
-holds_before t r a = grind (arith, ints)
+covers_before : (t : ℤ) (r : BusyTime) → t <ℤ r.start → covers t r ≡ false
+covers_before t r a = grind (arith, ints)
 
-holds_after : (t : ℤ) (r : BusyTime) → r.end ≤ℤ t → holds t r ≡ false
-holds_after t r a = grind (arith, ints)
+covers_after : (t : ℤ) (r : BusyTime) → r.end ≤ℤ t → covers t r ≡ false
+covers_after t r a = grind (arith, ints)
 
-class_yes : (t : ℤ) (r : BusyTime) (rs : List BusyTime) → holds t r ≡ true → class_at (r ∷ rs) t ≡ Some (greater r.class (class_at rs t))
+class_yes : (t : ℤ) (r : BusyTime) (rs : List BusyTime) → covers t r ≡ true → class_at (r ∷ rs) t ≡ Some (greater r.class (class_at rs t))
 class_yes t r rs h = rw h refl
 
-class_no : (t : ℤ) (r : BusyTime) (rs : List BusyTime) → holds t r ≡ false → class_at (r ∷ rs) t ≡ class_at rs t
+class_no : (t : ℤ) (r : BusyTime) (rs : List BusyTime) → covers t r ≡ false → class_at (r ∷ rs) t ≡ class_at rs t
 class_no t r rs h = rw h refl
 
 greater_none : (c : Class) → greater c None ≡ c
@@ -47,16 +47,16 @@ Chain a b (r ∷ rs) = (a ≤ℤ r.start) × (r.start <ℤ r.end) × (r.end ≤�
 
 none_before : (a b t : ℤ) (rs : List BusyTime) → Chain a b rs → t <ℤ a → class_at rs t ≡ None
 none_before a b t [] c l = refl
-none_before a b t (r ∷ rs) c l = class_no t r rs (holds_before t r (omega (arith, ints, l, c.0))) ∙ none_before r.end b t rs c.4 (omega (arith, ints, l, c.0, c.1))
+none_before a b t (r ∷ rs) c l = class_no t r rs (covers_before t r (omega (arith, ints, l, c.0))) ∙ none_before r.end b t rs c.4 (omega (arith, ints, l, c.0, c.1))
 
 class_first : (a b : ℤ) (r : BusyTime) (rs : List BusyTime) → Chain a b (r ∷ rs) → (t : ℤ) → r.start ≤ℤ t → t <ℤ r.end → class_at (r ∷ rs) t ≡ Some r.class
-class_first a b r rs c t l m = class_yes t r rs (holds_within t r l m) ∙ ap (λ o. Some (greater r.class o)) (none_before r.end b t rs c.4 m) ∙ ap (λ x. Some x) (greater_none r.class)
+class_first a b r rs c t l m = class_yes t r rs (covers_within t r l m) ∙ ap (λ o. Some (greater r.class o)) (none_before r.end b t rs c.4 m) ∙ ap (λ x. Some x) (greater_none r.class)
 
 class_later : (r : BusyTime) (rs : List BusyTime) (t : ℤ) → r.end ≤ℤ t → class_at (r ∷ rs) t ≡ class_at rs t
-class_later r rs t l = class_no t r rs (holds_after t r l)
+class_later r rs t l = class_no t r rs (covers_after t r l)
 
 class_early : (a b : ℤ) (rs : List BusyTime) → Chain a b rs → (r : BusyTime) (rest : List BusyTime) → rs ≡ r ∷ rest → (t : ℤ) → t <ℤ r.start → class_at rs t ≡ None
-class_early a b rs c r rest e t l = rw e (class_no t r rest (holds_before t r l) ∙ none_before r.end b t rest (rw e at c).4 (omega (arith, ints, l, (rw e at c).1)))
+class_early a b rs c r rest e t l = rw e (class_no t r rest (covers_before t r l) ∙ none_before r.end b t rest (rw e at c).4 (omega (arith, ints, l, (rw e at c).1)))
 
 -- No other list
 
@@ -121,10 +121,6 @@ chain_weaker : (a a' b : ℤ) (rs : List BusyTime) → a' ≤ℤ a → Chain a b
 chain_weaker a a' b [] l c = tt
 chain_weaker a a' b (r ∷ rs) l c = (omega (arith, ints, l, c.0), c.1, c.2, c.3, c.4)
 
-same_int-refl : (a : ℤ) → same_int a a ≡ true
-same_int-refl (pos a) = eq-eqb a a refl
-same_int-refl (negsuc a) = eq-eqb a a refl
-
 same_class-true : (c d : Class) → same_class c d ≡ true → c ≡ d
 same_class-true Busy Busy e = refl
 same_class-true Busy Unavailable e = absurd (false≢true e)
@@ -182,7 +178,7 @@ by_test t b c r rs l d true e =
     rw (same_class-true c r.class both.0) (longer_before t b r rs (same_int-true r.start (t +ℤ pos 1) both.1) d)
 by_test t b c r rs l d false e =
     alone_before t b c (r ∷ rs)
-    (λ p q. false≢true (e ∙ and_from (same_class c r.class) (same_int r.start (t +ℤ pos 1)) (rw q (same_class-refl r.class)) (rw p (same_int-refl r.start)))) l d
+    (λ p q. false≢true (e ∙ and_from (same_class c r.class) (same_int r.start (t +ℤ pos 1)) (rw q (same_class-refl r.class)) (rw p (same_int-self r.start)))) l d
 
 with_class_before : (t b : ℤ) (c : Class) (rs : List BusyTime) → (t +ℤ pos 1) ≤ℤ b → Chain (t +ℤ pos 1) b rs → IsBefore t b (Some c) rs (with_class t c rs)
 unfolding longer
@@ -197,11 +193,11 @@ with_second_before t b None rs l d = record {
 }
 with_second_before t b (Some c) rs l d = with_class_before t b c rs l d
 
-runs_from_chain : (times : List BusyTime) (n : ℕ) (t b : ℤ) → b ≡ t +ℤ pos n → Chain t b (runs_from times t n) × SameClasses t b (runs_from times t n) times
+runs_from_chain : (times : List BusyTime) (n : ℕ) (t b : ℤ) → b ≡ t +ℤ pos n → Chain t b (runs_from (class_at times) t n) × SameClasses t b (runs_from (class_at times) t n) times
 runs_from_chain times zero t b e = (tt, λ u l m. absurd (omega (arith, ints, l, m, e)))
 runs_from_chain times (suc n) t b e =
     let before = runs_from_chain times n (t +ℤ pos 1) b (omega (arith, ints, e)) in
-    let is = with_second_before t b (class_at times t) (runs_from times (t +ℤ pos 1) n) (omega (arith, ints, e)) before.0 in (
+    let is = with_second_before t b (class_at times t) (runs_from (class_at times) (t +ℤ pos 1) n) (omega (arith, ints, e)) before.0 in (
       is.chain,
       λ u l m. by_lt_z t u
           (λ k. is.later u (omega (arith, ints, k)) ∙ before.1 u (omega (arith, ints, k)) m)
@@ -310,21 +306,37 @@ AreRuns-same times range xs ys f g =
 pub runs-AreRuns : (times : List BusyTime) (range : Range) (found : List BusyTime) → AreRuns times range found → found ≡ runs times range
 runs-AreRuns times range found f = AreRuns-same times range found (runs times range) f (AreRuns-runs times range)
 
--- Runs depend on the class of each second alone: two lists of times that give each second of a range the same class have the same runs.
+-- Runs depend on the class of each second alone.
+runs_from-same : (class other : ℤ → Option Class) (n : ℕ) (t : ℤ) → ((u : ℤ) → t ≤ℤ u → u <ℤ (t +ℤ pos n) → class u ≡ other u) → runs_from class t n ≡ runs_from other t n
+runs_from-same class other zero t same = refl
+runs_from-same class other (suc n) t same =
+    ap (λ c. with_second t c (runs_from class (t +ℤ pos 1) n)) (same t (omega (arith, ints)) (omega (arith, ints)))
+    ∙ ap (with_second t (other t)) (runs_from-same class other n (t +ℤ pos 1) (λ u from to. same u (omega (arith, ints, from)) (omega (arith, ints, to))))
+
+-- a second that is one of those of a range lies before its end
+before_end : (a b u : ℤ) (test : Bool) → int_lt a b ≡ test → a ≤ℤ u → u <ℤ (a +ℤ pos (cond test (nat_abs (b -ℤ a)) 0)) → u <ℤ b
+before_end a b u true e from to = omega (arith, ints, pos-nat_abs (b -ℤ a) (grind (arith, ints, e)), from, to)
+before_end a b u false e from to = absurd (omega (arith, ints, from, to))
+
+pub runs_of_classes-same : (class other : ℤ → Option Class) (range : Range) → ((t : ℤ) → range.start.0 ≤ℤ t → t <ℤ range.end.0 → class t ≡ other t)
+    → runs_of_classes class range ≡ runs_of_classes other range
+runs_of_classes-same class other range same =
+    runs_from-same class other (size range) range.start.0
+    (λ u from to. same u from (before_end range.start.0 range.end.0 u (int_lt range.start.0 range.end.0) refl from to))
+
+-- Two lists of times that give each second of a range the same class have the same runs.
 pub runs-same_classes : (xs ys : List BusyTime) (range : Range) → SameClasses range.start.0 range.end.0 xs ys → runs xs range ≡ runs ys range
-runs-same_classes xs ys range s =
-    let f = AreRuns-runs xs range in
-    AreRuns-same ys range (runs xs range) (runs ys range) (record { within = f.within; in_order = f.in_order; longest = f.longest; classes = λ t l m. f.classes t l m ∙ s t l m }) (AreRuns-runs ys range)
+runs-same_classes xs ys range same = runs_of_classes-same (class_at xs) (class_at ys) range same
 
 -- a time that has some second of a range
 abbrev pub has_second_of : Range → BusyTime → Bool
 has_second_of range time = int_lt range.start.0 time.end && int_lt time.start range.end.0
 
-has_second : (range : Range) (time : BusyTime) (t : ℤ) → range.start.0 ≤ℤ t → t <ℤ range.end.0 → holds t time ≡ true → has_second_of range time ≡ true
+has_second : (range : Range) (time : BusyTime) (t : ℤ) → range.start.0 ≤ℤ t → t <ℤ range.end.0 → covers t time ≡ true → has_second_of range time ≡ true
 has_second range time t l m e = grind (arith, ints)
 
 -- Times that have no second of the range may be left out.
 pub runs-meeting : (range : Range) (keep : BusyTime → Bool) (times : List BusyTime) → Keeps keep times (has_second_of range) → runs (filter keep times) range ≡ runs times range
 runs-meeting range keep times kept =
     runs-same_classes (filter keep times) times range
-    (λ t l m. ap greatest_class (filter_kept keep (holds t) times (λ time c e. kept time c (has_second range time t l m e))))
+    (λ t l m. ap greatest_class (filter_kept keep (covers t) times (λ time c e. kept time c (has_second range time t l m e))))

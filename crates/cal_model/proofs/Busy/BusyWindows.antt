@@ -10,9 +10,9 @@ use Rattle.cal_model.specs.declared.object.Component.{Component}
 use Rattle.cal_model.specs.declared.object.Object.{Object}
 use Rattle.cal_model.specs.declared.report.ReportRequest.TheVariants.{FreeBusy}
 use Rattle.cal_model.specs.Busy.BusyTimes.{BusyTime, busy_times, times_of_row, time_of_row, class_of_row, times_of_stored, stored_periods}
-use Rattle.cal_model.specs.Busy.BusyRuns.{holds, greatest_class, runs, calendar_times, calendar_runs}
-use Rattle.cal_model.specs.Words.Numbers.{same_int}
-use Rattle.cal_model.specs.Reports.ReportPairs.{is_stated, meets_some, counts, is_needed, override_windows}
+use Rattle.cal_model.specs.Busy.BusyRuns.{covers, greatest_class, runs, calendar_times, calendar_runs}
+use Rattle.cal_model.specs.Words.Integers.{same_int}
+use Rattle.cal_model.specs.Reports.NeededWindows.{is_stated_window, meets_some, counts, is_needed, override_windows}
 use Rattle.cal_model.specs.declared.row.Range.{Range}
 use Rattle.cal_model.specs.declared.row.Row.{Row}
 use Rattle.cal_model.specs.declared.zone.ZoneTable.{ZoneTable}
@@ -63,56 +63,56 @@ and_comm false false = refl
 filter_turn : {X : Type 0} (p q : X → Bool) (xs : List X) → filter p (filter q xs) ≡ filter q (filter p xs)
 filter_turn p q xs = filter-filter p q xs ∙ filter_agree (λ x. q x && p x) (λ x. p x && q x) (λ x. and_comm (q x) (p x)) xs ∙ sym (filter-filter q p xs)
 
-holds_parts : (t : ℤ) (time : BusyTime) → holds t time ≡ true → (time.start ≤ℤ t) × (t <ℤ time.end)
-holds_parts t time e = (grind (arith, ints, e), grind (arith, ints, e))
+covers_parts : (t : ℤ) (time : BusyTime) → covers t time ≡ true → (time.start ≤ℤ t) × (t <ℤ time.end)
+covers_parts t time e = (grind (arith, ints, e), grind (arith, ints, e))
 
--- a row that is not looked at holds no second of the range
-not_held : (object : Object) (zone : ZoneTable) (range : Range) → HasNearRows object → HasShortOffsets zone → ((row : Row) → Contains (rows object) row → is_dated row ≡ true → is_stated (window_of object row) ≡ true)
-    → (t : ℤ) → range.start.0 ≤ℤ t → t <ℤ range.end.0 → (row : Row) → Contains (rows object) row → is_dated row ≡ true → (class : Class) → is_looked_at object (FreeBusy range) row ≡ false → holds t (time_of_row zone row class) ≡ false
-not_held object zone range near short stated t l m row among dated class e = by_test (holds t (time_of_row zone row class)) refl
+-- a row that is not looked at covers no second of the range
+not_covered : (object : Object) (zone : ZoneTable) (range : Range) → HasNearRows object → HasShortOffsets zone → ((row : Row) → Contains (rows object) row → is_dated row ≡ true → is_stated_window (window_of object row) ≡ true)
+    → (t : ℤ) → range.start.0 ≤ℤ t → t <ℤ range.end.0 → (row : Row) → Contains (rows object) row → is_dated row ≡ true → (class : Class) → is_looked_at object (FreeBusy range) row ≡ false → covers t (time_of_row zone row class) ≡ false
+not_covered object zone range near short stated t l m row among dated class e = by_test (covers t (time_of_row zone row class)) refl
   where
-    by_test : (test : Bool) → holds t (time_of_row zone row class) ≡ test → test ≡ false
+    by_test : (test : Bool) → covers t (time_of_row zone row class) ≡ test → test ≡ false
     by_test false h = refl
     by_test true h =
-        let time = holds_parts t (time_of_row zone row class) h in
+        let time = covers_parts t (time_of_row zone row class) h in
         let meets = busy_row-near object zone range near short row among dated (omega (arith, ints, l, time.1)) (omega (arith, ints, m, time.0)) in
         let counted : counts object (range ∷ []) (window_of object row) ≡ true =
         or_left (meets_some object (range ∷ []) (window_of object row)) (list_any (same_int (window_of object row)) (override_windows object)) (or_left (window_meets (margin object) range (window_of object row)) false meets) in
-        sym (sym e ∙ or_right (not (is_dated row)) (is_needed object (FreeBusy range) (window_of object row)) (and_from (is_stated (window_of object row)) (counts object (range ∷ []) (window_of object row)) (stated row among dated) counted))
+        sym (sym e ∙ or_right (not (is_dated row)) (is_needed object (FreeBusy range) (window_of object row)) (and_from (is_stated_window (window_of object row)) (counts object (range ∷ []) (window_of object row)) (stated row among dated) counted))
 
-row_not_held : (object : Object) (zone : ZoneTable) (range : Range) → HasNearRows object → HasShortOffsets zone → ((row : Row) → Contains (rows object) row → is_dated row ≡ true → is_stated (window_of object row) ≡ true)
-    → (t : ℤ) → range.start.0 ≤ℤ t → t <ℤ range.end.0 → (row : Row) → Contains (filter is_dated (rows object)) row → is_looked_at object (FreeBusy range) row ≡ false → filter (holds t) (times_of_row zone object row) ≡ []
-row_not_held object zone range near short stated t l m row c e = by_class (class_of_row object row)
+row_not_covered : (object : Object) (zone : ZoneTable) (range : Range) → HasNearRows object → HasShortOffsets zone → ((row : Row) → Contains (rows object) row → is_dated row ≡ true → is_stated_window (window_of object row) ≡ true)
+    → (t : ℤ) → range.start.0 ≤ℤ t → t <ℤ range.end.0 → (row : Row) → Contains (filter is_dated (rows object)) row → is_looked_at object (FreeBusy range) row ≡ false → filter (covers t) (times_of_row zone object row) ≡ []
+row_not_covered object zone range near short stated t l m row c e = by_class (class_of_row object row)
   where
-    by_class : (class : Option Class) → filter (holds t) (map (time_of_row zone row) (option_to_list class)) ≡ []
+    by_class : (class : Option Class) → filter (covers t) (map (time_of_row zone row) (option_to_list class)) ≡ []
     by_class None = refl
-    by_class (Some class) = rw (not_held object zone range near short stated t l m row (Contains-unfilter is_dated row (rows object) c).1 (Contains-unfilter is_dated row (rows object) c).0 class e) refl
+    by_class (Some class) = rw (not_covered object zone range near short stated t l m row (Contains-unfilter is_dated row (rows object) c).1 (Contains-unfilter is_dated row (rows object) c).0 class e) refl
 
-object_same : (object : Object) (zone : ZoneTable) (range : Range) → HasNearRows object → HasShortOffsets zone → ((row : Row) → Contains (rows object) row → is_dated row ≡ true → is_stated (window_of object row) ≡ true)
-    → (t : ℤ) → range.start.0 ≤ℤ t → t <ℤ range.end.0 → filter (holds t) (times_over zone object (filter (is_looked_at object (FreeBusy range)) (rows object))) ≡ filter (holds t) (busy_times zone object)
+object_same : (object : Object) (zone : ZoneTable) (range : Range) → HasNearRows object → HasShortOffsets zone → ((row : Row) → Contains (rows object) row → is_dated row ≡ true → is_stated_window (window_of object row) ≡ true)
+    → (t : ℤ) → range.start.0 ≤ℤ t → t <ℤ range.end.0 → filter (covers t) (times_over zone object (filter (is_looked_at object (FreeBusy range)) (rows object))) ≡ filter (covers t) (busy_times zone object)
 object_same object zone range near short stated t l m =
     let keep = is_looked_at object (FreeBusy range) in
     let stored = flat_map times_of_stored (flat_map (λ (c : Component). stored_periods c.kind c) object.components) in
-    filter-append (holds t) (flat_map (times_of_row zone object) (filter is_dated (filter keep (rows object)))) stored
-    ∙ ap (λ ys. ys ++ filter (holds t) stored)
-    (ap (λ rs. filter (holds t) (flat_map (times_of_row zone object) rs)) (filter_turn is_dated keep (rows object))
-    ∙ filter_flat_map (holds t) (times_of_row zone object) keep (filter is_dated (rows object))
-    (each (λ row. keep row ≡ false → filter (holds t) (times_of_row zone object row) ≡ []) (filter is_dated (rows object)) (row_not_held object zone range near short stated t l m)))
-    ∙ sym (filter-append (holds t) (flat_map (times_of_row zone object) (filter is_dated (rows object))) stored)
+    filter-append (covers t) (flat_map (times_of_row zone object) (filter is_dated (filter keep (rows object)))) stored
+    ∙ ap (λ ys. ys ++ filter (covers t) stored)
+    (ap (λ rs. filter (covers t) (flat_map (times_of_row zone object) rs)) (filter_turn is_dated keep (rows object))
+    ∙ filter_flat_map (covers t) (times_of_row zone object) keep (filter is_dated (rows object))
+    (each (λ row. keep row ≡ false → filter (covers t) (times_of_row zone object row) ≡ []) (filter is_dated (rows object)) (row_not_covered object zone range near short stated t l m)))
+    ∙ sym (filter-append (covers t) (flat_map (times_of_row zone object) (filter is_dated (rows object))) stored)
 
 -- what an object has that was read
 pub record IsRead (object : Object) : Type 0 where
   pub near : HasNearRows object
-  pub stated : (row : Row) → Contains (rows object) row → is_dated row ≡ true → is_stated (window_of object row) ≡ true
+  pub stated : (row : Row) → Contains (rows object) row → is_dated row ≡ true → is_stated_window (window_of object row) ≡ true
 
 objects_same : (zone : ZoneTable) (range : Range) → HasShortOffsets zone → (t : ℤ) → range.start.0 ≤ℤ t → t <ℤ range.end.0 → (objects : List Object) → AllByRecursion IsRead objects
-    → filter (holds t) (flat_map (λ object. times_over zone object (filter (is_looked_at object (FreeBusy range)) (rows object))) objects) ≡ filter (holds t) (calendar_times zone objects)
+    → filter (covers t) (flat_map (λ object. times_over zone object (filter (is_looked_at object (FreeBusy range)) (rows object))) objects) ≡ filter (covers t) (calendar_times zone objects)
 objects_same zone range short t l m [] a = refl
 objects_same zone range short t l m (object ∷ objects) a =
     let mine : Object → List BusyTime = λ o. times_over zone o (filter (is_looked_at o (FreeBusy range)) (rows o)) in
-    filter-append (holds t) (mine object) (flat_map mine objects)
+    filter-append (covers t) (mine object) (flat_map mine objects)
     ∙ (λ i. object_same object zone range a.0.near short a.0.stated t l m i ++ objects_same zone range short t l m objects a.1 i)
-    ∙ sym (filter-append (holds t) (busy_times zone object) (calendar_times zone objects))
+    ∙ sym (filter-append (covers t) (busy_times zone object) (calendar_times zone objects))
 
 -- The law of a query for busy times: over the rows that it looks at a calendar has the runs that it has over all rows.
 pub runs-looked_at : (zone : ZoneTable) (objects : List Object) (range : Range) → HasShortOffsets zone → AllByRecursion IsRead objects

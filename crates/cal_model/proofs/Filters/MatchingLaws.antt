@@ -21,7 +21,7 @@ use Rattle.cal_model.specs.declared.row.Fixed.{Fixed}
 use Rattle.cal_model.specs.declared.row.Range.{Range}
 use Rattle.cal_model.specs.declared.row.Row.{Row}
 use Rattle.cal_model.specs.declared.zone.ZoneTable.{ZoneTable}
-use Rattle.cal_model.specs.Filters.ComponentRanges.{Matched, Site, time_passes, range_passes, component_passes, valarm_passes, alarm_passes, alarm_at, alarms_before, has_trigger, component_of, component_at, holder_of, sites_in, whole_site}
+use Rattle.cal_model.specs.Filters.ComponentRanges.{Matched, Site, time_range_passes, range_passes, component_passes, valarm_passes, alarm_passes, alarm_at, alarms_before, has_trigger, component_at_path, component_at, holder_of, sites_in, whole_site}
 use Rattle.cal_model.specs.Objects.ComponentReading.{is_alarm}
 use Rattle.cal_model.specs.Filters.Matching.{matches, matches_object, comp_filter_holds, prop_filter_holds, comp_step, passes_all, has_filter_name}
 use Rattle.cal_model.specs.Reports.NamedRanges.{ranges_of_filter, ranges_of_test, ranges_step}
@@ -50,7 +50,7 @@ numbered_is (c ∷ cs) front =
 component_at_is : (object : Object) (child : ℕ) → AllByRecursion (IsNumbered object.components) (component_at object child)
 component_at_is object child = all_filter (IsNumbered object.components) (λ (n : Numbered). n.component.child == child) (numbered_from 0 object.components) (numbered_is object.components [])
 
-component_of_is : (object : Object) (path : List ℕ) → AllByRecursion (IsNumbered object.components) (component_of object path)
+component_of_is : (object : Object) (path : List ℕ) → AllByRecursion (IsNumbered object.components) (component_at_path object path)
 component_of_is object [] = tt
 component_of_is object (child ∷ []) = component_at_is object child
 component_of_is object (a ∷ b ∷ path) = tt
@@ -152,10 +152,10 @@ range_passes_same : (object : Object) (zone : ZoneTable) (range : Range) (some a
 range_passes_same object zone range some all enough site =
     cond_same (is_alarm site.node)
     (valarm_passes (with_rows object zone some) range site (holder_of object site.path)) (valarm_passes (with_rows object zone all) range site (holder_of object site.path))
-    (list_any (component_passes (with_rows object zone some) range) (component_of object site.path)) (list_any (component_passes (with_rows object zone all) range) (component_of object site.path))
+    (list_any (component_passes (with_rows object zone some) range) (component_at_path object site.path)) (list_any (component_passes (with_rows object zone all) range) (component_at_path object site.path))
     (valarm_passes_same object zone range some all enough site (holder_of object site.path) (holder_of_is object site.path))
     (any_agree (component_passes (with_rows object zone some) range) (component_passes (with_rows object zone all) range) (IsNumbered object.components)
-    (λ n is. component_passes_same object zone range some all enough n is) (component_of object site.path) (component_of_is object site.path))
+    (λ n is. component_passes_same object zone range some all enough n is) (component_at_path object site.path) (component_of_is object site.path))
 
 -- Filters: two lists of rows that pass the same ranges of a filter give it the same answer
 
@@ -187,7 +187,7 @@ agreed_list object zone some all (e ∷ es) same sites =
     rw first (ap (λ t. comp_filter_holds (with_rows object zone all) e.0 sites && t) rest)
 
 time_agreed : (object : Object) (zone : ZoneTable) (some all : List Row) (time : Option Range) → AllByRecursion (IsSame object zone some all) (option_to_list time) → (site : Site)
-    → time_passes (with_rows object zone some) time site ≡ time_passes (with_rows object zone all) time site
+    → time_range_passes (with_rows object zone some) time site ≡ time_range_passes (with_rows object zone all) time site
 time_agreed object zone some all None same site = refl
 time_agreed object zone some all (Some range) same site = same.0 site
 

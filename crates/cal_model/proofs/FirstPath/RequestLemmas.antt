@@ -9,10 +9,10 @@ use Rattle.cal_model.specs.declared.request.Request.{Request}
 use Rattle.cal_model.specs.declared.row.Range.{Range}
 use Rattle.cal_model.specs.FirstPath.EventTexts.{EventText, IsEventText, is_name_octet, event_octets, put_head, put_octets, put_request}
 use Rattle.cal_model.specs.FirstPath.QueryTexts.{QueryText, IsQueryText, query_head, query_body, query_octets, query_request}
-use Rattle.cal_model.specs.FirstPath.Requests.{SpellsRequest}
+use Rattle.cal_model.specs.FirstPath.FirstPathRequests.{SpellsRequest}
 use Rattle.cal_model.specs.Values.UtcTexts.{utc_of}
 use Rattle.cal_model.proofs.Words.EndLemmas.{ends_at, is_high, number_is_high, fronts}
-use Rattle.cal_model.proofs.Values.UtcLemmas.{spelled_whole, SpellsDateTime-utc_of}
+use Rattle.cal_model.proofs.Values.UtcLaws.{spelled_whole, SpellsDateTime-utc_of}
 
 -- a PUT, each part before the rest
 abbrev put_before : List ℕ → ℕ → List ℕ → List ℕ

@@ -3,12 +3,14 @@ use Rattle.std.proofs.Common.{◌≡◌, zero, suc, ◌<◌, List, [], ◌∷◌
 use Rattle.std.specs.Prelude.{All, AllPairs, Contains, int_lt, nat_le}
 use Rattle.std.proofs.lemmas.Int.{ints}
 use Rattle.std.proofs.lemmas.Bool.{cases_Bool}
-use Rattle.std.proofs.lemmas.List.Elements.{All-head, All-tail, All-nil, All-cons, All-weaker, All-contains_itself}
+use Rattle.std.proofs.lemmas.List.Elements.{All-head, All-tail, All-nil, All-cons, All-weaker, All-contains, All-contains_itself}
+use Rattle.std.proofs.lemmas.List.Kept.{AllPairs-cons}
 use Rattle.cal_model.specs.declared.row.Row.{Row}
-use Rattle.cal_model.specs.Words.Numbers.{same_int}
+use Rattle.cal_model.specs.Words.Integers.{same_int}
 use Rattle.cal_model.specs.Instances.Starts.{put, ascending}
 use Rattle.cal_model.specs.Instances.Rows.{comes_before, put_row, in_order}
-use Rattle.cal_model.proofs.Instances.Everywhere.{same_int-self, same_int-true, All-put_row, All-in_order}
+use Rattle.cal_model.proofs.Words.IntegerLemmas.{same_int-self, same_int-true}
+use Rattle.cal_model.proofs.Instances.EachRowLemmas.{All-put_row, All-in_order}
 
 -- Members.
 
@@ -27,12 +29,6 @@ Contains-none y c = let below = c.1 in omega (arith, below)
 
 -- Pairs.
 
-pub AllPairs-cons : {X : Type 0} (R : X → X → Type 0) (x : X) (xs : List X) → All (R x) xs → AllPairs R xs → AllPairs R (x ∷ xs)
-AllPairs-cons R x xs all rest zero zero d lt below = absurd (omega arith)
-AllPairs-cons R x xs all rest zero (suc j) d lt below = all j d (omega arith)
-AllPairs-cons R x xs all rest (suc i) zero d lt below = absurd (omega arith)
-AllPairs-cons R x xs all rest (suc i) (suc j) d lt below = rest i j d (omega arith) (omega arith)
-
 pub AllPairs-head : {X : Type 0} (R : X → X → Type 0) (x : X) (xs : List X) → AllPairs R (x ∷ xs) → All (R x) xs
 AllPairs-head R x xs h k d below = h 0 (suc k) d (omega arith) (omega arith)
 
@@ -41,9 +37,6 @@ AllPairs-tail R x xs h i j d lt below = h (suc i) (suc j) d (omega arith) (omega
 
 AllPairs-nil : {X : Type 0} (R : X → X → Type 0) → AllPairs R []
 AllPairs-nil R i j d lt below = absurd (omega arith)
-
-pub All-member : {X : Type 0} (P : X → Type 0) (xs : List X) (y : X) → All P xs → Contains xs y → P y
-All-member P xs y all c = rw c.2 at (all c.0 y c.1)
 
 -- Two rising lists with the same members are equal, whatever the order is, as long as of two members only one comes before the other.
 
@@ -59,17 +52,17 @@ rising-unique {X} R apart (x ∷ xs) (y ∷ ys) up on to from =
     heads : ((y ≡ x) ⊎ Contains ys x) → ((x ≡ y) ⊎ Contains xs y) → x ≡ y
     heads (inl e) c = sym e
     heads (inr b) (inl e) = e
-    heads (inr b) (inr c) = absurd (apart x y (All-member (R x) xs y (AllPairs-head R x xs up) c) (All-member (R y) ys x (AllPairs-head R y ys on) b))
+    heads (inr b) (inr c) = absurd (apart x y (All-contains (R x) xs y (AllPairs-head R x xs up) c) (All-contains (R y) ys x (AllPairs-head R y ys on) b))
 
     to_rest : x ≡ y → (z : X) → Contains xs z → Contains ys z
     to_rest same z c = elim (Contains-split y z ys (to z (Contains-there x z xs c))) [
-      | inl e ↦ (let before = All-member (R x) xs z (AllPairs-head R x xs up) c in let itself : R z z = rw (same ∙ e) at before in absurd (apart z z itself itself))
+      | inl e ↦ (let before = All-contains (R x) xs z (AllPairs-head R x xs up) c in let itself : R z z = rw (same ∙ e) at before in absurd (apart z z itself itself))
       | inr b ↦ b
     ]
 
     from_rest : x ≡ y → (z : X) → Contains ys z → Contains xs z
     from_rest same z c = elim (Contains-split x z xs (from z (Contains-there y z ys c))) [
-      | inl e ↦ (let before = All-member (R y) ys z (AllPairs-head R y ys on) c in let itself : R z z = rw (sym same ∙ e) at before in absurd (apart z z itself itself))
+      | inl e ↦ (let before = All-contains (R y) ys z (AllPairs-head R y ys on) c in let itself : R z z = rw (sym same ∙ e) at before in absurd (apart z z itself itself))
       | inr b ↦ b
     ]
 
@@ -142,7 +135,7 @@ All-ascending P [] all = all
 All-ascending P (x ∷ xs) all = All-put P x (ascending xs) (All-head P x xs all) (All-ascending P xs (All-tail P x xs all))
 
 pub ascending-only : (y : ℤ) (xs : List ℤ) → Contains (ascending xs) y → Contains xs y
-ascending-only y xs c = All-member (Contains xs) (ascending xs) y (All-ascending (Contains xs) xs (All-contains_itself xs)) c
+ascending-only y xs c = All-contains (Contains xs) (ascending xs) y (All-ascending (Contains xs) xs (All-contains_itself xs)) c
 
 -- `in_order`.
 
@@ -229,7 +222,7 @@ in_order-has y (x ∷ xs) c = elim (Contains-split x y xs c) [
 ]
 
 pub in_order-only : (y : Row) (xs : List Row) → Contains (in_order xs) y → Contains xs y
-in_order-only y xs c = All-member (Contains xs) (in_order xs) y (All-in_order (Contains xs) xs (All-contains_itself xs)) c
+in_order-only y xs c = All-contains (Contains xs) (in_order xs) y (All-in_order (Contains xs) xs (All-contains_itself xs)) c
 
 -- a list of rows in order is `in_order` of any list with its members, in which no key stands twice
 pub in_order-is : (xs ys : List Row) → AllPairs IsBefore xs → AllPairs HasOtherKey ys → ((z : Row) → Contains xs z → Contains ys z) → ((z : Row) → Contains ys z → Contains xs z) → xs ≡ in_order ys

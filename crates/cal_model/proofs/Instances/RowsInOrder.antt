@@ -5,6 +5,7 @@ use Rattle.std.proofs.lemmas.Int.{ints, by_lt_z}
 use Rattle.std.proofs.lemmas.Bool.{cases_Bool, ltb-true, ltb-false}
 use Rattle.std.proofs.lemmas.List.{append-nil}
 use Rattle.std.proofs.lemmas.List.Elements.{All-head, All-tail, All-nil, All-cons, All-append, All-map, All-filter, All-weaker, filter-append}
+use Rattle.std.proofs.lemmas.List.Kept.{AllPairs-cons, AllPairs-filter}
 use Rattle.cal_moment.specs.declared.stamp.Stamp.{Stamp}
 use Rattle.cal_model.specs.declared.object.Component.{Component}
 use Rattle.cal_model.specs.declared.object.Object.{Object}
@@ -12,9 +13,10 @@ use Rattle.cal_model.specs.declared.row.Row.{Row}
 use Rattle.cal_model.specs.Instances.Alignment.{align, value_of, kind_of}
 use Rattle.cal_model.specs.Instances.Starts.{own_start, recurs, is_excepted, plain_starts, period_starts, ascending, starts_from, starts_of, end_from, end_of_instance}
 use Rattle.cal_model.specs.Instances.Rows.{Numbered, numbered_from, numbered, has_id, overrides, masters, ids_start, named_by, is_named, id_of_override, row_of, undated_row, undated_rows, is_dated, starts, master_row, row_at, override_row, override_row_from, merged, dated_rows, in_order, lies_in_window, rows_in_over}
-use Rattle.cal_model.proofs.Instances.Everywhere.{All-everywhere, All-flat_map, All-numbered_from}
-use Rattle.cal_model.proofs.Instances.RisingLists.{IsBelow, IsBefore, by_id, by_component, HasOtherKey, AllPairs-cons, AllPairs-head, AllPairs-tail, in_order-rising, in_order-has, in_order-only, in_order-is, ascending-rising}
-use Rattle.cal_model.proofs.Ranges.WindowLaws.{Contains-filter, Contains-unfilter, AllPairs-filter, AllPairs-append, HasRowsInOrder}
+use Rattle.cal_model.proofs.Words.AllLemmas.{All-everywhere, All-flat_map}
+use Rattle.cal_model.proofs.Instances.EachRowLemmas.{All-numbered_from}
+use Rattle.cal_model.proofs.Instances.RisingLists.{IsBelow, IsBefore, by_id, by_component, HasOtherKey, AllPairs-head, AllPairs-tail, in_order-rising, in_order-has, in_order-only, in_order-is, ascending-rising}
+use Rattle.cal_model.proofs.Ranges.WindowLaws.{Contains-filter, Contains-unfilter, AllPairs-append, HasRowsInOrder}
 
 -- Lists.
 
@@ -63,9 +65,10 @@ numbered-rising k (c ∷ cs) =
     AllPairs-cons ComesFirst (record { number = k; component = c }) (numbered_from (k + 1) cs)
     (All-numbered_from (λ m. k < m.number) (k + 1) cs (λ i j d e found. omega (arith, e))) (numbered-rising (k + 1) cs)
 
-record StandsAt (object : Object) (is_override : Bool) (n : Numbered) : Type 0 where
-  found : slice_get object.components n.number ≡ Some n.component
-  override : has_id n ≡ is_override
+-- a component stands at its number, and is an override or none
+pub record StandsAt (object : Object) (is_override : Bool) (n : Numbered) : Type 0 where
+  pub found : slice_get object.components n.number ≡ Some n.component
+  pub override : has_id n ≡ is_override
 
 all_found : (object : Object) → All (λ (n : Numbered). slice_get object.components n.number ≡ Some n.component) (numbered object)
 all_found object = All-numbered_from (λ (n : Numbered). slice_get object.components n.number ≡ Some n.component) 0 object.components (λ i j c e found. let here : j ≡ i = omega (arith, e) in rw here found)
@@ -81,10 +84,12 @@ not_true : (b : Bool) → not b ≡ true → b ≡ false
 not_true true h = absurd cc
 not_true false h = refl
 
-overrides_stand : (object : Object) → All (StandsAt object true) (overrides object)
+-- and each override
+pub overrides_stand : (object : Object) → All (StandsAt object true) (overrides object)
 overrides_stand object = standing object has_id true (λ n w. w) (numbered object) (all_found object)
 
-masters_stand : (object : Object) → All (StandsAt object false) (masters object)
+-- each master stands at its number
+pub masters_stand : (object : Object) → All (StandsAt object false) (masters object)
 masters_stand object = standing object (λ n. not (has_id n)) false (λ n w. not_true (has_id n) w) (numbered object) (all_found object)
 
 different_numbers : (object : Object) (n m : Numbered) → StandsAt object true n → StandsAt object false m → n.number ≡ m.number → ⊥
@@ -190,6 +195,31 @@ instance_component moments object ids n stands all =
         All-map (λ (b : Row). b.component ≡ n.number → ⊥) (λ s. row_of r r (end_of_instance moments object.zones s m.component r) m.number (kind_of ids) (kind_of s)) (option_to_list (own_start m.component))
         (All-everywhere (λ s. m.number ≡ n.number → ⊥) (λ s e. different_numbers object n m stands there (sym e)) (option_to_list (own_start m.component)))
 
+-- the overrides' rows and the instances at any rising list of starts that none of them names
+pub parts_apart : (moments : List ℕ) (object : Object) (ids : Stamp) (all : List ℤ) → length (masters object) ≤ 1 → AllPairs IsBelow all →
+    AllPairs HasOtherKey (flat_map (override_row object ids all) (overrides object) ++ filter (λ (r : Row). not (is_named object ids r.id)) (flat_map (row_at moments object ids all) all))
+parts_apart moments object ids all one up =
+    AllPairs-append HasOtherKey (flat_map (override_row object ids all) (overrides object)) (filter (λ (r : Row). not (is_named object ids r.id)) (flat_map (rows_of_masters moments object ids (masters object)) all))
+    (overrides_apart object ids all)
+    (AllPairs-filter HasOtherKey (λ (r : Row). not (is_named object ids r.id)) (flat_map (rows_of_masters moments object ids (masters object)) all)
+    (instances_apart moments object ids all one up))
+    (All-flat_map (λ a. All (HasOtherKey a) (filter (λ (r : Row). not (is_named object ids r.id)) (flat_map (rows_of_masters moments object ids (masters object)) all))) (override_row object ids all) (overrides object)
+    (All-weaker (StandsAt object true) (λ n. All (λ a. All (HasOtherKey a) (filter (λ (r : Row). not (is_named object ids r.id)) (flat_map (rows_of_masters moments object ids (masters object)) all))) (override_row object ids all n)) across (overrides object) (overrides_stand object)))
+  where
+    across : (n : Numbered) → StandsAt object true n → All (λ a. All (HasOtherKey a) (filter (λ (r : Row). not (is_named object ids r.id)) (flat_map (rows_of_masters moments object ids (masters object)) all))) (override_row object ids all n)
+    across n stands =
+        All-weaker (λ (a : Row). a.component ≡ n.number) (λ a. All (HasOtherKey a) (filter (λ (r : Row). not (is_named object ids r.id)) (flat_map (rows_of_masters moments object ids (masters object)) all)))
+        (λ a e. All-weaker (λ (b : Row). b.component ≡ n.number → ⊥) (HasOtherKey a) (λ b other. other_by_component a b (λ same. other (sym same ∙ e)))
+        (filter (λ (r : Row). not (is_named object ids r.id)) (flat_map (rows_of_masters moments object ids (masters object)) all))
+        (All-filter (λ (r : Row). not (is_named object ids r.id)) (λ (b : Row). b.component ≡ n.number → ⊥) (flat_map (rows_of_masters moments object ids (masters object)) all) (instance_component moments object ids n stands all)))
+        (override_row object ids all n) (override_component object ids all n)
+
+-- the same of those that lie in a window: what is put in order there
+pub window_apart : (moments : List ℕ) (object : Object) (ids : Stamp) (all : List ℤ) (test : Row → Bool) → length (masters object) ≤ 1 → AllPairs IsBelow all →
+    AllPairs HasOtherKey (filter test (flat_map (override_row object ids all) (overrides object)) ++ filter test (filter (λ (r : Row). not (is_named object ids r.id)) (flat_map (row_at moments object ids all) all)))
+window_apart moments object ids all test one up =
+    rw filter-append at (AllPairs-filter HasOtherKey test (flat_map (override_row object ids all) (overrides object) ++ filter (λ (r : Row). not (is_named object ids r.id)) (flat_map (row_at moments object ids all) all)) (parts_apart moments object ids all one up))
+
 -- the rows of the overrides, and the instances that none of them names
 abbrev pub own_rows : List ℕ → Object → Stamp → List Row
 own_rows moments object ids = flat_map (override_row object ids (starts moments object)) (overrides object)
@@ -197,25 +227,15 @@ own_rows moments object ids = flat_map (override_row object ids (starts moments 
 abbrev pub kept_instances : List ℕ → Object → Stamp → List Row
 kept_instances moments object ids = filter (λ (r : Row). not (is_named object ids r.id)) (flat_map (row_at moments object ids (starts moments object)) (starts moments object))
 
-parts_apart : (moments : List ℕ) (object : Object) (ids : Stamp) → length (masters object) ≤ 1 → AllPairs HasOtherKey (own_rows moments object ids ++ kept_instances moments object ids)
-parts_apart moments object ids one =
-    AllPairs-append HasOtherKey (flat_map (override_row object ids (starts moments object)) (overrides object)) (filter (λ (r : Row). not (is_named object ids r.id)) (flat_map (rows_of_masters moments object ids (masters object)) (starts moments object)))
-    (overrides_apart object ids (starts moments object))
-    (AllPairs-filter HasOtherKey (λ (r : Row). not (is_named object ids r.id)) (flat_map (rows_of_masters moments object ids (masters object)) (starts moments object))
-    (instances_apart moments object ids (starts moments object) one (all_starts_rise moments object (masters object) one)))
-    (All-flat_map (λ a. All (HasOtherKey a) (filter (λ (r : Row). not (is_named object ids r.id)) (flat_map (rows_of_masters moments object ids (masters object)) (starts moments object)))) (override_row object ids (starts moments object)) (overrides object)
-    (All-weaker (StandsAt object true) (λ n. All (λ a. All (HasOtherKey a) (filter (λ (r : Row). not (is_named object ids r.id)) (flat_map (rows_of_masters moments object ids (masters object)) (starts moments object)))) (override_row object ids (starts moments object) n)) across (overrides object) (overrides_stand object)))
-  where
-    across : (n : Numbered) → StandsAt object true n → All (λ a. All (HasOtherKey a) (filter (λ (r : Row). not (is_named object ids r.id)) (flat_map (rows_of_masters moments object ids (masters object)) (starts moments object)))) (override_row object ids (starts moments object) n)
-    across n stands =
-        All-weaker (λ (a : Row). a.component ≡ n.number) (λ a. All (HasOtherKey a) (filter (λ (r : Row). not (is_named object ids r.id)) (flat_map (rows_of_masters moments object ids (masters object)) (starts moments object))))
-        (λ a e. All-weaker (λ (b : Row). b.component ≡ n.number → ⊥) (HasOtherKey a) (λ b no. other_by_component a b (λ same. no (sym same ∙ e)))
-        (filter (λ (r : Row). not (is_named object ids r.id)) (flat_map (rows_of_masters moments object ids (masters object)) (starts moments object)))
-        (All-filter (λ (r : Row). not (is_named object ids r.id)) (λ (b : Row). b.component ≡ n.number → ⊥) (flat_map (rows_of_masters moments object ids (masters object)) (starts moments object)) (instance_component moments object ids n stands (starts moments object))))
-        (override_row object ids (starts moments object) n) (override_component object ids (starts moments object) n)
+-- all starts of an object rise
+pub starts-rising : (moments : List ℕ) (object : Object) → length (masters object) ≤ 1 → AllPairs IsBelow (starts moments object)
+starts-rising moments object one = all_starts_rise moments object (masters object) one
+
+own_and_kept_apart : (moments : List ℕ) (object : Object) (ids : Stamp) → length (masters object) ≤ 1 → AllPairs HasOtherKey (own_rows moments object ids ++ kept_instances moments object ids)
+own_and_kept_apart moments object ids one = parts_apart moments object ids (starts moments object) one (starts-rising moments object one)
 
 dated_rows-rising : (moments : List ℕ) (object : Object) (ids : Stamp) → length (masters object) ≤ 1 → AllPairs IsBefore (dated_rows (row_at moments object) moments object ids)
-dated_rows-rising moments object ids one = in_order-rising (own_rows moments object ids ++ kept_instances moments object ids) (parts_apart moments object ids one)
+dated_rows-rising moments object ids one = in_order-rising (own_rows moments object ids ++ kept_instances moments object ids) (own_and_kept_apart moments object ids one)
 
 all_rising : (moments : List ℕ) (object : Object) (ids : Option Stamp) → length (masters object) ≤ 1 → AllPairs IsBefore (flat_map (dated_rows (row_at moments object) moments object) (option_to_list ids))
 all_rising moments object None one = λ i j d lt below. absurd (omega (arith, below))
@@ -229,7 +249,8 @@ rows-in_order moments object one =
 
 -- The ids of the instances are the starts, so a merge needs the instances alone.
 
-ids_of_master : (moments : List ℕ) (object : Object) (ids : Stamp) (n : Numbered) (own : Option Stamp) → (all : List ℤ) → (own ≡ None → all ≡ []) →
+-- the ids of a master's rows at some starts are these starts
+pub ids_of_master : (moments : List ℕ) (object : Object) (ids : Stamp) (n : Numbered) (own : Option Stamp) → (all : List ℤ) → (own ≡ None → all ≡ []) →
     map (λ (r : Row). r.id) (flat_map (λ q. map (λ s. row_of q q (end_of_instance moments object.zones s n.component q) n.number (kind_of ids) (kind_of s)) (option_to_list own) ++ []) all) ≡ all
 ids_of_master moments object ids n None all none = let e = none refl in rw e refl
 ids_of_master moments object ids n (Some s) [] none = refl
@@ -270,5 +291,5 @@ none_lies object window =
 pub rows_in-parts : (moments : List ℕ) (object : Object) (ids : Stamp) (window : ℤ) → ids_start object ≡ Some ids → length (masters object) ≤ 1 →
     rows_in_over moments object window ≡ in_order (filter (lies_in_window object window) (own_rows moments object ids) ++ filter (lies_in_window object window) (kept_instances moments object ids))
 rows_in-parts moments object ids window e one =
-    rw (filter-append, none_lies object window, e, append-nil (dated_rows (row_at moments object) moments object ids), filter-in_order (lies_in_window object window) (own_rows moments object ids ++ kept_instances moments object ids) (parts_apart moments object ids one))
+    rw (filter-append, none_lies object window, e, append-nil (dated_rows (row_at moments object) moments object ids), filter-in_order (lies_in_window object window) (own_rows moments object ids ++ kept_instances moments object ids) (own_and_kept_apart moments object ids one))
     (ap in_order (filter-append (lies_in_window object window) (own_rows moments object ids) (kept_instances moments object ids)))

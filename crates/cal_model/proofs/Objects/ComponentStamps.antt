@@ -18,12 +18,12 @@ use Rattle.cal_model.specs.declared.object.Extent.{Extent}
 use Rattle.cal_model.specs.declared.object.Extent.TheVariants as extent
 use Rattle.cal_model.specs.declared.object.Kind.{Kind}
 use Rattle.cal_model.specs.declared.object.Kind.TheVariants.{Event, Todo, Journal, FreeBusy}
-use Rattle.cal_model.specs.Values.StampTexts.{is_known, is_named as is_one_of}
+use Rattle.cal_model.specs.Values.StampTexts.{is_known, is_one_of}
 use Rattle.cal_model.specs.Objects.LineValues.{stamps_in, periods_in, stamps_at, periods_at, stamp_at, value_at}
 use Rattle.cal_model.specs.Values.ValueTexts.{length_of}
-use Rattle.cal_model.specs.Objects.ComponentLines.{has_name, all_of, kind_of, lines_of}
+use Rattle.cal_model.specs.Objects.ComponentLines.{has_name, all_of, component_kind, lines_of}
 use Rattle.cal_model.specs.Objects.ComponentReading.{class_of, stored_busy_of, end_by_start, extent_without_end, extent_of, component_of}
-use Rattle.cal_model.specs.Objects.ReadObjects.{stamps_of_extent, stamps_of}
+use Rattle.cal_model.specs.Objects.ObjectFacts.{stamps_of_extent, component_stamps}
 use Rattle.cal_model.proofs.Words.EachLemmas.{each_of_any, each-weaker, each-both, each-filter, each_passes, each-map, each-append, each_of_append, each-flat_map, each_of_flat_map}
 use Rattle.cal_model.specs.Objects.ObjectFaults.{Child, component_of_child, dated_names, dated_stamps, stamps_of_period, lacks_zone}
 
@@ -32,17 +32,17 @@ use Rattle.cal_model.specs.Objects.ObjectFaults.{Child, component_of_child, date
 -- a component is made of a child of its kind
 pub record IsMade (zones : List (List ℕ)) (child : Child) (component : Component) : Type 0 where
   pub kind : Kind
-  pub of_kind : kind_of child.tree ≡ Some kind
+  pub of_kind : component_kind child.tree ≡ Some kind
   pub is : component ≡ component_of zones child.number kind child.tree
 
-pub made_step : (zones : List (List ℕ)) (child : Child) (component : Component) (kind : Option Kind) → kind_of child.tree ≡ kind →
+pub made_step : (zones : List (List ℕ)) (child : Child) (component : Component) (kind : Option Kind) → component_kind child.tree ≡ kind →
     option_map (λ k. component_of zones child.number k child.tree) kind ≡ Some component → IsMade zones child component
 made_step zones child component None of_kind made = absurd (none-some component made)
 made_step zones child component (Some kind) of_kind made =
     record { kind = kind; of_kind = of_kind; is = sym (ap (λ o. unwrap_or o (component_of zones child.number kind child.tree)) made) }
 
 pub is_made : (zones : List (List ℕ)) (child : Child) (component : Component) → component_of_child zones child ≡ Some component → IsMade zones child component
-is_made zones child component made = made_step zones child component (kind_of child.tree) refl made
+is_made zones child component made = made_step zones child component (component_kind child.tree) refl made
 
 -- Stamps with zones that are there
 
@@ -168,7 +168,7 @@ each_extent P zones FreeBusy lines known =
 
 -- what holds of the dates of its lines holds of all stamps of a component
 pub each_stamp : (P : Stamp → Type 0) (zones : List (List ℕ)) (number : ℕ) (kind : Kind) (node : Node) → Each (λ line. Each P (dated_stamps zones line)) (lines_of node) →
-    Each P (stamps_of (component_of zones number kind node))
+    Each P (component_stamps (component_of zones number kind node))
 each_stamp P zones number kind node known =
     let lines = lines_of node in
     let made = component_of zones number kind node in

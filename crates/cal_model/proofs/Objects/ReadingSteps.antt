@@ -27,6 +27,10 @@ pub after_lines : {X : Type 0} (fault : Option ℕ) (read : Result X Unread) (x 
 after_lines (Some place) read x good = absurd (false≢true (ap is_ok good))
 after_lines None read x good = good
 
+pub lines_none : {X : Type 0} (fault : Option ℕ) (read : Result X Unread) (x : X) → unless_line fault read ≡ Ok x → fault ≡ None
+lines_none (Some place) read x good = absurd (false≢true (ap is_ok good))
+lines_none None read x good = refl
+
 abbrev pub unless_nested : {X : Type 0} → List Placed → Option NestingFault → Result X Unread → Result X Unread
 unless_nested placed fault read = elim fault [ Some f ↦ Err (not_calendar (place_at placed (line_of_fault f))) | None ↦ read ]
 

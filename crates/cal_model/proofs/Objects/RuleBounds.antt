@@ -1,5 +1,5 @@
 -- The values of a rule that was read lie in their bounds.
-use Rattle.std.proofs.Common.{◌≡◌, ℕ, suc, ◌<◌, ◌⊎◌, List, [], ◌∷◌, map, length, refl, ap, sym, arith, Bool, true, false, inl, inr, ℤ, pos, negsuc, subst, min}
+use Rattle.std.proofs.Common.{◌≡◌, ℕ, suc, ◌<◌, ◌⊎◌, List, [], ◌∷◌, map, length, refl, ap, sym, arith, Bool, true, false, inl, inr, ℤ, pos, neg_ℤ, negsuc, subst, min}
 use Rattle.std.specs.Prelude.{Option, Some, None, All, IfSome, option_map, option_and_then, unwrap_or, find, if◌then◌else◌, ◌&&◌, ◌==◌, nat_le, nat_eq, codes, bytes_eq, take, drop, ◌-◌}
 use Rattle.std.specs.Int.{IsInRange}
 use Rattle.std.specs.List.{AllByRecursion as Each, starts_with}
@@ -9,14 +9,20 @@ use Rattle.std.proofs.lemmas.Option.{none-some, cond_some}
 use Rattle.cal_base.specs.Lines.ContentLines.{every, pieces}
 use Rattle.cal_base.specs.Texts.Octets.{comma}
 use Rattle.cal_base.specs.Texts.Text.{raised_all}
+use Rattle.cal_base.specs.Lines.ComponentTrees.{or_else}
+use Rattle.cal_moment.specs.Calendar.{IsBetween}
+use Rattle.cal_moment.specs.declared.stamp.Day.{Day}
+use Rattle.cal_moment.specs.declared.stamp.Local.{Local}
 use Rattle.cal_model.specs.declared.rule.DayPart.{DayPart}
 use Rattle.cal_model.specs.declared.rule.Freq.{Freq}
 use Rattle.cal_model.specs.declared.rule.Rule.{Rule}
 use Rattle.cal_model.specs.declared.rule.Until.{Until}
-use Rattle.cal_model.specs.Recurrence.NextPassing.{IsPlace, IsDayPart, IsUsable}
-use Rattle.cal_model.specs.Values.ValueTexts.{integer_of}
-use Rattle.cal_model.specs.Values.RuleTexts.{Part, weekdays, weekday_named, if_between, number_of, if_place, place_number, second_number, ordinal_of, day_part, day_of, until_of, freq_of, list_of, has_name, meanings, with_part, with_parts, every_time, if_allowed, is_allowed, rule_of_freq, rule_of_parts, rule_parts, freq_in, is_each_once, rule_in_grammar, if_within_bound, is_within_bound, rule_of}
+use Rattle.cal_model.specs.declared.rule.Until.TheVariants.{Day as UntilDay}
+use Rattle.cal_model.specs.Recurrence.NextPassing.{IsPlace, IsDayPart, IsWritten, IsWrittenUntil, IsUsable}
+use Rattle.cal_model.specs.Values.ValueTexts.{integer_of, date_of, date_time_of}
+use Rattle.cal_model.specs.Values.RuleTexts.{Part, weekdays, weekday_named, if_between, number_of, if_place, place_number, second_number, ordinal_of, day_part, day_of, until_of, until_time, freq_of, list_of, is_part_named, meanings, with_part, with_parts, every_time, if_allowed, is_allowed, rule_of_freq, rule_of_parts, rule_parts, freq_in, is_each_once, rule_in_grammar, if_within_bound, is_within_bound, rule_of}
 use Rattle.cal_model.proofs.Words.EachLemmas.{both_hold}
+use Rattle.cal_model.proofs.Objects.WrittenDates.{date_read, date_time_read, moment_of_digits}
 
 -- Values that may be absent
 
@@ -110,6 +116,21 @@ day_read text part is =
     let back = drop (length text - 2) text in
     day_case (ordinal_of front) (weekday_named back) part is (ordinal_case (length front == 0) front) (weekday_read back)
 
+-- UNTIL
+until_case : (time : Local × Bool) → IsWritten time.0 → IsWrittenUntil (Some (until_time time))
+until_case (local, true) written = moment_of_digits local.day local.second written.from_first written.to_last written.second_below
+until_case (local, false) written = written
+
+until_from : (date : Option Day) (time : Option (Local × Bool)) (until : Until) → or_else (option_map UntilDay date) (option_map until_time time) ≡ Some until →
+    ((day : Day) → date ≡ Some day → IsBetween (neg_ℤ (pos 719_162)) (pos 2_932_896) day.0) → ((value : Local × Bool) → time ≡ Some value → IsWritten value.0) → IsWrittenUntil (Some until)
+until_from (Some day) time until is dates times = subst (λ u. IsWrittenUntil (Some u)) (ap (λ o. unwrap_or o until) is) (dates day refl)
+until_from None time until is dates times =
+    let found = map_value until_time time until is in
+    subst (λ u. IsWrittenUntil (Some u)) (sym found.2) (until_case found.0 (times found.0 found.1))
+
+until_read : (text : List ℕ) (until : Until) → until_of text ≡ Some until → IsWrittenUntil (Some until)
+until_read text until is = until_from (date_of text) (date_time_of text) until is (date_read text) (date_time_read text)
+
 -- Each part leaves the others as they are
 
 abbrev Keeps : (List ℕ → Rule → Option Rule) → Type 0
@@ -121,8 +142,8 @@ with_interval rule n usable fact = assumption fact
 with_count : (rule : Rule) (n : ℕ) → IsUsable rule → IfSome (Some n) (λ count. 0 < count) → IsUsable (record rule { count = Some n })
 with_count rule n usable fact = assumption fact
 
-with_until : (rule : Rule) (until : Until) → IsUsable rule → IsUsable (record rule { until = Some until })
-with_until rule until usable = assumption
+with_until : (rule : Rule) (until : Until) → IsUsable rule → IsWrittenUntil (Some until) → IsUsable (record rule { until = Some until })
+with_until rule until usable fact = assumption fact
 
 with_week_start : (rule : Rule) (n : ℕ) → IsUsable rule → n < 7 → IsUsable (record rule { week_start = n })
 with_week_start rule n usable fact = assumption fact
@@ -169,7 +190,7 @@ each_keeps = (
     (
       keeps_all (λ n. 0 < n) (number_of 1 999999999) (λ n rule. record rule { count = Some n }) (λ text n is. (number_read 1 999999999 text n is).0) with_count,
       (
-        keeps_all (λ until. Unit {0}) until_of (λ until rule. record rule { until = Some until }) (λ text x is. tt) (λ rule x usable fact. with_until rule x usable),
+        keeps_all (λ until. IsWrittenUntil (Some until)) until_of (λ until rule. record rule { until = Some until }) until_read with_until,
         (
           keeps_all (λ n. n < 7) weekday_named (λ n rule. record rule { week_start = n }) weekday_read with_week_start,
           (
@@ -224,8 +245,8 @@ part_usable part rule new (Some r) usable is keeps = keeps r refl part.1 rule ne
 
 with_part_usable : (part : Part) (rule new : Rule) → IsUsable rule → with_part part rule ≡ Some new → IsUsable new
 with_part_usable part rule new usable is =
-    part_usable part rule new (find (λ (row : List ℕ × (List ℕ → Rule → Option Rule)). has_name row.0 part) meanings) usable is
-    (each_found (λ (row : List ℕ × (List ℕ → Rule → Option Rule)). Keeps row.1) (λ (row : List ℕ × (List ℕ → Rule → Option Rule)). has_name row.0 part) meanings each_keeps)
+    part_usable part rule new (find (λ (row : List ℕ × (List ℕ → Rule → Option Rule)). is_part_named row.0 part) meanings) usable is
+    (each_found (λ (row : List ℕ × (List ℕ → Rule → Option Rule)). Keeps row.1) (λ (row : List ℕ × (List ℕ → Rule → Option Rule)). is_part_named row.0 part) meanings each_keeps)
 
 with_parts_usable : (parts : List Part) (rule new : Rule) → IsUsable rule → with_parts parts rule ≡ Some new → IsUsable new
 with_parts_usable [] rule new usable is = subst IsUsable (ap (λ found. unwrap_or found new) is) usable
@@ -237,6 +258,7 @@ every_time_usable : (freq : Freq) → IsUsable (every_time freq)
 every_time_usable freq = record {
   interval_positive = omega arith;
   count_positive = tt;
+  until = tt;
   week_start_below = omega arith;
   months = All-from_recursion (IsInRange 1 12) [] tt;
   weeks = All-from_recursion (IsPlace 53) [] tt;

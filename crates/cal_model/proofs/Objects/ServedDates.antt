@@ -11,8 +11,8 @@ use Rattle.cal_base.specs.Lines.ComponentTrees.{or_else, innermost, depth, name_
 use Rattle.cal_base.specs.declared.line.Line.{Line}
 use Rattle.cal_moment.specs.declared.stamp.Stamp.{Stamp}
 use Rattle.cal_model.specs.declared.object.Kind.{Kind}
-use Rattle.cal_model.specs.Objects.ComponentLines.{name_of, children_of, kind_named, kind_of, lines_of}
-use Rattle.cal_model.specs.Objects.ReadObjects.{IsServed}
+use Rattle.cal_model.specs.Objects.ComponentLines.{name_of, children_of, kind_named, component_kind, lines_of}
+use Rattle.cal_model.specs.Objects.ObjectFacts.{IsServed}
 use Rattle.cal_model.specs.Instances.Alignment.{written_value}
 use Rattle.cal_model.specs.Words.Limits.{first_date, last_date}
 use Rattle.cal_model.proofs.Objects.PlacedComponents.{LineIn, NodeAt, OuterAt}
@@ -73,7 +73,7 @@ line_served zones lines begin name kind line none deep named of_kind at =
 
 -- all dates of a child of the four kinds
 pub child_served : (zones : List (List ℕ)) (lines : List Line) (tree : Node) (child : Child) (kind : Kind) → stamp_outside zones lines ≡ None → OuterAt lines tree →
-    IsChildOf (children_of tree) child → kind_of child.tree ≡ Some kind → Each (λ line. Each IsServed (dated_stamps zones line)) (lines_of child.tree)
+    IsChildOf (children_of tree) child → component_kind child.tree ≡ Some kind → Each (λ line. Each IsServed (dated_stamps zones line)) (lines_of child.tree)
 child_served zones lines tree child kind none outer is_child of_kind =
     let at = each_at (λ node. (b : ℕ) × (depth lines b ≡ suc (depth lines outer.0)) × (innermost lines b ≡ Some outer.0) × NodeAt 1 lines b node) (children_of tree) child.number child.tree (outer.2 2).2 is_child in
     each-weaker (λ line place. line_served zones lines at.0 (name_of child.tree) kind line none (at.1 ∙ ap suc outer.1) at.3.0 of_kind place) (lines_of child.tree) at.3.1

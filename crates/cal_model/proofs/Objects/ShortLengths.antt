@@ -25,8 +25,8 @@ use Rattle.cal_model.specs.Values.ValueTexts.{length_of}
 use Rattle.cal_model.proofs.Objects.RuleBounds.{map_value, and_then_value, each_found}
 use Rattle.cal_model.specs.Objects.ComponentLines.{one_of, has_name, all_of, children_of, lines_of}
 use Rattle.cal_model.specs.Objects.ComponentReading.{class_of, stored_busy_of, end_by_start, extent_without_end, extent_of}
-use Rattle.cal_model.specs.Objects.ReadObjects.{IsShort, HasShortEnd, lengths_of_extent}
-use Rattle.cal_model.proofs.Objects.LineTests.{IsTested, test_holds, line_short}
+use Rattle.cal_model.specs.Objects.ObjectFacts.{IsShort, HasShortEnd, lengths_of_extent}
+use Rattle.cal_model.proofs.Objects.TestedLines.{IsTested, test_holds, line_short}
 use Rattle.cal_model.proofs.Objects.PlacedComponents.{NodeAt, OuterAt}
 use Rattle.cal_model.proofs.Words.EachLemmas.{none_of_map, each_of_find, each-weaker, each-both, each-filter, each_passes, each-map, each-flat_map}
 use Rattle.cal_model.specs.Objects.ObjectFaults.{Child}
@@ -90,31 +90,34 @@ end_by_start-lengths FreeBusy (Some (Floating local)) = refl
 end_by_start-lengths FreeBusy (Some (Zoned local number)) = refl
 end_by_start-lengths FreeBusy (Some (Utc moment)) = refl
 
-pub lasting_short : (kind : Kind) (start : Option Stamp) (length : Option Length) → ((l : Length) → length ≡ Some l → IsShort l) → Each IsShort (lengths_of_extent (extent_without_end kind start length))
-lasting_short kind start (Some length) short = (short length refl, tt)
-lasting_short kind start None short = rw (end_by_start-lengths kind start) tt
+-- what holds of the length that a DURATION says holds of the lengths of an extent
+lasting_lengths : (P : Length → Type 0) (kind : Kind) (start : Option Stamp) (length : Option Length) → ((l : Length) → length ≡ Some l → P l) → Each P (lengths_of_extent (extent_without_end kind start length))
+lasting_lengths P kind start (Some length) each = (each length refl, tt)
+lasting_lengths P kind start None each = rw (end_by_start-lengths kind start) tt
 
-pub by_due : (due : Option Stamp) (other : Extent) → Each IsShort (lengths_of_extent other) → Each IsShort (lengths_of_extent (unwrap_or (option_map extent.Due due) other))
-by_due None other short = short
-by_due (Some due) other short = tt
+by_due : (P : Length → Type 0) (due : Option Stamp) (other : Extent) → Each P (lengths_of_extent other) → Each P (lengths_of_extent (unwrap_or (option_map extent.Due due) other))
+by_due P None other each = each
+by_due P (Some due) other each = tt
 
-pub by_end : (end : Option Stamp) (other : Extent) → Each IsShort (lengths_of_extent other) → Each IsShort (lengths_of_extent (unwrap_or (option_map extent.End end) other))
-by_end None other short = short
-by_end (Some end) other short = tt
+by_end : (P : Length → Type 0) (end : Option Stamp) (other : Extent) → Each P (lengths_of_extent other) → Each P (lengths_of_extent (unwrap_or (option_map extent.End end) other))
+by_end P None other each = each
+by_end P (Some end) other each = tt
 
-pub without_end_short : (zones : List (List ℕ)) (all lines : List Line) (kind : Kind) → Each (IsTested all) lines →
-    Each IsShort (lengths_of_extent (extent_without_end kind (stamp_at zones (codes "DTSTART") lines) (value_at length_of (codes "DURATION") lines)))
-without_end_short zones all lines kind tested =
-    lasting_short kind (stamp_at zones (codes "DTSTART") lines) (value_at length_of (codes "DURATION") lines) (λ length is. duration_short all lines length tested is)
-
-abbrev pub end_beside : List (List ℕ) → Kind → List Line → Extent
+abbrev end_beside : List (List ℕ) → Kind → List Line → Extent
 end_beside zones kind lines = extent_without_end kind (stamp_at zones (codes "DTSTART") lines) (value_at length_of (codes "DURATION") lines)
 
+pub extent_lengths : (P : Length → Type 0) (zones : List (List ℕ)) (kind : Kind) (lines : List Line) → ((length : Length) → value_at length_of (codes "DURATION") lines ≡ Some length → P length) →
+    Each P (lengths_of_extent (extent_of zones kind lines))
+extent_lengths P zones kind lines each = of_kind kind (lasting_lengths P kind (stamp_at zones (codes "DTSTART") lines) (value_at length_of (codes "DURATION") lines) each)
+  where
+    of_kind : (k : Kind) → Each P (lengths_of_extent (end_beside zones k lines)) → Each P (lengths_of_extent (extent_of zones k lines))
+    of_kind Todo = by_due P (stamp_at zones (codes "DUE") lines) (end_beside zones Todo lines)
+    of_kind Event = by_end P (stamp_at zones (codes "DTEND") lines) (end_beside zones Event lines)
+    of_kind Journal = by_end P (stamp_at zones (codes "DTEND") lines) (end_beside zones Journal lines)
+    of_kind FreeBusy = by_end P (stamp_at zones (codes "DTEND") lines) (end_beside zones FreeBusy lines)
+
 pub extent_short : (zones : List (List ℕ)) (all lines : List Line) (kind : Kind) → Each (IsTested all) lines → Each IsShort (lengths_of_extent (extent_of zones kind lines))
-extent_short zones all lines Todo tested = by_due (stamp_at zones (codes "DUE") lines) (end_beside zones Todo lines) (without_end_short zones all lines Todo tested)
-extent_short zones all lines Event tested = by_end (stamp_at zones (codes "DTEND") lines) (end_beside zones Event lines) (without_end_short zones all lines Event tested)
-extent_short zones all lines Journal tested = by_end (stamp_at zones (codes "DTEND") lines) (end_beside zones Journal lines) (without_end_short zones all lines Journal tested)
-extent_short zones all lines FreeBusy tested = by_end (stamp_at zones (codes "DTEND") lines) (end_beside zones FreeBusy lines) (without_end_short zones all lines FreeBusy tested)
+extent_short zones all lines kind tested = extent_lengths IsShort zones kind lines (λ length is. duration_short all lines length tested is)
 
 -- periods
 

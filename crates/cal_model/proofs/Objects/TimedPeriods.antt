@@ -15,11 +15,11 @@ use Rattle.cal_moment.specs.declared.stamp.Stamp.TheVariants.{Utc as AtUtc}
 use Rattle.cal_model.specs.Instances.Starts.{is_date}
 use Rattle.cal_model.specs.Ranges.Nearness.{end_is_date, IsTimed}
 use Rattle.cal_model.specs.Values.ValueTexts.{date_time_of, moment_of, length_of, is_negative, cut}
-use Rattle.cal_model.specs.Values.StampTexts.{stamp_of_time, time_stamp, utc_stamp, zone_of, utc_names, is_named as is_one_of, items_of, length_ahead, period_end, period_of_ends, period_with, period_of, periods_in_grammar}
+use Rattle.cal_model.specs.Values.StampTexts.{stamp_of_time, time_stamp, utc_stamp, line_zone, utc_names, is_one_of, items_of, length_ahead, written_period_end, period_of_ends, period_with, period_of, periods_in_grammar}
 use Rattle.cal_model.specs.Objects.LineValues.{is_of_periods, periods_in, periods_at}
 use Rattle.cal_model.specs.Objects.ComponentLines.{all_of}
 use Rattle.cal_model.proofs.Words.EachLemmas.{each-flat_map}
-use Rattle.cal_model.proofs.Objects.LineTests.{period_by}
+use Rattle.cal_model.proofs.Objects.TestedLines.{period_by}
 use Rattle.cal_model.proofs.Objects.RuleBounds.{map_value, each_read}
 use Rattle.cal_model.proofs.Objects.ShortLengths.{if_true}
 
@@ -61,13 +61,13 @@ ends_timed (Some start) (Some end) period first last is = subst IsTimed (ap (λ 
 parts_timed : (moment : List ℕ → Option Stamp) → IsTimedReading moment → (parts : Option (List ℕ × List ℕ)) (period : Period) → period_by moment parts ≡ Some period → IsTimed period
 parts_timed moment timed None period is = absurd (none-some period is)
 parts_timed moment timed (Some p) period is =
-    ends_timed (moment p.0) (period_end moment p.1) period (timed p.0)
+    ends_timed (moment p.0) (written_period_end moment p.1) period (timed p.0)
     (λ end found. end_timed (moment p.1) (length_ahead p.1) end (timed p.1) (λ e ahead. length_timed (is_negative p.1) (length_of p.1) e ahead) found) is
 
 period_timed : (zones : List (List ℕ)) (line : Line) (text : List ℕ) (period : Period) (utc : Bool) →
-    (if utc then period_with utc_stamp text else period_with (time_stamp (zone_of zones line)) text) ≡ Some period → IsTimed period
+    (if utc then period_with utc_stamp text else period_with (time_stamp (line_zone zones line)) text) ≡ Some period → IsTimed period
 period_timed zones line text period true is = parts_timed utc_stamp utc_stamp-timed (cut 47 text) period is
-period_timed zones line text period false is = parts_timed (time_stamp (zone_of zones line)) (time_stamp-timed (zone_of zones line)) (cut 47 text) period is
+period_timed zones line text period false is = parts_timed (time_stamp (line_zone zones line)) (time_stamp-timed (line_zone zones line)) (cut 47 text) period is
 
 -- Lines
 

@@ -23,13 +23,13 @@ use Rattle.cal_model.specs.TimeZones.TableBounds.{IsOffset, IsPart}
 use Rattle.cal_model.specs.Values.RuleTexts.{rule_of}
 use Rattle.cal_model.specs.Objects.ComponentLines.{all_of, one_of}
 use Rattle.cal_model.specs.Objects.LineValues.{is_of_periods, stamps_in, periods_in, stamps_at, stamp_at, value_at, rules_of}
-use Rattle.cal_model.specs.Objects.ZoneReading.{dates_of_line, part_dates, part_with, part_of_lines, has_fine_rule}
-use Rattle.cal_model.proofs.Objects.LineTests.{period_by}
-use Rattle.cal_model.specs.Values.StampTexts.{local_digits, stamp_of_time, time_stamp, utc_stamp, stamp_of, stamps_in_grammar, is_named as is_one_of, utc_names, is_date_text, zone_of, items_of, period_of_ends, period_end, period_with, period_of, periods_in_grammar}
+use Rattle.cal_model.specs.Objects.ZoneReading.{dates_of_line, part_dates, part_with, part_of_lines, is_fine_part}
+use Rattle.cal_model.proofs.Objects.TestedLines.{period_by}
+use Rattle.cal_model.specs.Values.StampTexts.{local_digits, stamp_of_time, time_stamp, utc_stamp, stamp_of, stamps_in_grammar, is_one_of, utc_names, is_date_text, line_zone, items_of, period_of_ends, written_period_end, period_with, period_of, periods_in_grammar}
+use Rattle.cal_model.proofs.Objects.WrittenDates.{date_read, date_time_read, moment_of_digits}
 use Rattle.cal_model.proofs.Objects.RuleBounds.{map_value, and_then_value, each_read, IsUsable-rule_of}
 use Rattle.cal_moment.specs.Texts.{digits, sign_text, signed, date_text, time_text, utc_text, local_of_seconds}
-use Rattle.cal_model.specs.Values.UtcTexts.{number_at}
-use Rattle.cal_model.specs.Values.ValueTexts.{is_date, is_time, date_of, time_of, date_time_of, local_time, utc_of_local, moment_of, cut, offset_of, is_negative, second_text}
+use Rattle.cal_model.specs.Values.ValueTexts.{number_at, is_calendar_date, is_clock_time, date_of, time_of, date_time_of, local_time, utc_of_local, moment_of, cut, offset_of, is_negative, second_text}
 use Rattle.cal_model.proofs.Words.EachLemmas.{both_hold, each_of_any, each-map, each-append, each-flat_map, each-filter_map}
 
 signed_within : (negative : Bool) (n : ℕ) → n ≤ 86_399 → IsBetween (neg_ℤ (pos 86_399)) (pos 86_399) (signed negative n)
@@ -55,58 +55,6 @@ offset_within text offset is =
 
 -- Stamps, as digits of the years 1 to 9999
 
-day_within : (y m d : ℕ) → is_date y m d ≡ true → (366 ≤ day_of_date y m d) × (day_of_date y m d ≤ 3_652_424)
-day_within y m d is =
-    let a = both_hold (nat_le 1 y && nat_le y 9999 && nat_le 1 m && nat_le m 12 && nat_le 1 d) (nat_le d (month_length y m)) is in
-    let b = both_hold (nat_le 1 y && nat_le y 9999 && nat_le 1 m && nat_le m 12) (nat_le 1 d) a.0 in
-    let c = both_hold (nat_le 1 y && nat_le y 9999 && nat_le 1 m) (nat_le m 12) b.0 in
-    let e = both_hold (nat_le 1 y && nat_le y 9999) (nat_le 1 m) c.0 in
-    let f = both_hold (nat_le 1 y) (nat_le y 9999) e.0 in
-    let low : first_of_year 1 ≤ first_of_year y = first_of_year-le 1 y (leb-true 1 y f.0) in
-    let high : first_of_year (y + 1) ≤ first_of_year 10000 = first_of_year-le (y + 1) 10000 (omega (arith, leb-true y 9999 f.1)) in
-    let below : day_of_date y m d < first_of_year (y + 1) = day_of_date-within y m d (leb-true 1 m e.1, leb-true m 12 c.1) (leb-true 1 d b.1, leb-true d (month_length y m) a.1) in
-    (omega (arith, low), omega (arith, high, below))
-
-date_read : (text : List ℕ) (day : Day) → date_of text ≡ Some day → IsBetween (neg_ℤ (pos 719_162)) (pos 2_932_896) day.0
-unfolding date_of
-date_read text day is =
-    let y = number_at 0 4 text in
-    let m = number_at 4 2 text in
-    let d = number_at 6 2 text in
-    let found = cond_some (is_date y m d && bytes_eq text (date_text y m d)) (record { 0 = day_since_1970 (day_of_date y m d) }) day is in
-    let dated = day_within y m d (both_hold (is_date y m d) (bytes_eq text (date_text y m d)) found.0).0 in
-    subst (λ (x : Day). IsBetween (neg_ℤ (pos 719_162)) (pos 2_932_896) x.0) found.1 (omega (arith, ints, dated.0), omega (arith, ints, dated.1))
-
-time_read : (text : List ℕ) (second : ℕ) → time_of text ≡ Some second → second < 86_400
-unfolding time_of
-time_read text second is =
-    let h = number_at 0 2 text in
-    let m = number_at 2 2 text in
-    let s = number_at 4 2 text in
-    let found = cond_some (is_time h m s && bytes_eq text (time_text h m s)) (3600 * h + 60 * m + min s 59) second is in
-    let a = both_hold (is_time h m s) (bytes_eq text (time_text h m s)) found.0 in
-    let b = both_hold (nat_le h 23 && nat_le m 59) (nat_le s 60) a.0 in
-    let c = both_hold (nat_le h 23) (nat_le m 59) b.0 in
-    subst (λ n. n < 86_400) found.1 (omega (arith, leb-true h 23 c.0, leb-true m 59 c.1))
-
-local_case : (utc : Bool) (date : Option Day) (time : Option ℕ) (value : Local × Bool) → local_time utc date time ≡ Some value →
-    ((day : Day) → date ≡ Some day → IsBetween (neg_ℤ (pos 719_162)) (pos 2_932_896) day.0) → ((second : ℕ) → time ≡ Some second → second < 86_400) → IsWritten value.0
-local_case utc None time value is dates times = absurd (none-some value is)
-local_case utc (Some day) None value is dates times = absurd (none-some value is)
-local_case utc (Some day) (Some second) value is dates times =
-    subst (λ (v : Local × Bool). IsWritten v.0) (ap (λ o. unwrap_or o value) is)
-    (record { from_first = (dates day refl).0; to_last = (dates day refl).1; second_below = times second refl })
-
-date_time_read : (text : List ℕ) (value : Local × Bool) → date_time_of text ≡ Some value → IsWritten value.0
-unfolding date_time_of
-date_time_read text value is =
-    let utc = bytes_eq (drop 15 text) (codes "Z") in
-    local_if (bytes_eq (drop 8 text) (codes "T" ++ (take 6 (drop 9 text) ++ utc_text utc))) is
-  where
-    local_if : (b : Bool) → (if b then local_time (bytes_eq (drop 15 text) (codes "Z")) (date_of (take 8 text)) (time_of (take 6 (drop 9 text))) else None) ≡ Some value → IsWritten value.0
-    local_if true found = local_case (bytes_eq (drop 15 text) (codes "Z")) (date_of (take 8 text)) (time_of (take 6 (drop 9 text))) value found (date_read (take 8 text)) (time_read (take 6 (drop 9 text)))
-    local_if false found = absurd (none-some value found)
-
 -- a moment of these years, as its digits in UTC
 moment_within : (z : ℤ) → IsCalendarMoment z → (31_622_400 ≤ moment_of_seconds z) × (moment_of_seconds z ≤ 315_569_519_999)
 moment_within z within =
@@ -118,9 +66,6 @@ digits_of_moment m low high =
     let first : 366 ≤ day_of_moment m = omega arith in
     let last : day_of_moment m ≤ 3_652_424 = omega arith in
     record { from_first = omega (arith, ints, first); to_last = omega (arith, ints, last); second_below = omega arith }
-
-moment_of_digits : (day : ℤ) (second : ℕ) → neg_ℤ (pos 719_162) ≤ℤ day → day ≤ℤ pos 2_932_896 → second < 86_400 → IsCalendarMoment (day *ℤ pos 86400 +ℤ pos second)
-moment_of_digits day second low high below = (omega (arith, ints), omega (arith, ints))
 
 IsWritten-utc : (local : Local) → IsWritten local → IsWritten (local_of_seconds (utc_of_local local).0)
 IsWritten-utc local written =
@@ -161,7 +106,7 @@ stamp_case false true number text stamp is = date_stamp_read text stamp is
 stamp_case false false number text stamp is = time_stamp_read number text stamp is
 
 stamp_read : (zones : List (List ℕ)) (line : Line) (text : List ℕ) (stamp : Stamp) → stamp_of zones line text ≡ Some stamp → HasDigits stamp
-stamp_read zones line text stamp is = stamp_case (is_one_of utc_names line) (is_date_text line text) (zone_of zones line) text stamp is
+stamp_read zones line text stamp is = stamp_case (is_one_of utc_names line) (is_date_text line text) (line_zone zones line) text stamp is
 
 grammar_read : (zones : List (List ℕ)) (line : Line) (stamps : List Stamp) → stamps_in_grammar zones line ≡ Some stamps → Each HasDigits stamps
 unfolding stamps_in_grammar
@@ -179,7 +124,7 @@ start_read moment reads a (Some end) (Some start) period read is =
 period_parts : (moment : List ℕ → Option Stamp) → ((text : List ℕ) (stamp : Stamp) → moment text ≡ Some stamp → HasDigits stamp) → (parts : Option (List ℕ × List ℕ)) (period : Period) →
     period_by moment parts ≡ Some period → HasDigits period.start
 period_parts moment reads None period is = absurd (none-some period is)
-period_parts moment reads (Some p) period is = start_read moment reads p.0 (period_end moment p.1) (moment p.0) period refl is
+period_parts moment reads (Some p) period is = start_read moment reads p.0 (written_period_end moment p.1) (moment p.0) period refl is
 
 period_case : (utc : Bool) (number : Option ℕ) (text : List ℕ) (period : Period) → (if utc then period_with utc_stamp text else period_with (time_stamp number) text) ≡ Some period → HasDigits period.start
 period_case true number text period is = period_parts utc_stamp utc_stamp_read (cut 47 text) period is
@@ -188,7 +133,7 @@ period_case false number text period is = period_parts (time_stamp number) (time
 periods_read : (zones : List (List ℕ)) (line : Line) (periods : List Period) → periods_in_grammar zones line ≡ Some periods → Each (λ (p : Period). HasDigits p.start) periods
 unfolding periods_in_grammar
 periods_read zones line periods is =
-    each_read (λ (p : Period). HasDigits p.start) (period_of zones line) (λ text period made. period_case (is_one_of utc_names line) (zone_of zones line) text period made) (items_of line) periods is
+    each_read (λ (p : Period). HasDigits p.start) (period_of zones line) (λ text period made. period_case (is_one_of utc_names line) (line_zone zones line) text period made) (items_of line) periods is
 
 -- Parts
 
@@ -233,14 +178,14 @@ rule_lines : (lines : List Line) → Each IsUsable (rules_of lines)
 rule_lines lines =
     each-filter_map (λ line. Unit {0}) IsUsable (λ (line : Line). rule_of line.value) (λ line rule fact is. IsUsable-rule_of line.value rule is) (all_of (codes "RRULE") lines) (all_lines (λ line. tt) (all_of (codes "RRULE") lines))
 
-part_facts : (lines : List Line) (start : Option Stamp) (from to : Option ℤ) (part : ZonePart) → part_with lines start from to ≡ Some part → has_fine_rule part ≡ false →
+part_facts : (lines : List Line) (start : Option Stamp) (from to : Option ℤ) (part : ZonePart) → part_with lines start from to ≡ Some part → is_fine_part part ≡ false →
     ((s : Stamp) → start ≡ Some s → HasDigits s) → ((z : ℤ) → from ≡ Some z → IsOffset z) → ((z : ℤ) → to ≡ Some z → IsOffset z) → IsPart part
 part_facts lines None from to part is coarse starts froms tos = absurd (none-some part is)
 part_facts lines (Some s) None to part is coarse starts froms tos = absurd (none-some part is)
 part_facts lines (Some s) (Some f) None part is coarse starts froms tos = absurd (none-some part is)
 part_facts lines (Some s) (Some f) (Some t) part is coarse starts froms tos =
     let made : record { start = local_digits s; from = f; to = t; rules = rules_of lines; dates = part_dates lines } ≡ part = ap (λ o. unwrap_or o part) is in
-    let plain = subst (λ (p : ZonePart). has_fine_rule p ≡ false) (sym made) coarse in
+    let plain = subst (λ (p : ZonePart). is_fine_part p ≡ false) (sym made) coarse in
     subst IsPart made (record {
       start = starts s refl;
       from = froms f refl;
@@ -251,7 +196,7 @@ part_facts lines (Some s) (Some f) (Some t) part is coarse starts froms tos =
     })
 
 -- a part that is read and has no fine rule can be made a table of
-pub IsPart-part_of_lines : (lines : List Line) (part : ZonePart) → part_of_lines lines ≡ Some part → has_fine_rule part ≡ false → IsPart part
+pub IsPart-part_of_lines : (lines : List Line) (part : ZonePart) → part_of_lines lines ≡ Some part → is_fine_part part ≡ false → IsPart part
 IsPart-part_of_lines lines part is coarse =
     part_facts lines (stamp_at [] (codes "DTSTART") lines) (value_at offset_of (codes "TZOFFSETFROM") lines) (value_at offset_of (codes "TZOFFSETTO") lines) part is coarse
     (λ s found. first_digits (stamps_at [] (codes "DTSTART") lines) s (stamps_at_digits (codes "DTSTART") lines) found)

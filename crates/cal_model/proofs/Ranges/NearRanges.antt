@@ -24,7 +24,7 @@ use Rattle.cal_model.specs.declared.row.Fixed.{Fixed}
 use Rattle.cal_model.specs.declared.row.Range.{Range}
 use Rattle.cal_model.specs.declared.row.Row.{Row}
 use Rattle.cal_model.specs.declared.zone.ZoneTable.{ZoneTable}
-use Rattle.cal_model.specs.Words.Numbers.{counted_from}
+use Rattle.cal_model.specs.Words.Lists.{counted_from}
 use Rattle.cal_model.specs.Instances.Alignment.{reading_of}
 use Rattle.cal_model.specs.Instances.Starts.{own_start, own_start_of}
 use Rattle.cal_model.specs.Instances.Rows.{Numbered, is_dated, rows_over, nominal_start, window_of, window_seconds}
@@ -33,7 +33,8 @@ use Rattle.cal_model.specs.Ranges.Overlap.{Line, spans, begins, lasts, runs_to_d
 use Rattle.cal_model.specs.Ranges.Cost.{longest, alarm_reach, alarms_reach, margin, window_meets}
 use Rattle.cal_model.specs.Ranges.Nearness.{IsNear, HasShortOffsets, HasNearRows, IsWithin, MeetsNear, GoesOffNear, IsBusyNear}
 use Rattle.cal_model.proofs.Ranges.RowBounds.{in_zone-near}
-use Rattle.cal_model.proofs.Instances.Everywhere.{All-each_part, All-unmap, All-slice_get, All-greatest}
+use Rattle.cal_model.proofs.Words.AllLemmas.{All-each_part, All-unmap, All-slice_get}
+use Rattle.cal_model.proofs.Instances.EachRowLemmas.{All-greatest}
 use Rattle.cal_model.proofs.Ranges.NearRows.{IsRowOf, rows-of_components, later_rows-of_components}
 
 -- Windows.
@@ -307,3 +308,8 @@ busy_near object zone range near short row of t dated here inside =
 pub busy_rows-near : (moments : List ℕ) (object : Object) (zone : ZoneTable) (range : Range) → HasNearRows object → HasShortOffsets zone → All (IsBusyNear object zone range) (rows_over moments object)
 busy_rows-near moments object zone range near short =
     All-weaker (λ row. is_dated row ≡ true → IsRowOf object row) (IsBusyNear object zone range) (busy_near object zone range near short) (rows_over moments object) (rows-of_components moments object near)
+
+-- the same where overrides move all later instances
+pub later_busy_rows-near : (future : Numbered → Bool) (moments : List ℕ) (object : Object) (zone : ZoneTable) (range : Range) → HasNearRows object → HasShortOffsets zone → All (IsBusyNear object zone range) (later_rows_over future moments object)
+later_busy_rows-near future moments object zone range near short =
+    All-weaker (λ row. is_dated row ≡ true → IsRowOf object row) (IsBusyNear object zone range) (busy_near object zone range near short) (later_rows_over future moments object) (later_rows-of_components future moments object near)

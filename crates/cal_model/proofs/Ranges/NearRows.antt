@@ -11,11 +11,12 @@ use Rattle.cal_model.specs.declared.row.Row.{Row}
 use Rattle.cal_model.specs.Instances.Alignment.{Aligned, reading_of, value_of, kind_of}
 use Rattle.cal_model.specs.Instances.Starts.{own_start, end_from, end_of_instance}
 use Rattle.cal_model.specs.Instances.Rows.{Numbered, numbered, has_id, masters, overrides, ids_start, id_of_override, named_by, is_named, row_of, is_dated, undated_row, undated_rows, starts, master_row, row_at, override_row, override_row_from, dated_rows, rows_by, rows_over}
-use Rattle.cal_model.specs.Instances.LaterRows.{Governor, governors_of, governors, greatest_id, is_stated, moved_digits, moved_row, governed_row, later_row_at, later_rows_over}
+use Rattle.cal_model.specs.Instances.LaterRows.{Governor, governors_of, governors, greatest_id, is_served, moved_digits, moved_row, governed_row, later_row_at, later_rows_over}
 use Rattle.cal_model.specs.Ranges.Cost.{extent_length, lengths, longest}
 use Rattle.cal_model.specs.Ranges.Nearness.{IsNear, IsTimed, HasNearRows}
-use Rattle.cal_model.proofs.Instances.Everywhere.{All-everywhere, All-flat_map, All-each_part, All-option, All-slice_get, All-numbered_from, All-greatest, All-in_order}
-use Rattle.cal_model.proofs.Ranges.RowBounds.{end_of_extent-near, end_of_instance-near}
+use Rattle.cal_model.proofs.Words.AllLemmas.{All-everywhere, All-flat_map, All-each_part, All-option, All-slice_get}
+use Rattle.cal_model.proofs.Instances.EachRowLemmas.{All-numbered_from, All-greatest, All-in_order}
+use Rattle.cal_model.proofs.Ranges.RowBounds.{wider, end_of_extent-near, end_of_instance-near}
 
 -- What each row has.
 
@@ -45,9 +46,6 @@ known object near =
       small = All-slice_get (λ c. All (λ m. m ≤ longest object) (lengths object.zones c)) object.components i c (All-each_part (λ m. m ≤ longest object) (lengths object.zones) object.components (All-greatest (flat_map (lengths object.zones) object.components))) found;
       timed = All-slice_get (λ (c : Component). All IsTimed c.periods) object.components i c near.periods found;
     })
-
-wider : (m n : ℕ) (x y : ℤ) → m ≤ n → IsNear (172800 + m) x y → IsNear (172800 + n) x y
-wider m n x y le near = (omega (arith, ints, le, near), omega (arith, ints, le, near))
 
 own_length : (object : Object) (n : Numbered) (s : Stamp) → IsKnown object n → own_start n.component ≡ Some s → extent_length object.zones (Some s) n.component.extent ≤ longest object
 own_length object n s is own = rw own at (All-head (λ m. m ≤ longest object) (extent_length object.zones (own_start n.component) n.component.extent) _ is.small)
@@ -150,7 +148,7 @@ greatest_id-holds P g (h ∷ hs) p all = elim (cases_Bool (int_le g.id h.id)) [
 ]
 
 moved : (object : Object) (ids : Stamp) (r : ℤ) (g : Governor) → HasNearRows object → IsGovernor object g → All (IfDated object) (moved_row object ids r g)
-moved object ids r g near is = elim (cases_Bool (is_stated (moved_digits object.zones g r))) [
+moved object ids r g near is = elim (cases_Bool (is_served (moved_digits object.zones g r))) [
   | inl w ↦ rw w (All-cons (IfDated object) (row_of r start (end_from object.zones g.override.component start) g.override.number (kind_of ids) (kind_of g.start)) [] at_each (All-nil (IfDated object)))
   | inr w ↦ rw w (All-nil (IfDated object))
 ]

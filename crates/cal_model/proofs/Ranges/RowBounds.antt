@@ -15,13 +15,13 @@ use Rattle.cal_model.specs.declared.object.Component.{Component}
 use Rattle.cal_model.specs.declared.object.Extent.{Extent}
 use Rattle.cal_model.specs.declared.object.Extent.TheVariants as extent
 use Rattle.cal_model.specs.declared.zone.ZoneTable.{ZoneTable}
-use Rattle.cal_model.specs.Words.Numbers.{greatest_of, same_int}
+use Rattle.cal_model.specs.Words.Integers.{greatest_of, same_int}
 use Rattle.cal_model.specs.Instances.Alignment.{utc_zone, zone_of, reading_of, value_of, kind_of, plus_length, align, start_on, written_value}
 use Rattle.cal_model.specs.Instances.Starts.{own_start, end_of_extent, end_of_period, end_of_instance, rule_starts, plain_starts, period_starts, date_start, latest_of, is_date}
 use Rattle.cal_model.specs.Ranges.Overlap.{in_zone, seconds_of}
 use Rattle.cal_model.specs.Ranges.Cost.{extent_length, length_to, lengths}
 use Rattle.cal_model.specs.Ranges.Nearness.{IsNear, HasShortOffsets, IsTimed, end_is_date}
-use Rattle.cal_model.proofs.Instances.Everywhere.{same_int-true}
+use Rattle.cal_model.proofs.Words.IntegerLemmas.{same_int-true}
 use Rattle.cal_model.proofs.TimeZones.NearTimes.{local_at-near, instant_of-near}
 
 -- Readings.
@@ -122,7 +122,8 @@ period_end-near zones s first (At e) all timed moment later =
     (aligned-near zones s first all timed moment) (aligned-near zones s e all timed later)
 period_end-near zones s first (After length) all timed moment later = plus_length-near zones s (date_start zones s first) length all
 
-wider : (m n : ℕ) (x y : ℤ) → m ≤ n → IsNear (172800 + m) x y → IsNear (172800 + n) x y
+-- what is near by so much is near by more
+pub wider : (m n : ℕ) (x y : ℤ) → m ≤ n → IsNear (172800 + m) x y → IsNear (172800 + n) x y
 wider m n x y le near = (omega (arith, ints, le, near), omega (arith, ints, le, near))
 
 -- the ends of the periods that start at r

@@ -5,19 +5,20 @@ use Rattle.std.specs.Int.{int_div_euclid}
 use Rattle.std.specs.List.{list_any}
 use Rattle.std.proofs.lemmas.Int.{ints}
 use Rattle.std.proofs.lemmas.Bool.{cases_Bool}
-use Rattle.std.proofs.lemmas.List.Elements.{All-head, All-tail, All-append, All-weaker, All-filter, All-contains_itself, filter_passes, Contains-append_left, Contains-append_right, Contains-append_cases}
+use Rattle.std.proofs.lemmas.List.Elements.{All-head, All-tail, All-append, All-weaker, All-filter, All-contains, All-contains_itself, filter_passes, Contains-append_left, Contains-append_right, Contains-append_cases}
+use Rattle.std.proofs.lemmas.List.Kept.{AllPairs-cons, AllPairs-filter}
 use Rattle.cal_moment.specs.declared.stamp.Stamp.{Stamp}
 use Rattle.cal_model.specs.declared.object.Object.{Object}
 use Rattle.cal_model.specs.declared.row.Row.{Row}
 use Rattle.cal_model.specs.declared.zone.ZoneTable.{ZoneTable}
-use Rattle.cal_model.specs.Words.Numbers.{same_int}
+use Rattle.cal_model.specs.Words.Integers.{same_int}
 use Rattle.cal_model.specs.Instances.Alignment.{reading_of}
 use Rattle.cal_model.specs.Instances.Rows.{in_order, is_dated, rows_over, rows_in_over, lies_in_window, window_of, window_seconds}
 use Rattle.cal_model.specs.Ranges.Nearness.{HasShortOffsets}
-use Rattle.cal_model.proofs.Instances.Everywhere.{same_int-self, same_int-true}
+use Rattle.cal_model.proofs.Words.IntegerLemmas.{same_int-self, same_int-true}
 use Rattle.cal_model.proofs.Ranges.RowBounds.{local-instant-near}
 use Rattle.cal_model.proofs.Ranges.NearRanges.{window-holds}
-use Rattle.cal_model.proofs.Instances.RisingLists.{IsBefore, HasOtherKey, AllPairs-cons, AllPairs-head, AllPairs-tail, All-member, Contains-there, Contains-split, in_order-is}
+use Rattle.cal_model.proofs.Instances.RisingLists.{IsBefore, HasOtherKey, AllPairs-head, AllPairs-tail, Contains-there, Contains-split, in_order-is}
 
 -- Filters.
 
@@ -30,16 +31,9 @@ Contains-filter p y (x ∷ xs) h c = elim (cases_Bool (p x)) [
 
 pub Contains-unfilter : {X : Type 0} (p : X → Bool) (y : X) (xs : List X) → Contains (filter p xs) y → (p y ≡ true) × Contains xs y
 Contains-unfilter p y xs c = (
-  All-member (λ x. p x ≡ true) (filter p xs) y (filter_passes p xs) c,
-  All-member (Contains xs) (filter p xs) y (All-filter p (Contains xs) xs (All-contains_itself xs)) c,
+  All-contains (λ x. p x ≡ true) (filter p xs) y (filter_passes p xs) c,
+  All-contains (Contains xs) (filter p xs) y (All-filter p (Contains xs) xs (All-contains_itself xs)) c,
 )
-
-pub AllPairs-filter : {X : Type 0} (R : X → X → Type 0) (p : X → Bool) (xs : List X) → AllPairs R xs → AllPairs R (filter p xs)
-AllPairs-filter R p [] h = h
-AllPairs-filter R p (x ∷ xs) h = elim (cases_Bool (p x)) [
-  | inl w ↦ rw w (AllPairs-cons R x (filter p xs) (All-filter p (R x) xs (AllPairs-head R x xs h)) (AllPairs-filter R p xs (AllPairs-tail R x xs h)))
-  | inr w ↦ rw w (AllPairs-filter R p xs (AllPairs-tail R x xs h))
-]
 
 -- Windows.
 
@@ -102,10 +96,10 @@ rising-members [] a b up c d = let below = c.1 in absurd (omega (arith, below))
 rising-members (x ∷ xs) a b up c d = elim (Contains-split x a xs c) [
   | inl e ↦ elim (Contains-split x b xs d) [
     | inl f ↦ inl (sym e ∙ f)
-    | inr g ↦ inr (inl (rw e at (All-member (IsBefore x) xs b (AllPairs-head IsBefore x xs up) g)))
+    | inr g ↦ inr (inl (rw e at (All-contains (IsBefore x) xs b (AllPairs-head IsBefore x xs up) g)))
   ]
   | inr g ↦ elim (Contains-split x b xs d) [
-    | inl f ↦ inr (inr (rw f at (All-member (IsBefore x) xs a (AllPairs-head IsBefore x xs up) g)))
+    | inl f ↦ inr (inr (rw f at (All-contains (IsBefore x) xs a (AllPairs-head IsBefore x xs up) g)))
     | inr h ↦ rising-members xs a b (AllPairs-tail IsBefore x xs up) g h
   ]
 ]
@@ -184,7 +178,7 @@ windows_apart moments object (w ∷ ws) up apart =
         let here = rows_in-only moments object w a c in
         let there = flat_map-window moments object ws b d in
         elim (rising-members (filter is_dated (rows_over moments object)) a b up (dated_member moments object a here.0 here.1) (dated_member moments object b there.1 there.2)) [
-          | inl e ↦ absurd (All-member (AreApart w) ws (window_of object b) (AllPairs-head AreApart w ws apart) there.0 (let same = here.2 in sym (rw e at same)))
+          | inl e ↦ absurd (All-contains (AreApart w) ws (window_of object b) (AllPairs-head AreApart w ws apart) there.0 (let same = here.2 in sym (rw e at same)))
           | inr other ↦ other
         ]
 

@@ -89,3 +89,7 @@ IsNextPassing-day rule start dated a day second before_end below from passing da
         ];
   };
 }
+
+-- nothing passes in a period that doesn't count
+pub NonePasses-period : (rule : Rule) (start : ℕ) (dated : Bool) (a b : ℕ) → ((m : ℕ) → a ≤ m → m < b → period_passes rule start m ≡ false) → NonePasses rule start dated a b
+NonePasses-period rule start dated a b h = record { each = λ m low high. (let e = h m low high in rw e refl) }

@@ -4,9 +4,9 @@ use Rattle.std.proofs.lemmas.Bool.{cases_Bool, ltb-true, ltb-false}
 use Rattle.std.specs.Prelude.{filter}
 use Rattle.cal_model.specs.declared.rule.Rule.{Rule}
 use Rattle.cal_model.specs.Recurrence.NextPassing.{IsNextPassing, NonePasses, end_day}
-use Rattle.cal_model.specs.Words.Numbers.{numbers_between}
+use Rattle.cal_model.specs.Words.Lists.{numbers_between}
 use Rattle.cal_model.specs.Recurrence.Passing.{passes}
-use Rattle.cal_model.proofs.Words.Counted.{filter-next, filter-none}
+use Rattle.cal_model.proofs.Words.CountedLemmas.{filter-next, filter-none}
 
 -- the next one is the first of those that are left
 pub filter-IsNextPassing : (rule : Rule) (start : ℕ) (dated : Bool) (a m : ℕ) → IsNextPassing rule start dated a m →

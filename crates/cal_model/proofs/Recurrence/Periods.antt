@@ -1,11 +1,12 @@
 -- BYSETPOS goes period by period: a filter over the whole list is the picks of each period, one after the other.
-use Rattle.std.proofs.Common.{◌≡◌, ℕ, zero, suc, ◌+◌, ◌<◌, ◌≤◌, List, [], ◌∷◌, ◌++◌, length, get_or, refl, ap, ◌∙◌, arith, Bool, true, false, inl, inr}
+use Rattle.std.proofs.Common.{◌≡◌, ◌≢◌, ℕ, zero, suc, ◌+◌, ◌<◌, ◌≤◌, List, [], ◌∷◌, ◌++◌, length, get_or, refl, ap, ◌∙◌, arith, Bool, true, false, inl, inr}
 use Rattle.std.specs.Prelude.{filter, count_by, cond, nat_le, ◌==◌, if◌then◌else◌, All}
 use Rattle.std.proofs.lemmas.Bool.{cases_Bool}
 use Rattle.std.proofs.lemmas.List.Elements.{filter-append}
 use Rattle.std.proofs.lemmas.List.Sums.{sum_by-append}
 use Rattle.cal_model.specs.declared.rule.Rule.{Rule}
-use Rattle.cal_model.specs.Words.Numbers.{is_empty, some_names_place}
+use Rattle.cal_model.specs.Words.Lists.{is_empty}
+use Rattle.cal_model.specs.Words.Integers.{some_names_place}
 use Rattle.cal_model.specs.Recurrence.Passing.{period_number}
 use Rattle.cal_model.specs.Recurrence.RecurrenceSet.{same_period, place_in_period, size_of_period, at_places}
 
@@ -40,11 +41,8 @@ filter_cong p q (x ∷ xs) h =
     let rest = filter_cong p q xs (tail_all (λ x. p x ≡ q x) x xs h) in
     rw (here, rest) refl
 
-eqb_false : (a b : ℕ) → a < b → (a == b) ≡ false
+eqb_false : (a b : ℕ) → a ≢ b → (a == b) ≡ false
 eqb_false a b h = grind (arith, h)
-
-eqb_false_up : (a b : ℕ) → b < a → (a == b) ≡ false
-eqb_false_up a b h = grind (arith, h)
 
 module _ (rule : Rule) where
   abbrev pub number : ℕ → ℕ
@@ -80,7 +78,7 @@ module _ (rule : Rule) where
       filter (keeps (xs ++ ys)) (xs ++ ys) ≡ filter (keeps xs) xs ++ filter (keeps ys) ys
   kept_apart xs ys n low high =
       let first = filter_cong (keeps (xs ++ ys)) (keeps xs) xs (λ i d lt. keeps_left (get_or xs i d) xs ys (λ j e m. let a = low i d lt in let b = high j e m in eqb_false _ _ (omega arith))) in
-      let second = filter_cong (keeps (xs ++ ys)) (keeps ys) ys (λ i d lt. keeps_right (get_or ys i d) xs ys (λ j e m. let a = high i d lt in let b = low j e m in eqb_false_up _ _ (omega arith))) in
+      let second = filter_cong (keeps (xs ++ ys)) (keeps ys) ys (λ i d lt. keeps_right (get_or ys i d) xs ys (λ j e m. let a = high i d lt in let b = low j e m in eqb_false _ _ (omega arith))) in
       rw (filter-append, first, second) refl
 
   -- within one period the place of a moment is its place in the list, and all of them are its size

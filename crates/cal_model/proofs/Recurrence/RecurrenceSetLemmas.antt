@@ -5,7 +5,8 @@ use Rattle.std.proofs.lemmas.Bool.{cases_Bool, ltb-true}
 use Rattle.std.proofs.lemmas.List.Elements.{All-cons, All-filter, All-take, filter-append, filter_passes}
 use Rattle.std.proofs.lemmas.List.Kept.{AllPairs-cons, AllPairs-filter}
 use Rattle.cal_model.specs.declared.rule.Rule.{Rule}
-use Rattle.cal_model.specs.Words.Numbers.{is_empty, counted_from, some_names_place}
+use Rattle.cal_model.specs.Words.Lists.{is_empty, counted_from}
+use Rattle.cal_model.specs.Words.Integers.{some_names_place}
 use Rattle.cal_model.specs.Recurrence.NextPassing.{end_day}
 use Rattle.cal_model.specs.Recurrence.Passing.{passes}
 use Rattle.cal_model.specs.Recurrence.RecurrenceSet.{Reading, every_moment, first_moment, found_moments, at_places, place_in_period, size_of_period, until_passes, first_counted, later_moments, recurrence_set_over, recurrence_set, last_written}
@@ -96,8 +97,3 @@ found_moments-passing rule start reading (m ∷ ms) = elim (cases_Bool (passes r
   ]
   | inr failing ↦ rw failing (found_moments-passing rule start reading ms)
 ]
-
--- without COUNT and BYSETPOS a list that is cut gives what its pieces give, so a stretch of time needs no moments before it
-pub later_moments-append : (rule : Rule) (start : ℕ) (reading : Reading) (xs ys : List ℕ) → rule.count ≡ None → is_empty rule.by_set_pos ≡ true →
-    later_moments rule start reading (xs ++ ys) ≡ later_moments rule start reading xs ++ later_moments rule start reading ys
-later_moments-append rule start reading xs ys no_count no_places = rw (no_count, no_places) (simp filter-append refl)

@@ -19,7 +19,8 @@ year_of-le a b h =
       | inr w ↦ ltb-false _ _ w
     ]
 
-count_le : (p q : ℕ → Bool) (xs : List ℕ) → ((x : ℕ) → p x ≡ true → q x ≡ true) → count_by p xs ≤ count_by q xs
+-- a stronger test counts no more
+pub count_le : (p q : ℕ → Bool) (xs : List ℕ) → ((x : ℕ) → p x ≡ true → q x ≡ true) → count_by p xs ≤ count_by q xs
 count_le p q [] h = omega arith
 count_le p q (x ∷ xs) h =
     let rest = count_le p q xs h in

@@ -11,13 +11,15 @@ use Rattle.cal_model.specs.declared.object.Component.{Component}
 use Rattle.cal_model.specs.declared.object.Object.{Object}
 use Rattle.cal_model.specs.declared.row.Row.{Row}
 use Rattle.cal_model.specs.Instances.Alignment.{Aligned, value_of, kind_of}
-use Rattle.cal_model.specs.Words.Numbers.{same_int}
+use Rattle.cal_model.specs.Words.Integers.{same_int}
 use Rattle.cal_model.specs.Recurrence.RecurrenceSet.{every_moment}
-use Rattle.cal_model.specs.Reports.ReportPairs.{override_windows, window_of_override, start_window}
+use Rattle.cal_model.specs.Reports.NeededWindows.{override_windows, window_of_override, start_window}
 use Rattle.cal_model.specs.Instances.Rows.{Numbered, numbered, has_id, masters, overrides, ids_start, id_of_override, named_by, is_named, row_of, is_dated, undated_row, undated_rows, starts, master_row, row_at, override_row, override_row_from, dated_rows, rows, window_of, window_seconds, nominal_beside}
 use Rattle.cal_model.specs.Instances.Starts.{own_start, end_from, end_of_instance}
-use Rattle.cal_model.proofs.Selections.CalendarDataLaws.{is_of_override}
-use Rattle.cal_model.proofs.Instances.Everywhere.{All-everywhere, All-flat_map, All-option, All-in_order, same_int-self}
+use Rattle.cal_model.proofs.Selections.ShownDataLaws.{is_of_override}
+use Rattle.cal_model.proofs.Words.AllLemmas.{All-everywhere, All-flat_map, All-option}
+use Rattle.cal_model.proofs.Instances.EachRowLemmas.{All-in_order}
+use Rattle.cal_model.proofs.Words.IntegerLemmas.{same_int-self}
 use Rattle.cal_model.proofs.Filters.MatchingLaws.{IsNumbered, numbered_is}
 use Rattle.cal_model.proofs.Words.ListTests.{any_from, any_filter_map, each_of}
 

@@ -18,7 +18,7 @@ use Rattle.cal_model.specs.declared.property.Props.{Props}
 use Rattle.cal_model.specs.declared.selection.Recur.{Recur}
 use Rattle.cal_model.specs.declared.selection.Recur.TheVariants.{Whole, Expand, Limit}
 use Rattle.cal_model.specs.declared.selection.Selection.{Selection}
-use Rattle.cal_model.specs.Selections.CalendarData.{shown, shown_of_object}
+use Rattle.cal_model.specs.Selections.ShownData.{shown, shown_of_object}
 use Rattle.cal_model.specs.declared.report.ReportRequest.{ReportRequest}
 use Rattle.cal_model.specs.declared.report.ReportRequest.TheVariants.{Query, Multiget}
 use Rattle.cal_model.specs.declared.row.Range.{Range}
@@ -28,14 +28,15 @@ use Rattle.cal_model.specs.Ranges.Cost.{margin, window_meets}
 use Rattle.cal_model.specs.Ranges.Nearness.{HasNearRows, HasShortOffsets}
 use Rattle.cal_model.specs.Filters.Matching.{matches, matches_object}
 use Rattle.cal_model.specs.Reports.NamedRanges.{ranges_named, ranges_of_filter, ranges_of_recur, ranges_of_selection}
-use Rattle.cal_model.specs.Words.Numbers.{is_empty, same_int}
+use Rattle.cal_model.specs.Words.Lists.{is_empty}
+use Rattle.cal_model.specs.Words.Integers.{same_int}
 use Rattle.cal_model.specs.Ranges.Overlap.{row_overlaps, alarm_overlaps, dated_fixed}
 use Rattle.cal_model.specs.Recurrence.RecurrenceSet.{every_moment}
-use Rattle.cal_model.specs.Reports.ReportPairs.{is_stated, meets_some, counts, is_needed, override_windows}
+use Rattle.cal_model.specs.Reports.NeededWindows.{is_stated_window, meets_some, counts, is_needed, override_windows}
 use Rattle.cal_model.specs.Ranges.RowRanges.{row_meets, row_in_range, row_alarm_in_range, alarm_in_range, is_relative}
 use Rattle.cal_model.specs.Instances.Rows.{rows, is_dated, window_of}
 use Rattle.cal_model.proofs.Words.ListTests.{any_from, or_left, or_right, not_empty, Keeps}
-use Rattle.cal_model.proofs.Selections.CalendarDataLaws.{AreEnough, is_of_override, shown-enough_rows}
+use Rattle.cal_model.proofs.Selections.ShownDataLaws.{AreEnough, is_of_override, shown-enough_rows}
 use Rattle.cal_model.proofs.Reports.OverrideWindows.{IsInWindow, override_rows-in_windows}
 use Rattle.cal_model.proofs.Filters.MatchingLaws.{matches-enough_rows_of_object}
 use Rattle.cal_model.proofs.Ranges.NearRanges.{rows-near, alarms-near}
@@ -87,18 +88,18 @@ counts-row_meets object zone ranges near short range named row among dated e =
 abbrev pub is_looked_at : Object → ReportRequest → Row → Bool
 is_looked_at object report row = not (is_dated row) || is_needed object report (window_of object row)
 
-looked_at : (object : Object) (zone : ZoneTable) (report : ReportRequest) → HasNearRows object → HasShortOffsets zone → ((row : Row) → Contains (rows object) row → is_dated row ≡ true → is_stated (window_of object row) ≡ true)
+looked_at : (object : Object) (zone : ZoneTable) (report : ReportRequest) → HasNearRows object → HasShortOffsets zone → ((row : Row) → Contains (rows object) row → is_dated row ≡ true → is_stated_window (window_of object row) ≡ true)
     → (range : Range) → Contains (ranges_named report) range → (row : Row) → Contains (rows object) row → row_meets object zone range row ≡ true → is_looked_at object report row ≡ true
 looked_at object zone report near short stated range named row among e = by_date (is_dated row) refl
   where
     by_date : (dated : Bool) → is_dated row ≡ dated → (not dated || is_needed object report (window_of object row)) ≡ true
     by_date false d = refl
-    by_date true d = and_from (is_stated (window_of object row)) (counts object (ranges_named report) (window_of object row)) (stated row among d)
+    by_date true d = and_from (is_stated_window (window_of object row)) (counts object (ranges_named report) (window_of object row)) (stated row among d)
         (counts-row_meets object zone (ranges_named report) near short range named row among d e)
 
 -- The law of a query: over the rows that it looks at the filter gives what it gives over all rows of the object.
 pub matches-looked_at : (props : Props) (select : Selection) (filter : Filter) (timezone : Option (List ℕ)) (object : Object) (zone : ZoneTable) → HasNearRows object → HasShortOffsets zone
-    → ((row : Row) → Contains (rows object) row → is_dated row ≡ true → is_stated (window_of object row) ≡ true)
+    → ((row : Row) → Contains (rows object) row → is_dated row ≡ true → is_stated_window (window_of object row) ≡ true)
     → matches filter object (filter_rows (is_looked_at object (Query props select filter timezone)) (rows object)) zone ≡ matches_object filter object zone
 matches-looked_at props select filter timezone object zone near short stated =
     let report : ReportRequest = Query props select filter timezone in
@@ -110,18 +111,18 @@ matches-looked_at props select filter timezone object zone near short stated =
 -- The same of calendar data
 
 -- a dated row of an override is looked at, where some range is named
-override_looked_at : (object : Object) (report : ReportRequest) → ((row : Row) → Contains (rows object) row → is_dated row ≡ true → is_stated (window_of object row) ≡ true)
+override_looked_at : (object : Object) (report : ReportRequest) → ((row : Row) → Contains (rows object) row → is_dated row ≡ true → is_stated_window (window_of object row) ≡ true)
     → (range : Range) → Contains (ranges_named report) range → (row : Row) → Contains (rows object) row → (is_of_override object row && is_dated row) ≡ true → is_looked_at object report row ≡ true
 override_looked_at object report stated range named row among e =
     let both = and_parts (is_of_override object row) (is_dated row) e in
     or_right (not (is_dated row)) (is_needed object report (window_of object row))
-    (and_from (is_stated (window_of object row)) (counts object (ranges_named report) (window_of object row)) (stated row among both.1)
+    (and_from (is_stated_window (window_of object row)) (counts object (ranges_named report) (window_of object row)) (stated row among both.1)
     (and_from (not (is_empty (ranges_named report))) (meets_some object (ranges_named report) (window_of object row) || list_any (same_int (window_of object row)) (override_windows object))
     (not_empty (ranges_named report) range named)
     (or_right (meets_some object (ranges_named report) (window_of object row)) (list_any (same_int (window_of object row)) (override_windows object))
     (All-contains (IsInWindow object) (rows object) row (override_rows-in_windows object) among both.0 both.1))))
 
-overlapping_looked_at : (object : Object) (zone : ZoneTable) (report : ReportRequest) → HasNearRows object → HasShortOffsets zone → ((row : Row) → Contains (rows object) row → is_dated row ≡ true → is_stated (window_of object row) ≡ true)
+overlapping_looked_at : (object : Object) (zone : ZoneTable) (report : ReportRequest) → HasNearRows object → HasShortOffsets zone → ((row : Row) → Contains (rows object) row → is_dated row ≡ true → is_stated_window (window_of object row) ≡ true)
     → (range : Range) → Contains (ranges_named report) range → Keeps (is_looked_at object report) (rows object) (row_in_range object zone range)
 overlapping_looked_at object zone report near short stated range named row among e =
     looked_at object zone report near short stated range named row among (or_left (row_in_range object zone range row) (row_alarm_in_range object zone range row) e)
@@ -129,7 +130,7 @@ overlapping_looked_at object zone report near short stated range named row among
 here : (range : Range) → Contains (range ∷ []) range
 here range = (0, omega arith, refl)
 
-recur_enough : (object : Object) (zone : ZoneTable) (report : ReportRequest) → HasNearRows object → HasShortOffsets zone → ((row : Row) → Contains (rows object) row → is_dated row ≡ true → is_stated (window_of object row) ≡ true)
+recur_enough : (object : Object) (zone : ZoneTable) (report : ReportRequest) → HasNearRows object → HasShortOffsets zone → ((row : Row) → Contains (rows object) row → is_dated row ≡ true → is_stated_window (window_of object row) ≡ true)
     → (recur : Recur) → ((range : Range) → Contains (ranges_of_recur recur) range → Contains (ranges_named report) range) → AreEnough object zone (is_looked_at object report) (rows object) recur
 recur_enough object zone report near short stated Whole named = tt
 recur_enough object zone report near short stated (Expand range) named = overlapping_looked_at object zone report near short stated range (named range (here range))
@@ -139,7 +140,7 @@ recur_enough object zone report near short stated (Limit range) named =
 -- The law of a query and of a multiget: over the rows that it looks at an object is shown as over all of its rows.
 pub shown-looked_at : (report : ReportRequest) (select : Selection) → ((range : Range) → Contains (ranges_of_recur select.recur) range → Contains (ranges_named report) range)
     → (octets : List ℕ) (object : Object) (zone : ZoneTable) → HasNearRows object → HasShortOffsets zone
-    → ((row : Row) → Contains (rows object) row → is_dated row ≡ true → is_stated (window_of object row) ≡ true)
+    → ((row : Row) → Contains (rows object) row → is_dated row ≡ true → is_stated_window (window_of object row) ≡ true)
     → shown octets object (filter_rows (is_looked_at object report) (rows object)) select zone ≡ shown_of_object octets object select zone
 shown-looked_at report select named octets object zone near short stated =
     shown-enough_rows octets object select zone (is_looked_at object report) (rows object) (recur_enough object zone report near short stated select.recur named)

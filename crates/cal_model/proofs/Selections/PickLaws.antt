@@ -14,7 +14,7 @@ use Rattle.cal_model.specs.declared.selection.CompPick as P
 use Rattle.cal_model.specs.declared.selection.CompPick.TheBlock as PB
 use Rattle.cal_model.specs.declared.selection.Recur.TheVariants.{Whole}
 use Rattle.cal_model.specs.declared.zone.ZoneTable.{ZoneTable}
-use Rattle.cal_model.specs.Selections.CalendarData.{shown}
+use Rattle.cal_model.specs.Selections.ShownData.{shown}
 use Rattle.cal_model.specs.Selections.Picks.{Picked, picked, everything, picked_line, picked_child}
 use Rattle.cal_model.proofs.Filters.FilterLemmas.{picked_roll}
 

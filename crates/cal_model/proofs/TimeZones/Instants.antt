@@ -5,7 +5,7 @@ use Rattle.std.proofs.lemmas.Int.{ints, by_lt_z}
 use Rattle.std.proofs.lemmas.Bool.{cases_Bool, ltb-true, ltb-false}
 use Rattle.cal_model.specs.declared.zone.Onset.{Onset}
 use Rattle.cal_model.specs.declared.zone.ZoneTable.{ZoneTable}
-use Rattle.cal_model.specs.Words.Numbers.{same_int, least_of}
+use Rattle.cal_model.specs.Words.Integers.{same_int, least_of}
 use Rattle.cal_model.specs.TimeZones.Stretches.{no_onset}
 use Rattle.cal_model.specs.TimeZones.TableBounds.{IsRising}
 use Rattle.cal_model.proofs.TimeZones.Onsets.{offset_among_none}

@@ -8,8 +8,9 @@ use Rattle.cal_model.specs.declared.zone.Onset.{Onset}
 use Rattle.cal_model.specs.declared.zone.ZoneTable.{ZoneTable}
 use Rattle.cal_model.specs.TimeZones.TableBounds.{IsOffset, IsTable}
 use Rattle.cal_model.specs.Ranges.Nearness.{IsNear, HasShortOffsets}
-use Rattle.cal_model.specs.Words.Numbers.{last_or_else, least_of, same_int, is_empty}
-use Rattle.cal_model.proofs.Instances.Everywhere.{same_int-true}
+use Rattle.cal_model.specs.Words.Lists.{last_or_else, is_empty}
+use Rattle.cal_model.specs.Words.Integers.{least_of, same_int}
+use Rattle.cal_model.proofs.Words.IntegerLemmas.{same_int-true}
 use Rattle.cal_model.specs.TimeZones.Zones.{offset_at, local_at, instant_of, offsets, instants_of, onsets_past, after_gap, least_or_after_gap, exists_in}
 
 pub last_or_else-holds : {X : Type 0} (P : X → Type 0) (none : X) (xs : List X) → P none → All P xs → P (last_or_else none xs)

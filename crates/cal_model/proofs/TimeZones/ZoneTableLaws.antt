@@ -1,5 +1,5 @@
 -- The table of a zone has its onsets in rising order, and says at each instant what the latest change of any part says.
-use Rattle.std.proofs.Common.{◌≡◌, ℕ, zero, suc, ◌<◌, List, [], ◌∷◌, ◌++◌, length, get_or, map, refl, sym, ap, ◌∙◌, arith, true, false, ℤ, ◌-ℤ◌, ◌<ℤ◌, ◌≤ℤ◌, inl, inr, ◌⊎◌}
+use Rattle.std.proofs.Common.{◌≡◌, ℕ, zero, suc, ◌<◌, List, [], ◌∷◌, ◌++◌, length, get_or, map, refl, sym, ap, subst, ◌∙◌, arith, true, false, ℤ, ◌-ℤ◌, ◌<ℤ◌, ◌≤ℤ◌, inl, inr, ◌⊎◌}
 use Rattle.std.specs.Prelude.{All, int_le, int_lt, if◌then◌else◌, filter, fold, flat_map, Option, Some, None}
 use Rattle.std.proofs.lemmas.Int.{ints, by_lt_z}
 use Rattle.std.proofs.lemmas.Bool.{cases_Bool}
@@ -7,20 +7,21 @@ use Rattle.std.proofs.lemmas.List.Elements.{All-cons}
 use Rattle.cal_moment.specs.Calendar.{seconds_since_1970}
 use Rattle.cal_model.specs.declared.zone.Onset.{Onset}
 use Rattle.cal_model.specs.declared.zone.ZonePart.{ZonePart}
-use Rattle.cal_model.specs.Words.Numbers.{same_int, last_or_else}
+use Rattle.cal_model.specs.Words.Integers.{same_int}
+use Rattle.cal_model.specs.Words.Lists.{last_or_else}
 use Rattle.cal_model.specs.TimeZones.TableBounds.{IsRising, IsOffset, IsPart, IsTable}
-use Rattle.cal_model.specs.TimeZones.ZoneOnsets.{Change, put_change, part_moments, part_changes, changes, offset_before, as_onset, table_over, table_of}
+use Rattle.cal_model.specs.TimeZones.ZoneOnsets.{Change, put_change, part_moments, part_changes, changes, first_from, offset_before, as_onset, table_over, table_of}
 use Rattle.cal_model.specs.Recurrence.RecurrenceSet.{every_moment}
 use Rattle.cal_model.specs.TimeZones.Zones.{offset_at}
 use Rattle.cal_model.proofs.TimeZones.Instants.{same_int-true, same_int-self}
 
 -- all changes of a list come after a moment
-AllAfter : ℤ → List Change → Type 0
+unfoldable pub AllAfter : ℤ → List Change → Type 0
 AllAfter z [] = Unit {0}
 AllAfter z (c ∷ cs) = (z <ℤ c.at) × AllAfter z cs
 
 -- each comes after those before it
-AreInOrder : List Change → Type 0
+unfoldable pub AreInOrder : List Change → Type 0
 AreInOrder [] = Unit {0}
 AreInOrder (c ∷ cs) = AllAfter c.at cs × AreInOrder cs
 
@@ -170,7 +171,7 @@ offset_to before None = before
 offset_to before (Some c) = c.to
 
 -- the last of a list in order that is at or before an instant
-last_by : ℤ → Option Change → List Change → Option Change
+unfoldable pub last_by : ℤ → Option Change → List Change → Option Change
 last_by u best [] = best
 last_by u best (x ∷ xs) = last_by u (if int_le x.at u then Some x else best) xs
 
@@ -260,3 +261,128 @@ unfolding offset_at AreInOrder last_by
 offset_at-table_over moments name parts u =
     offset_among-last_by (table_over moments name parts).before u None (changes moments parts)
     ∙ ap (λ best. offset_to (table_over moments name parts).before best) (last_by-fold u [] (flat_map (part_changes moments) parts) tt)
+
+-- What fixes a list in order.
+
+AllAfter-best : (u : ℤ) (best : Option Change) (cs : List Change) → AllAfter u cs → last_by u best cs ≡ best
+unfolding AllAfter last_by
+AllAfter-best u best [] h = refl
+AllAfter-best u best (c ∷ cs) h = let lt : u <ℤ c.at = h.0 in let test : int_le c.at u ≡ false = grind (arith, ints, lt) in rw test (AllAfter-best u best cs h.1)
+
+-- at its own moment the first of a list in order is the last
+first_holds : (c : Change) (cs : List Change) (best : Option Change) → AllAfter c.at cs → last_by c.at best (c ∷ cs) ≡ Some c
+unfolding last_by
+first_holds c cs best h = let test : int_le c.at c.at ≡ true = grind (arith, ints) in rw test (AllAfter-best c.at (Some c) cs h)
+
+-- before it there is none
+none_before : (u : ℤ) (c : Change) (cs : List Change) → u <ℤ c.at → AllAfter c.at cs → last_by u None (c ∷ cs) ≡ None
+unfolding AllAfter
+none_before u c cs lt h = AllAfter-best u None (c ∷ cs) (lt, AllAfter-earlier u c.at cs lt h)
+
+-- two lists in order that have the same last change at each instant start with the same one
+same_first : (x y : Change) (xs ys : List Change) → AllAfter x.at xs → AllAfter y.at ys → ((u : ℤ) → last_by u None (x ∷ xs) ≡ last_by u None (y ∷ ys)) → x ≡ y
+same_first x y xs ys h k same =
+    by_lt_z x.at y.at
+    (λ lt. let a = first_holds x xs None h in let b = none_before x.at y ys lt k in let e : Some x ≡ None = sym a ∙ same x.at ∙ b in absurd cc)
+    (λ ge. by_lt_z y.at x.at
+    (λ lt. let a = first_holds y ys None k in let b = none_before y.at x xs lt h in let e : Some y ≡ None = sym a ∙ sym (same y.at) ∙ b in absurd cc)
+    (λ le. let at : x.at ≡ y.at = omega (arith, ints, ge, le) in
+    let a = first_holds x xs None h in
+    let b = first_holds y ys None k in
+    let e : Some x ≡ Some y = sym a ∙ same x.at ∙ ap (λ u. last_by u None (y ∷ ys)) at ∙ b in cc))
+
+-- what was seen before a list takes part only where none of the list does
+after_best : (u : ℤ) (c : Change) (cs : List Change) → (last_by u None cs ≡ None) ⊎ (last_by u (Some c) cs ≡ last_by u None cs)
+unfolding last_by
+after_best u c [] = inl refl
+after_best u c (x ∷ xs) = elim (cases_Bool (int_le x.at u)) [
+  | inl w ↦ inr (rw w refl)
+  | inr w ↦ elim (after_best u c xs) [ inl none ↦ inl (rw w none) | inr some ↦ inr (rw w some) ]
+]
+
+none_stays : (u : ℤ) (c : Change) (cs : List Change) → last_by u None cs ≡ None → last_by u (Some c) cs ≡ Some c
+unfolding last_by
+none_stays u c [] h = refl
+none_stays u c (x ∷ xs) h = elim (cases_Bool (int_le x.at u)) [
+  | inl w ↦ absurd (some_first (rw w at h))
+  | inr w ↦ rw w (none_stays u c xs (rw w at h))
+]
+  where
+    some_some : (ys : List Change) (y : Change) → last_by u (Some y) ys ≡ None → ⊥
+    some_some [] y e = absurd cc
+    some_some (z ∷ zs) y e = elim (cases_Bool (int_le z.at u)) [ inl v ↦ some_some zs z (rw v at e) | inr v ↦ some_some zs y (rw v at e) ]
+
+    some_first : last_by u (Some x) xs ≡ None → ⊥
+    some_first e = some_some xs x e
+
+found_after : (t u : ℤ) (best : Option Change) (cs : List Change) (z : Change) → AllAfter t cs → last_by u best cs ≡ Some z → (best ≡ Some z) ⊎ (t <ℤ z.at)
+unfolding AllAfter last_by
+found_after t u best [] z h e = inl e
+found_after t u best (c ∷ cs) z h e = elim (cases_Bool (int_le c.at u)) [
+  | inl w ↦ elim (found_after t u (Some c) cs z h.1 (rw w at e)) [
+    | inl same ↦ inr (let lt : t <ℤ c.at = h.0 in let is : c ≡ z = cc in rw is at lt)
+    | inr lt ↦ inr lt
+  ]
+  | inr w ↦ found_after t u best cs z h.1 (rw w at e)
+]
+
+not_itself : (x : Change) (u : ℤ) (cs : List Change) → AllAfter x.at cs → last_by u None cs ≡ Some x → ⊥
+not_itself x u cs h e = elim (found_after x.at u None cs x h e) [ inl none ↦ absurd cc | inr lt ↦ absurd (omega (arith, ints, lt)) ]
+
+same_rest : (x : Change) (u : ℤ) (xs ys : List Change) → AllAfter x.at xs → AllAfter x.at ys → last_by u (Some x) xs ≡ last_by u (Some x) ys → last_by u None xs ≡ last_by u None ys
+same_rest x u xs ys h k same = elim (after_best u x xs) [
+  | inl a ↦ elim (after_best u x ys) [
+    | inl b ↦ a ∙ sym b
+    | inr b ↦ absurd (not_itself x u ys k (sym b ∙ sym same ∙ none_stays u x xs a))
+  ]
+  | inr a ↦ elim (after_best u x ys) [
+    | inl b ↦ absurd (not_itself x u xs h (sym a ∙ same ∙ none_stays u x ys b))
+    | inr b ↦ sym a ∙ same ∙ b
+  ]
+]
+
+-- two lists in order with the same latest change at each instant are equal
+pub AreInOrder-same : (xs ys : List Change) → AreInOrder xs → AreInOrder ys → ((u : ℤ) → last_by u None xs ≡ last_by u None ys) → xs ≡ ys
+unfolding AreInOrder last_by
+AreInOrder-same [] [] h k same = refl
+AreInOrder-same [] (y ∷ ys) h k same = absurd (let a = first_holds y ys None k.0 in let e : None ≡ Some y = same y.at ∙ a in cc)
+AreInOrder-same (x ∷ xs) [] h k same = absurd (let a = first_holds x xs None h.0 in let e : Some x ≡ None = sym a ∙ same x.at in cc)
+AreInOrder-same (x ∷ xs) (y ∷ ys) h k same =
+    let e : x ≡ y = same_first x y xs ys h.0 k.0 same in
+    let k_x : AllAfter x.at ys = subst (λ (c : Change). AllAfter c.at ys) (sym e) k.0 in
+    ap (λ c. c ∷ xs) e ∙ ap (λ cs. y ∷ cs) (AreInOrder-same xs ys h.1 k.1 (λ u. elim (cases_Bool (int_le x.at u)) [
+      | inl w ↦ same_rest x u xs ys h.0 k_x (let both = subst (λ (c : Change). last_by u None (x ∷ xs) ≡ last_by u None (c ∷ ys)) (sym e) (same u) in rw w at both)
+      | inr w ↦ (let lt : u <ℤ x.at = grind (arith, ints, w) in AllAfter-best u None xs (AllAfter-earlier u x.at xs lt h.0) ∙ sym (AllAfter-best u None ys (AllAfter-earlier u x.at ys lt k_x)))
+    ]))
+
+-- so the changes of a table are the one list in order whose latest change at each instant is that of all parts, the later in the text of two at one moment
+pub changes-is : (moments : List ℕ) (parts : List ZonePart) (cs : List Change) → AreInOrder cs → ((u : ℤ) → last_by u None cs ≡ latest_change u (flat_map (part_changes moments) parts)) → cs ≡ changes moments parts
+unfolding AreInOrder last_by
+changes-is moments parts cs h same =
+    let all = flat_map (part_changes moments) parts in
+    AreInOrder-same cs (fold put_change [] all) h (AreInOrder-fold [] all tt) (λ u. same u ∙ sym (last_by-fold u [] all tt))
+
+-- The offset before all onsets is that from which the earliest change goes, of several at its moment the last.
+pub before-table_over : (moments name : List ℕ) (parts : List ZonePart) (u : ℤ) (c : Change) → latest_change u (flat_map (part_changes moments) parts) ≡ Some c →
+    ((v : ℤ) → v <ℤ u → latest_change v (flat_map (part_changes moments) parts) ≡ None) → (table_over moments name parts).before ≡ c.from
+unfolding AreInOrder last_by
+before-table_over moments name parts u c latest none =
+    first_from_is (changes moments parts) (AreInOrder-fold [] (flat_map (part_changes moments) parts) tt)
+    (last_by-fold u [] (flat_map (part_changes moments) parts) tt ∙ latest)
+    (λ v lt. last_by-fold v [] (flat_map (part_changes moments) parts) tt ∙ none v lt)
+  where
+    first_from_is : (cs : List Change) → AreInOrder cs → last_by u None cs ≡ Some c → ((v : ℤ) → v <ℤ u → last_by v None cs ≡ None) → offset_before cs parts ≡ c.from
+    first_from_is [] order is before = absurd cc
+    first_from_is (x ∷ xs) order is before =
+        by_lt_z u x.at
+        (λ lt. absurd (let e : None ≡ Some c = sym (none_before u x xs lt order.0) ∙ is in cc))
+        (λ ge. by_lt_z x.at u
+        (λ lt. absurd (let e : None ≡ Some x = sym (before x.at lt) ∙ first_holds x xs None order.0 in cc))
+        (λ le. let at : x.at ≡ u = omega (arith, ints, ge, le) in
+        let e : Some x ≡ Some c = sym (first_holds x xs None order.0) ∙ ap (λ t. last_by t None (x ∷ xs)) at ∙ is in
+        let same : x ≡ c = cc in
+        ap (λ (d : Change). d.from) same))
+
+-- where there is no change it is the first part's
+pub before-no_change : (moments name : List ℕ) (parts : List ZonePart) → flat_map (part_changes moments) parts ≡ [] → (table_over moments name parts).before ≡ first_from parts
+before-no_change moments name parts none = ap (λ all. offset_before (fold put_change [] all) parts) none

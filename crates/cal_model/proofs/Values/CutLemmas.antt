@@ -8,8 +8,8 @@ use Rattle.std.proofs.lemmas.Option.{cond_some, none-some, same_Some}
 use Rattle.std.proofs.lemmas.Slice.Eq.{bytes_eq-Decides}
 use Rattle.cal_moment.specs.LengthTexts.{SpellsCount}
 use Rattle.cal_moment.specs.Texts.{digits}
-use Rattle.cal_model.specs.Values.UtcTexts.{number_at}
-use Rattle.cal_model.specs.Values.ValueTexts.{count_of, cut, counted, count_before}
+use Rattle.cal_moment.proofs.DigitLemmas.{length-digits}
+use Rattle.cal_model.specs.Values.ValueTexts.{number_at, count_of, cut, counted, count_before}
 
 -- An option is none or some value
 pub cases_Option : {A : Type 0} → (o : Option A) → (o ≡ None) ⊎ ((x : A) × (o ≡ Some x))
@@ -66,10 +66,6 @@ fold-digits (suc count) n m h =
     ∙ (fold-digits count r (m * 10 + q) (rest_below count n h)
     ∙ (sum_times m q (10 ^ count) r
     ∙ ap₂ (λ a b. m * a + b) (sym (pow-suc 10 count)) (div-add-mod' n (10 ^ count))))
-
-pub length-digits : (count n : ℕ) → length (digits count n) ≡ count
-length-digits zero n = refl
-length-digits (suc count) n = ap suc (length-digits count (n % 10 ^ count))
 
 pub number_at-digits : (count n : ℕ) → n < 10 ^ count → number_at 0 count (digits count n) ≡ n
 number_at-digits count n h =

@@ -8,8 +8,9 @@ use Rattle.std.proofs.lemmas.List.Sums.{fold-append}
 use Rattle.std.proofs.lemmas.Nat.{div-mul-add, mod-mul-add}
 use Rattle.cal_moment.specs.LengthTexts.{SpellsCount}
 use Rattle.cal_moment.specs.Texts.{digits, signed}
+use Rattle.cal_moment.proofs.DigitLemmas.{length-digits}
 use Rattle.cal_model.specs.Values.ValueTexts.{count_of, integer_of}
-use Rattle.cal_model.proofs.Values.CutLemmas.{option_map_some, first_below, rest_below, fold-digits, length-digits, SpellsCount-count_of, count_of-SpellsCount}
+use Rattle.cal_model.proofs.Values.CutLemmas.{option_map_some, first_below, rest_below, fold-digits, SpellsCount-count_of, count_of-SpellsCount}
 
 -- Digits
 

@@ -10,7 +10,7 @@ use Rattle.cal_base.specs.Lines.ContentLines.{is_name, is_name_octet}
 use Rattle.cal_base.specs.Texts.Text.{raised, raised_all}
 use Rattle.cal_model.specs.declared.rule.Rule.{Rule}
 use Rattle.cal_model.specs.Values.ValueTexts.{cut}
-use Rattle.cal_model.specs.Values.RuleTexts.{Part, if_named, part_of, has_name, freq_of, meanings, with_part}
+use Rattle.cal_model.specs.Values.RuleTexts.{Part, if_named, part_of, is_part_named, freq_of, meanings, with_part}
 use Rattle.cal_model.specs.Values.RuleTrial.{value_ends}
 use Rattle.cal_model.proofs.Values.CutLemmas.{cases_Option, option_map_some, and_then_some, if_some, is_same_text, Lacks, lacks-append, cut-append, cut-some}
 use Rattle.cal_model.proofs.Values.ListFronts.{IsAmong, HoldsOfAll, among, no_semicolons}
@@ -114,13 +114,13 @@ whole_parts_lack = grind arith
 
 -- Rows
 
-pub row_of : (P : Row → Type 0) (rows : List Row) (part : Part) (row : Row) → HoldsOfRows P rows → find (λ (row : Row). has_name row.0 part) rows ≡ Some row → P row × (part.0 ≡ row.0)
+pub row_of : (P : Row → Type 0) (rows : List Row) (part : Part) (row : Row) → HoldsOfRows P rows → find (λ (row : Row). is_part_named row.0 part) rows ≡ Some row → P row × (part.0 ≡ row.0)
 row_of P [] part row all e = absurd (none-some row e)
 row_of P (first ∷ rows) part row all e =
-    elim (cases_Bool (has_name first.0 part)) [
-      | inl is ↦ (let same = same_Some first row (sym (ap (λ b. if b then Some first else find (λ (row : Row). has_name row.0 part) rows) is) ∙ e) in
+    elim (cases_Bool (is_part_named first.0 part)) [
+      | inl is ↦ (let same = same_Some first row (sym (ap (λ b. if b then Some first else find (λ (row : Row). is_part_named row.0 part) rows) is) ∙ e) in
           (subst P same all.0, is_same_text part.0 first.0 is ∙ ap (λ (r : Row). r.0) same))
-      | inr not ↦ row_of P rows part row all.1 (sym (ap (λ b. if b then Some first else find (λ (row : Row). has_name row.0 part) rows) not) ∙ e)
+      | inr not ↦ row_of P rows part row all.1 (sym (ap (λ b. if b then Some first else find (λ (row : Row). is_part_named row.0 part) rows) not) ∙ e)
     ]
 
 abbrev pub by_row : Part → Rule → Option Row → Option Rule
@@ -183,7 +183,7 @@ value_front room n v h rule r named e =
     let part : Part = (raised_all n, v ++ h) in
     let u = n ++ (61 ∷ v) in
     let reads : (end : List ℕ) → part_of (u ++ end) ≡ Some (raised_all n, v ++ end) = λ end. ap part_of (append_assoc n (61 ∷ v) end) ∙ part_of-named n (v ++ end) named in
-    elim (cases_Option (find (λ (row : Row). has_name row.0 part) meanings)) [
+    elim (cases_Option (find (λ (row : Row). is_part_named row.0 part) meanings)) [
       | inl none ↦ record {
         end = [];
         tried = value_end_tried [] u room (inl refl);
@@ -214,7 +214,7 @@ value_front room n v h rule r named e =
           })
     ]
   where
-    unknown : raised_all n ≡ codes "FREQ" → find (λ (row : Row). has_name row.0 (raised_all n, v ++ h)) meanings ≡ None → ⊥
+    unknown : raised_all n ≡ codes "FREQ" → find (λ (row : Row). is_part_named row.0 (raised_all n, v ++ h)) meanings ≡ None → ⊥
     unknown is none = none_of_freq (sym (ap (λ name. find (λ (row : Row). bytes_eq name row.0) meanings) is) ∙ none)
 
     own : (rule r : Rule) → (if starts_with nat_eq (raised_all n) (codes "X-") then Some rule else None) ≡ Some r → (if starts_with nat_eq (raised_all n) (codes "X-") then Some rule else None) ≡ Some rule

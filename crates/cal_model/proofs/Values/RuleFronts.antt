@@ -10,7 +10,7 @@ use Rattle.cal_moment.specs.BadPlace.{BeginsOne}
 use Rattle.cal_model.specs.declared.rule.Freq.{Freq}
 use Rattle.cal_model.specs.declared.rule.Freq.TheVariants.{Secondly, Minutely, Hourly, Daily, Weekly, Monthly, Yearly}
 use Rattle.cal_model.specs.declared.rule.Rule.{Rule}
-use Rattle.cal_model.specs.Values.RuleTexts.{Part, if_named, part_of, without_last_empty, has_name, is_each_once, freq_of, freq_in, meanings, with_part, with_parts, every_time, is_ordinal, is_allowed, if_allowed, rule_of_freq, rule_of_parts, rule_in_grammar}
+use Rattle.cal_model.specs.Values.RuleTexts.{Part, if_named, part_of, without_last_empty, is_part_named, is_each_once, freq_of, freq_in, meanings, with_part, with_parts, every_time, is_ordinal, is_allowed, if_allowed, rule_of_freq, rule_of_parts, rule_in_grammar}
 use Rattle.cal_model.specs.Values.ValueTexts.{cut}
 use Rattle.cal_model.specs.Values.BadValues.{Reads}
 use Rattle.cal_model.specs.Values.RuleTrial.{last_part, part_ends, endings, rests, can_go_on, FrontsOfRulesAreTried}
@@ -115,7 +115,7 @@ lesser_by r s k o = record { freq = k.freq; count = k.count; until = k.until; we
 -- what one part leaves
 part_grows : (part : Part) (rule r : Rule) → with_part part rule ≡ Some r → Keeps rule r × ((part.0 ≡ codes "BYDAY") ⊎ (r.by_day ≡ rule.by_day))
 part_grows part rule r e =
-    elim (cases_Option (find (λ (row : Row). has_name row.0 part) meanings)) [
+    elim (cases_Option (find (λ (row : Row). is_part_named row.0 part) meanings)) [
       | inl none ↦ (let same = same_Some rule r (if_some (starts_with nat_eq part.0 (codes "X-")) (Some rule) r (sym (ap (by_row part rule) none) ∙ e)).1 in
           (subst (λ (s : Rule). Keeps rule s) same (keeps_same rule), inr (ap (λ (s : Rule). s.by_day) (sym same))))
       | inr found ↦ (let its = row_of RowGrows meanings part found.0 rows_grow found.1 in
@@ -129,7 +129,7 @@ parts_keep (part ∷ parts) rule r e =
     let first = and_then_some (with_parts parts) (with_part part rule) r e in
     keeps_then rule first.0 r (part_grows part rule first.0 first.1).0 (parts_keep parts first.0 r first.2)
 
-days_of_other : (part : Part) (rule r : Rule) → has_name (codes "BYDAY") part ≡ false → with_part part rule ≡ Some r → r.by_day ≡ rule.by_day
+days_of_other : (part : Part) (rule r : Rule) → is_part_named (codes "BYDAY") part ≡ false → with_part part rule ≡ Some r → r.by_day ≡ rule.by_day
 days_of_other part rule r other e =
     elim (part_grows part rule r e).1 [
       | inl is ↦ absurd (false≢true (sym other ∙ ap (λ n. bytes_eq n (codes "BYDAY")) is))
@@ -140,11 +140,11 @@ or_false : (a b : Bool) → (a || b) ≡ false → (a ≡ false) × (b ≡ false
 or_false true b e = absurd (false≢true (sym e))
 or_false false b e = (refl, e)
 
-days_of_others : (parts : List Part) (rule r : Rule) → list_any (has_name (codes "BYDAY")) parts ≡ false → with_parts parts rule ≡ Some r → r.by_day ≡ rule.by_day
+days_of_others : (parts : List Part) (rule r : Rule) → list_any (is_part_named (codes "BYDAY")) parts ≡ false → with_parts parts rule ≡ Some r → r.by_day ≡ rule.by_day
 days_of_others [] rule r others e = ap (λ (s : Rule). s.by_day) (sym (same_Some rule r e))
 days_of_others (part ∷ parts) rule r others e =
     let first = and_then_some (with_parts parts) (with_part part rule) r e in
-    let none = or_false (has_name (codes "BYDAY") part) (list_any (has_name (codes "BYDAY")) parts) others in
+    let none = or_false (is_part_named (codes "BYDAY") part) (list_any (is_part_named (codes "BYDAY")) parts) others in
     days_of_others parts first.0 r none.1 first.2 ∙ days_of_other part rule first.0 none.0 first.1
 
 -- Names
@@ -166,7 +166,7 @@ names_short k (t ∷ fs) parts all e =
 -- no part of the first has a name of the second
 Apart : List Part → List Part → Type 0
 Apart [] others = Unit {0}
-Apart (part ∷ parts) others = (list_any (has_name part.0) others ≡ false) × Apart parts others
+Apart (part ∷ parts) others = (list_any (is_part_named part.0) others ≡ false) × Apart parts others
 
 any-split : {A : Type 0} → (test : A → Bool) (a b : List A) → list_any test (a ++ b) ≡ false → (list_any test a ≡ false) × (list_any test b ≡ false)
 any-split test [] b e = (refl, e)
@@ -189,8 +189,8 @@ once-split : (a b : List Part) → is_each_once (a ++ b) ≡ true → (is_each_o
 unfolding Apart
 once-split [] b e = (refl, tt, e)
 once-split (part ∷ a) b e =
-    let parts = and_parts (not (list_any (has_name part.0) (a ++ b))) (is_each_once (a ++ b)) e in
-    let apart = any-split (has_name part.0) a b (not_true (list_any (has_name part.0) (a ++ b)) parts.0) in
+    let parts = and_parts (not (list_any (is_part_named part.0) (a ++ b))) (is_each_once (a ++ b)) e in
+    let apart = any-split (is_part_named part.0) a b (not_true (list_any (is_part_named part.0) (a ++ b)) parts.0) in
     let rest = once-split a b parts.1 in
     (ap₂ (λ p q. not p && q) apart.0 rest.0, (apart.1, rest.1), rest.2)
 
@@ -198,8 +198,8 @@ once-join : (a b : List Part) → is_each_once a ≡ true → Apart a b → is_e
 unfolding Apart
 once-join [] b x apart y = y
 once-join (part ∷ a) b x apart y =
-    let parts = and_parts (not (list_any (has_name part.0) a)) (is_each_once a) x in
-    ap₂ (λ p q. not p && q) (any-join (has_name part.0) a b (not_true (list_any (has_name part.0) a) parts.0) apart.0) (once-join a b parts.1 apart.1 y)
+    let parts = and_parts (not (list_any (is_part_named part.0) a)) (is_each_once a) x in
+    ap₂ (λ p q. not p && q) (any-join (is_part_named part.0) a b (not_true (list_any (is_part_named part.0) a) parts.0) apart.0) (once-join a b parts.1 apart.1 y)
 
 -- a test of two texts, the other way round
 other_way : (a b : List ℕ) → bytes_eq a b ≡ false → bytes_eq b a ≡ false
@@ -214,7 +214,7 @@ apart_made : (k : ℕ) (before behind : List Part) (part made : Part) → Apart 
 unfolding Apart AreShort
 apart_made k [] behind part made apart short name = tt
 apart_made k (a ∷ before) behind part made apart short name =
-    let other : has_name a.0 part ≡ false = (or_false (has_name a.0 part) (list_any (has_name a.0) behind) apart.0).0 in
+    let other : is_part_named a.0 part ≡ false = (or_false (is_part_named a.0 part) (list_any (is_part_named a.0) behind) apart.0).0 in
     (ap (λ b. b || false) (elim name [ inl same ↦ (ap (λ n. bytes_eq n a.0) same ∙ other) | inr long ↦ long_name a.0 made.0 (omega (arith, long, short.0)) ]), apart_made k before behind part made apart.1 short.1 name)
   where
     long_name : (n m : List ℕ) → length n < length m → bytes_eq m n ≡ false
@@ -225,20 +225,20 @@ apart_made k (a ∷ before) behind part made apart short name =
         ]
 
 -- one more part, whose name none of the others has
-apart_more : (before others : List Part) (more : Part) → Apart before others → list_any (has_name more.0) before ≡ false → Apart before (others ++ (more ∷ []))
+apart_more : (before others : List Part) (more : Part) → Apart before others → list_any (is_part_named more.0) before ≡ false → Apart before (others ++ (more ∷ []))
 unfolding Apart
 apart_more [] others more apart none = tt
 apart_more (a ∷ before) others more apart none =
-    let first = or_false (has_name more.0 a) (list_any (has_name more.0) before) none in
-    (any-join (has_name a.0) others (more ∷ []) apart.0 (ap (λ b. b || false) (other_way a.0 more.0 first.0)), apart_more before others more apart.1 first.1)
+    let first = or_false (is_part_named more.0 a) (list_any (is_part_named more.0) before) none in
+    (any-join (is_part_named a.0) others (more ∷ []) apart.0 (ap (λ b. b || false) (other_way a.0 more.0 first.0)), apart_more before others more apart.1 first.1)
 
 -- parts that are apart from others lack a name that the others have
-apart_lacks : (name : List ℕ) (before others : List Part) → Apart before others → list_any (has_name name) others ≡ true → list_any (has_name name) before ≡ false
+apart_lacks : (name : List ℕ) (before others : List Part) → Apart before others → list_any (is_part_named name) others ≡ true → list_any (is_part_named name) before ≡ false
 unfolding Apart
 apart_lacks name [] others apart has = refl
 apart_lacks name (a ∷ before) others apart has =
-    let first : has_name name a ≡ false = elim (cases_Bool (has_name name a)) [
-      | inl is ↦ absurd (false≢true (sym apart.0 ∙ (ap (λ n. list_any (has_name n) others) (is_same_text a.0 name is) ∙ has)))
+    let first : is_part_named name a ≡ false = elim (cases_Bool (is_part_named name a)) [
+      | inl is ↦ absurd (false≢true (sym apart.0 ∙ (ap (λ n. list_any (is_part_named n) others) (is_same_text a.0 name is) ∙ has)))
       | inr other ↦ other
     ] in
     ap₂ (λ p q. p || q) first (apart_lacks name before others apart.1 has)
@@ -398,24 +398,24 @@ or_with_true false = refl
 rest_keeps : (before : List Part) (part : Part) (behind : List Part) (f : Freq) (s t r : Rule) → Apart before (part ∷ behind) → is_each_once (part ∷ behind) ≡ true → with_parts before (every_time f) ≡ Some s → with_part part s ≡ Some t → with_parts behind t ≡ Some r → Lesser t r
 rest_keeps before part behind f s t r apart once first second third =
     lesser_by t r (parts_keep behind t r third)
-    (elim (cases_Bool (list_any (has_name (codes "BYDAY")) behind)) [
+    (elim (cases_Bool (list_any (is_part_named (codes "BYDAY")) behind)) [
       | inl has ↦ (λ some. absurd (false≢true (sym (ap (list_any is_ordinal) (no_days has)) ∙ some)))
       | inr none ↦ (λ some. ap (list_any is_ordinal) (days_of_others behind t r none third) ∙ some)
     ])
   where
-    not_behind : not (list_any (has_name part.0) behind) ≡ true
-    not_behind = (and_parts (not (list_any (has_name part.0) behind)) (is_each_once behind) once).0
+    not_behind : not (list_any (is_part_named part.0) behind) ≡ true
+    not_behind = (and_parts (not (list_any (is_part_named part.0) behind)) (is_each_once behind) once).0
 
-    other_part : list_any (has_name (codes "BYDAY")) behind ≡ true → has_name (codes "BYDAY") part ≡ false
-    other_part has = elim (cases_Bool (has_name (codes "BYDAY") part)) [
-      | inl is ↦ absurd (false≢true (sym (not_true (list_any (has_name part.0) behind) not_behind) ∙ (ap (λ n. list_any (has_name n) behind) (is_same_text part.0 (codes "BYDAY") is) ∙ has)))
+    other_part : list_any (is_part_named (codes "BYDAY")) behind ≡ true → is_part_named (codes "BYDAY") part ≡ false
+    other_part has = elim (cases_Bool (is_part_named (codes "BYDAY") part)) [
+      | inl is ↦ absurd (false≢true (sym (not_true (list_any (is_part_named part.0) behind) not_behind) ∙ (ap (λ n. list_any (is_part_named n) behind) (is_same_text part.0 (codes "BYDAY") is) ∙ has)))
       | inr other ↦ other
     ]
 
-    no_days : list_any (has_name (codes "BYDAY")) behind ≡ true → t.by_day ≡ []
+    no_days : list_any (is_part_named (codes "BYDAY")) behind ≡ true → t.by_day ≡ []
     no_days has =
         days_of_other part s t (other_part has) second
-        ∙ days_of_others before (every_time f) s (apart_lacks (codes "BYDAY") before (part ∷ behind) apart (ap (λ b. has_name (codes "BYDAY") part || b) has ∙ or_with_true (has_name (codes "BYDAY") part))) first
+        ∙ days_of_others before (every_time f) s (apart_lacks (codes "BYDAY") before (part ∷ behind) apart (ap (λ b. is_part_named (codes "BYDAY") part || b) has ∙ or_with_true (is_part_named (codes "BYDAY") part))) first
 
 -- a rule that goes on behind a part that is broken off
 goes_on : (front : List ℕ) (fs : List (List ℕ)) (u h : List ℕ) (before : List Part) (part : Part) (behind : List Part) (f : Freq) (r : Rule) → BrokenOff front fs u before → AreShort (length front) before → length u ≤ length front → part_of (u ++ h) ≡ Some part → ArePartsOf (before ++ (part ∷ behind)) f r → can_go_on front ≡ true
@@ -434,20 +434,20 @@ goes_on front fs u h before part behind f r broken short within reads whole =
     found_rest front u made.end [] made.result broken.last made.tried (inl refl)
     (made_alone front fs u made.end before made.made f made.result broken made.lacks made.reads
     (record { once = once-join before (made.made ∷ []) once.0 apart refl; freq = freq; said = said; allowed = allowed })) in
-    elim (cases_Option (find (has_name (codes "FREQ")) before)) [
+    elim (cases_Option (find (is_part_named (codes "FREQ")) before)) [
       | inr q ↦ alone
-          (ap (option_and_then (λ (part : Part). freq_of part.1)) (find-left (has_name (codes "FREQ")) before (made.made ∷ []) q.0 q.1 ∙ sym (find-left (has_name (codes "FREQ")) before (part ∷ behind) q.0 q.1))
+          (ap (option_and_then (λ (part : Part). freq_of part.1)) (find-left (is_part_named (codes "FREQ")) before (made.made ∷ []) q.0 q.1 ∙ sym (find-left (is_part_named (codes "FREQ")) before (part ∷ behind) q.0 q.1))
           ∙ whole.freq)
-      | inl none ↦ (let old = find-right (has_name (codes "FREQ")) before (part ∷ behind) none in
-          let new = find-right (has_name (codes "FREQ")) before (made.made ∷ []) none in
-          elim (cases_Bool (has_name (codes "FREQ") made.made)) [
+      | inl none ↦ (let old = find-right (is_part_named (codes "FREQ")) before (part ∷ behind) none in
+          let new = find-right (is_part_named (codes "FREQ")) before (made.made ∷ []) none in
+          elim (cases_Bool (is_part_named (codes "FREQ") made.made)) [
             | inl is ↦ (let its = made.freq (is_same_text made.made.0 (codes "FREQ") is) in
-                let here : find (has_name (codes "FREQ")) (part ∷ behind) ≡ Some part = ap (λ b. if b then Some part else find (has_name (codes "FREQ")) behind) (ap (λ n. bytes_eq n (codes "FREQ")) its.0) in
-                let there : find (has_name (codes "FREQ")) (made.made ∷ []) ≡ Some made.made = ap (λ b. if b then Some made.made else None) is in
+                let here : find (is_part_named (codes "FREQ")) (part ∷ behind) ≡ Some part = ap (λ b. if b then Some part else find (is_part_named (codes "FREQ")) behind) (ap (λ n. bytes_eq n (codes "FREQ")) its.0) in
+                let there : find (is_part_named (codes "FREQ")) (made.made ∷ []) ≡ Some made.made = ap (λ b. if b then Some made.made else None) is in
                 let freq : freq_of part.1 ≡ Some f = sym (ap (option_and_then (λ (part : Part). freq_of part.1)) (old.1 ∙ here)) ∙ whole.freq in
                 alone (ap (option_and_then (λ (part : Part). freq_of part.1)) (new.1 ∙ there) ∙ (its.1 ∙ freq)))
-            | inr other ↦ (let more = find-right (has_name (codes "FREQ")) before (made.made ∷ freq_part f ∷ []) none in
-                let there : find (has_name (codes "FREQ")) (made.made ∷ freq_part f ∷ []) ≡ Some (freq_part f) = ap (λ b. if b then Some made.made else Some (freq_part f)) other in
+            | inr other ↦ (let more = find-right (is_part_named (codes "FREQ")) before (made.made ∷ freq_part f ∷ []) none in
+                let there : find (is_part_named (codes "FREQ")) (made.made ∷ freq_part f ∷ []) ≡ Some (freq_part f) = ap (λ b. if b then Some made.made else Some (freq_part f)) other in
                 found_rest front u made.end (59 ∷ freq_text f) made.result broken.last made.tried (freq_ending f)
                 (made_with_freq front fs u made.end before made.made f made.result broken made.lacks made.reads
                 (record {

@@ -8,16 +8,12 @@ use Rattle.cal_moment.specs.declared.stamp.Day.{Day}
 use Rattle.cal_moment.specs.declared.stamp.Local.{Local}
 use Rattle.cal_moment.specs.Calendar.{IsDate, month_length, day_of_date, day_since_1970}
 use Rattle.cal_moment.specs.Texts.{digits, date_text, time_text, utc_text, sign_text, signed, SpellsDate, SpellsTime, SpellsDateTime, SpellsSecond, SpellsOffset}
-use Rattle.cal_model.specs.Values.UtcTexts.{number_at}
-use Rattle.cal_model.specs.Values.ValueTexts.{is_date, is_time, date_of, time_of, local_time, date_time_of, is_negative, second_text, offset_of}
+use Rattle.cal_moment.proofs.CalendarLaws.{month_length-bounds}
+use Rattle.cal_model.specs.Values.ValueTexts.{number_at, is_calendar_date, is_clock_time, date_of, time_of, local_time, date_time_of, is_negative, second_text, offset_of}
 use Rattle.cal_model.proofs.Values.CutLemmas.{if_some, same_text, is_same_text}
 
 abbrev as_day : ℤ → Day
 as_day n = record { 0 = n }
-
--- a month has at most 31 days
-month_is_short : (y m : ℕ) → month_length y m ≤ 31
-month_is_short y m = grind arith
 
 -- DATE
 
@@ -32,13 +28,13 @@ module _ (y m d : ℕ) (y4 : y < 10000) (m2 : m < 100) (d2 : d < 100) where
   day_at = omega arith
 
 abbrev date_by : List ℕ → ℕ → ℕ → ℕ → Option Day
-date_by text y m d = if is_date y m d && bytes_eq text (date_text y m d) then Some (as_day (day_since_1970 (day_of_date y m d))) else None
+date_by text y m d = if is_calendar_date y m d && bytes_eq text (date_text y m d) then Some (as_day (day_since_1970 (day_of_date y m d))) else None
 
-in_calendar : (y m d : ℕ) → IsDate y m d → is_date y m d ≡ true
+in_calendar : (y m d : ℕ) → IsDate y m d → is_calendar_date y m d ≡ true
 in_calendar y m d date = λ i.
     le-leb 1 y date.0.0 i && le-leb y 9999 date.0.1 i && le-leb 1 m date.1.0 i && le-leb m 12 date.1.1 i && le-leb 1 d date.2.0 i && le-leb d (month_length y m) date.2.1 i
 
-from_calendar : (y m d : ℕ) → is_date y m d ≡ true → IsDate y m d
+from_calendar : (y m d : ℕ) → is_calendar_date y m d ≡ true → IsDate y m d
 from_calendar y m d e =
     let last_day = and_parts _ (nat_le d (month_length y m)) e in
     let first_day = and_parts _ (nat_le 1 d) last_day.0 in
@@ -51,7 +47,7 @@ pub date_of-date_text : (y m d : ℕ) → IsDate y m d → date_of (date_text y 
 unfolding date_of
 date_of-date_text y m d date =
     let text = date_text y m d in
-    let short = month_is_short y m in
+    let short = (month_length-bounds y m).1 in
     let y4 : y < 10000 = omega (arith, date.0.1) in
     let m2 : m < 100 = omega (arith, date.1.1) in
     let d2 : d < 100 = omega (arith, date.2.1, short) in
@@ -65,8 +61,8 @@ date_of-SpellsDate text day s =
 
 date_by-some : (text : List ℕ) (day : Day) (y m d : ℕ) → date_by text y m d ≡ Some day → SpellsDate text day
 date_by-some text day y m d e =
-    let found = cond_some (is_date y m d && bytes_eq text (date_text y m d)) (as_day (day_since_1970 (day_of_date y m d))) day e in
-    let both = and_parts (is_date y m d) (bytes_eq text (date_text y m d)) found.0 in
+    let found = cond_some (is_calendar_date y m d && bytes_eq text (date_text y m d)) (as_day (day_since_1970 (day_of_date y m d))) day e in
+    let both = and_parts (is_calendar_date y m d) (bytes_eq text (date_text y m d)) found.0 in
     record { year = y; month = m; day = d; date = from_calendar y m d both.0; spelled = is_same_text text (date_text y m d) both.1; number = sym (ap (λ (a : Day). a.0) found.1) }
 
 -- A text that has a day spells its date.
@@ -87,7 +83,7 @@ module _ (h n s : ℕ) (h2 : h < 100) (n2 : n < 100) (s2 : s < 100) where
   second_at = omega arith
 
 abbrev time_by : List ℕ → ℕ → ℕ → ℕ → Option ℕ
-time_by text h n s = if is_time h n s && bytes_eq text (time_text h n s) then Some (3600 * h + 60 * n + min s 59) else None
+time_by text h n s = if is_clock_time h n s && bytes_eq text (time_text h n s) then Some (3600 * h + 60 * n + min s 59) else None
 
 pub time_of-time_text : (h n s : ℕ) → h ≤ 23 → n ≤ 59 → s ≤ 60 → time_of (time_text h n s) ≡ Some (3600 * h + 60 * n + min s 59)
 unfolding time_of
@@ -106,8 +102,8 @@ time_of-SpellsTime text value s =
 
 time_by-some : (text : List ℕ) (value h n s : ℕ) → time_by text h n s ≡ Some value → SpellsTime text value
 time_by-some text value h n s e =
-    let found = cond_some (is_time h n s && bytes_eq text (time_text h n s)) (3600 * h + 60 * n + min s 59) value e in
-    let both = and_parts (is_time h n s) (bytes_eq text (time_text h n s)) found.0 in
+    let found = cond_some (is_clock_time h n s && bytes_eq text (time_text h n s)) (3600 * h + 60 * n + min s 59) value e in
+    let both = and_parts (is_clock_time h n s) (bytes_eq text (time_text h n s)) found.0 in
     let second = and_parts (nat_le h 23 && nat_le n 59) (nat_le s 60) both.0 in
     let minute = and_parts (nat_le h 23) (nat_le n 59) second.0 in
     record { hour = h; minute = n; second = s; hour_in = leb-true h 23 minute.0; minute_in = leb-true n 59 minute.1; second_in = leb-true s 60 second.1; spelled = is_same_text text (time_text h n s) both.1; number = sym found.1 }

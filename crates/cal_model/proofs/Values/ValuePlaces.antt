@@ -13,13 +13,11 @@ use Rattle.cal_moment.specs.declared.stamp.Local.{Local}
 use Rattle.cal_moment.specs.declared.stamp.Stamp.TheVariants.{Date, Utc as AtUtc}
 use Rattle.cal_model.specs.declared.rule.Rule.{Rule}
 use Rattle.cal_model.specs.Values.ValueTexts.{date_of, date_time_of, length_of, offset_of, moment_of, utc_of_local}
-use Rattle.cal_model.specs.Values.StampTexts.{param_is, zone_of, stamp_of_time, time_stamp, date_or_time, utc_stamp, is_named, utc_names, is_date_text, stamp_of}
+use Rattle.cal_model.specs.Values.StampTexts.{param_is, line_zone, stamp_of_time, time_stamp, date_or_time, utc_stamp, is_one_of, utc_names, is_date_text, stamp_of}
 use Rattle.cal_model.specs.Values.RuleTexts.{rule_in_grammar, is_within_bound, list_of}
 use Rattle.cal_model.specs.Values.BadValues.{Reads, IsBadRuleAt}
 use Rattle.cal_model.specs.Values.RuleTrial.{can_go_on}
 use Rattle.cal_moment.specs.declared.stamp.Utc.{Utc}
-use Rattle.cal_model.specs.Values.UtcTexts.{utc_of}
-use Rattle.cal_model.proofs.Values.UtcLemmas.{SpellsDateTime-utc_of}
 use Rattle.cal_model.proofs.Values.BadValueLaws.{joined, firsts, final, first_piece, pieces-append, pieces-lacks, bad_by_same, bad_by_next}
 use Rattle.cal_model.proofs.Values.CutLemmas.{option_map_some, Lacks, lacks-append}
 use Rattle.cal_model.proofs.Values.LengthLaws.{length_of-SpellsLength, SpellsLength-length_of}
@@ -65,15 +63,15 @@ time_is_long text is =
 
 module _ (zones : List (List ℕ)) (line : Line) (no_date : param_is (codes "VALUE") (codes "DATE") line ≡ false) where
   -- what a text is by its length
-  by_length : (text : List ℕ) (eight : Bool) → (length text == 8) ≡ eight → date_or_time zones line text ≡ (if eight then option_map Date (date_of text) else time_stamp (zone_of zones line) text)
+  by_length : (text : List ℕ) (eight : Bool) → (length text == 8) ≡ eight → date_or_time zones line text ≡ (if eight then option_map Date (date_of text) else time_stamp (line_zone zones line) text)
   by_length text eight e =
-      ap₂ (λ a b. if a || b then option_map Date (date_of text) else time_stamp (zone_of zones line) text) no_date e
+      ap₂ (λ a b. if a || b then option_map Date (date_of text) else time_stamp (line_zone zones line) text) no_date e
 
   time_is_stamp : (text : List ℕ) → IsIn SpellsDateTime text → IsIn (Reads (date_or_time zones line)) text
   time_is_stamp text is =
       let long = time_is_long text is in (
-        stamp_of_time (zone_of zones line) is.0,
-        by_length text false (ne_eqb (length text) 8 (λ e. omega (arith, e, long))) ∙ ap (option_map (stamp_of_time (zone_of zones line))) (date_time_of-SpellsDateTime text is.0 is.1),
+        stamp_of_time (line_zone zones line) is.0,
+        by_length text false (ne_eqb (length text) 8 (λ e. omega (arith, e, long))) ∙ ap (option_map (stamp_of_time (line_zone zones line))) (date_time_of-SpellsDateTime text is.0 is.1),
       )
 
   -- a front of a stamp is a front of a time
@@ -83,7 +81,7 @@ module _ (zones : List (List ℕ)) (line : Line) (no_date : param_is (codes "VAL
       elim (cases_Bool (length text == 8)) [
         | inl eight ↦ (let day = option_map_some Date (date_of text) begins.1.0 (sym (by_length text true eight) ∙ begins.1.1) in
             (begins.0 ++ codes "T000000", subst (λ (t : List ℕ). IsIn SpellsDateTime t) (append_assoc front begins.0 (codes "T000000")) (with_midnight text (day.0, SpellsDate-date_of text day.0 day.1))))
-        | inr other ↦ (let time = option_map_some (stamp_of_time (zone_of zones line)) (date_time_of text) begins.1.0 (sym (by_length text false other) ∙ begins.1.1) in
+        | inr other ↦ (let time = option_map_some (stamp_of_time (line_zone zones line)) (date_time_of text) begins.1.0 (sym (by_length text false other) ∙ begins.1.1) in
             (begins.0, (time.0, SpellsDateTime-date_time_of text time.0 time.1)))
       ]
 
@@ -200,25 +198,15 @@ time_lacks_comma text is =
 -- No stamp has a comma, so a list of stamps goes on where its last item does.
 pub stamp_lacks_comma : (zones : List (List ℕ)) (line : Line) (text : List ℕ) → IsIn (Reads (stamp_of zones line)) text → Lacks 44 text
 stamp_lacks_comma zones line text is =
-    elim (cases_Bool (is_named utc_names line)) [
+    elim (cases_Bool (is_one_of utc_names line)) [
       | inl utc ↦ (let moment = option_map_some AtUtc (moment_of text) is.0 (sym (ap (λ b. if b then utc_stamp text else date_or_time zones line text) utc) ∙ is.1) in
           let time = option_map_some (λ (time : Local × Bool). utc_of_local time.0) (date_time_of text) moment.0 moment.1 in
           time_lacks_comma text (time.0, SpellsDateTime-date_time_of text time.0 time.1))
       | inr other ↦ (let stamp = sym (ap (λ b. if b then utc_stamp text else date_or_time zones line text) other) ∙ is.1 in
           elim (cases_Bool (is_date_text line text)) [
-            | inl date ↦ (let day = option_map_some Date (date_of text) is.0 (sym (ap (λ b. if b then option_map Date (date_of text) else time_stamp (zone_of zones line) text) date) ∙ stamp) in
+            | inl date ↦ (let day = option_map_some Date (date_of text) is.0 (sym (ap (λ b. if b then option_map Date (date_of text) else time_stamp (line_zone zones line) text) date) ∙ stamp) in
                 date_lacks_comma text (day.0, SpellsDate-date_of text day.0 day.1))
-            | inr not ↦ (let time = option_map_some (stamp_of_time (zone_of zones line)) (date_time_of text) is.0 (sym (ap (λ b. if b then option_map Date (date_of text) else time_stamp (zone_of zones line) text) not) ∙ stamp) in
+            | inr not ↦ (let time = option_map_some (stamp_of_time (line_zone zones line)) (date_time_of text) is.0 (sym (ap (λ b. if b then option_map Date (date_of text) else time_stamp (line_zone zones line) text) not) ∙ stamp) in
                 time_lacks_comma text (time.0, SpellsDateTime-date_time_of text time.0 time.1))
           ])
     ]
-
--- The moment of a text with its Z is the one that is read with or without it.
-pub moment_of-utc_of : (text : List ℕ) (at : ℤ) → utc_of text ≡ Some at → moment_of text ≡ Some (record { 0 = at })
-moment_of-utc_of text at e =
-    let local = SpellsDateTime-utc_of text at e in
-    ap (option_map (λ (time : Local × Bool). utc_of_local time.0)) (date_time_of-SpellsDateTime text (local.0, true) local.1)
-    ∙ ap (λ n. Some (as_moment n)) (sym local.2)
-  where
-    as_moment : ℤ → Utc
-    as_moment n = record { 0 = n }

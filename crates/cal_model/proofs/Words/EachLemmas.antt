@@ -1,4 +1,4 @@
--- What holds of each element of a list, through finds, filters and maps.
+-- What holds of each element of a list, through finds, filters and maps: by recursion, as std's `AllByRecursion`. `AllLemmas` has the same subject by places.
 use Rattle.std.proofs.Common.{◌≡◌, List, [], ◌∷◌, ◌++◌, map, refl, sym, Bool, true, false}
 use Rattle.std.specs.Prelude.{Option, Some, None, find, filter, filter_map, flat_map, ◌||◌, ◌&&◌, option_map, if◌then◌else◌}
 use Rattle.std.specs.List.{list_any, AllByRecursion as Each, cons_option}

@@ -1,5 +1,6 @@
 -- The privileges on a calendar: which there are and what each contains, and which of them a user holds (RFC 3744, 3, 5.3 and 5.5; RFC 4791, 6.1.1).
--- A set of privileges is a sum of their bits. What is held is a union over all grants, and knows no order of them.
+-- A set of privileges is a sum of their bits, and what is held is a union over all grants, whatever their order. Who asks is the number of a user and the numbers
+-- of the groups that the user is in (RFC 3744, 2); so far no grant is to a group.
 use Rattle.std.specs.Prelude.{ℕ, Bool, true, false, not, ◌&&◌, ◌||◌, ◌==◌, ◌≤◌, if◌then◌else◌, List, [], ◌∷◌, ◌++◌, map, filter, fold, bit_and, bit_or, bytes_eq, Option, Some, None, codes}
 use Rattle.std.specs.Int.{bit_at}
 use Rattle.std.specs.List.{list_any}
@@ -8,7 +9,7 @@ use Rattle.cal_model.specs.declared.privilege.Who.{Who}
 use Rattle.cal_model.specs.declared.privilege.Who.TheVariants.{Everyone, Owner, Principal}
 use Rattle.cal_model.specs.declared.property.PropName.{PropName}
 use Rattle.cal_model.specs.Words.Namespaces.{dav, caldav}
-use Rattle.cal_model.specs.Words.Numbers.{is_empty}
+use Rattle.cal_model.specs.Words.Lists.{is_empty}
 
 -- Bits
 
@@ -87,34 +88,35 @@ set_named name = if is_empty (sets_named name) then None else Some (united (sets
 
 -- What is held
 
--- a grant is one to this user, by number; one to the owner adds nothing, since the owner holds all. Groups are one row more here
-abbrev pub fits_user : ℕ → Who → Bool
-fits_user user Everyone = true
-fits_user user Owner = false
-fits_user user (Principal number) = number == user
+-- whether a grant is to a user, who is in these groups; one to the owner adds nothing, since the owner holds all
+abbrev pub fits_user : List ℕ → ℕ → Who → Bool
+fits_user groups user Everyone = true
+fits_user groups user Owner = false
+fits_user groups user (Principal number) = number == user
 
 -- what the grants give to a user
-abbrev pub granted : List Grant → ℕ → ℕ
-granted grants user = united (map (λ (grant : Grant). grant.held.0) (filter (λ (grant : Grant). fits_user user grant.who) grants))
+abbrev pub granted : List ℕ → List Grant → ℕ → ℕ
+granted groups grants user =
+    united (map (λ (grant : Grant). grant.held.0) (filter (λ (grant : Grant). fits_user groups user grant.who) grants))
 
 -- the privileges that a user holds on a calendar, and on its objects: the owner all, another user the union of the grants
-unfoldable pub privileges_held : List Grant → ℕ → ℕ → ℕ
-privileges_held grants owner user = if owner == user then all else granted grants user
+unfoldable pub privileges_held : List ℕ → List Grant → ℕ → ℕ → ℕ
+privileges_held groups grants owner user = if owner == user then all else granted groups grants user
 
 -- a set has all of some privileges
 abbrev pub has_all : ℕ → ℕ → Bool
 has_all set wanted = bit_and set wanted == wanted
 
 -- each privilege of one set is in another
-abbrev pub IsWithin : ℕ → ℕ → Type 0
-IsWithin set other = (place : ℕ) → bit_at set place ≤ bit_at other place
+abbrev pub IsSubset : ℕ → ℕ → Type 0
+IsSubset set other = (place : ℕ) → bit_at set place ≤ bit_at other place
 
 -- What is seen
 
 -- a calendar is visible to a user who holds some privilege on it
-abbrev pub is_visible : List Grant → ℕ → ℕ → Bool
-is_visible grants owner user = not (privileges_held grants owner user == 0)
+abbrev pub is_visible : List ℕ → List Grant → ℕ → ℕ → Bool
+is_visible groups grants owner user = not (privileges_held groups grants owner user == 0)
 
 -- a home is visible to its owner, and to others with one of its calendars
-abbrev pub is_home_visible : List (List Grant) → ℕ → ℕ → Bool
-is_home_visible calendars owner user = (owner == user) || list_any (λ grants. is_visible grants owner user) calendars
+abbrev pub is_home_visible : List ℕ → List (List Grant) → ℕ → ℕ → Bool
+is_home_visible groups calendars owner user = (owner == user) || list_any (λ grants. is_visible groups grants owner user) calendars

@@ -1,5 +1,5 @@
 -- When a calendar is busy (RFC 4791, 7.10): the class of each second, and the longest runs of one class in a range.
--- A class is told for each second by itself; nothing here sweeps over starts and ends.
+-- A class is told for each second by itself, and runs join the seconds. A body may sweep over starts and ends: `AreRuns` says what its list has to be, and one list alone is that (`BusyRunLaws`).
 use Rattle.std.specs.Prelude.{◌≡◌, ◌≢◌, ℕ, zero, suc, Bool, true, false, ◌&&◌, if◌then◌else◌, List, [], ◌∷◌, filter, flat_map, Option, Some, None, ℤ, pos, ◌+ℤ◌, ◌-ℤ◌, int_le, int_lt, ◌≤ℤ◌, ◌<ℤ◌, nat_abs, AllPairs, All}
 use Rattle.cal_model.specs.declared.object.Class.{Class}
 use Rattle.cal_model.specs.declared.object.Class.TheVariants.{Busy, Unavailable, Tentative}
@@ -7,11 +7,11 @@ use Rattle.cal_model.specs.declared.object.Object.{Object}
 use Rattle.cal_model.specs.declared.row.Range.{Range}
 use Rattle.cal_model.specs.declared.zone.ZoneTable.{ZoneTable}
 use Rattle.cal_model.specs.Busy.BusyTimes.{BusyTime, busy_times}
-use Rattle.cal_model.specs.Words.Numbers.{same_int}
+use Rattle.cal_model.specs.Words.Integers.{same_int}
 
--- a time holds its start and not its end
-abbrev pub holds : ℤ → BusyTime → Bool
-holds t time = int_le time.start t && int_lt t time.end
+-- a time covers its start and not its end
+abbrev pub covers : ℤ → BusyTime → Bool
+covers t time = int_le time.start t && int_lt t time.end
 
 -- BUSY is the greatest class, then comes BUSY-UNAVAILABLE, then BUSY-TENTATIVE
 abbrev pub greater : Class → Option Class → Class
@@ -25,9 +25,9 @@ abbrev pub greatest_class : List BusyTime → Option Class
 greatest_class [] = None
 greatest_class (time ∷ times) = Some (greater time.class (greatest_class times))
 
--- The class of a second: the greatest of the times that hold it, or none.
+-- The class of a second: the greatest of the times that cover it, or none.
 abbrev pub class_at : List BusyTime → ℤ → Option Class
-class_at times t = greatest_class (filter (holds t) times)
+class_at times t = greatest_class (filter (covers t) times)
 
 abbrev pub same_class : Class → Class → Bool
 same_class Busy Busy = true
@@ -50,18 +50,22 @@ abbrev pub with_second : ℤ → Option Class → List BusyTime → List BusyTim
 with_second t None runs = runs
 with_second t (Some class) runs = with_class t class runs
 
--- the runs of so many seconds from t on
-abbrev pub runs_from : List BusyTime → ℤ → ℕ → List BusyTime
-runs_from times t zero = []
-runs_from times t (suc n) = with_second t (class_at times t) (runs_from times (t +ℤ pos 1) n)
+-- the runs of so many seconds from t on, each of the class that is given for it
+abbrev pub runs_from : (ℤ → Option Class) → ℤ → ℕ → List BusyTime
+runs_from class t zero = []
+runs_from class t (suc n) = with_second t (class t) (runs_from class (t +ℤ pos 1) n)
 
 -- the seconds of a range; one that ends before it starts has none
 abbrev pub size : Range → ℕ
 size range = if int_lt range.start.0 range.end.0 then nat_abs (range.end.0 -ℤ range.start.0) else 0
 
--- The longest runs of one class in a range, in order.
+-- The longest runs of one class in a range, in order: a function of the class of each second of the range, and of nothing else.
+abbrev pub runs_of_classes : (ℤ → Option Class) → Range → List BusyTime
+runs_of_classes class range = runs_from class range.start.0 (size range)
+
+-- the same of some busy times
 abbrev pub runs : List BusyTime → Range → List BusyTime
-runs times range = runs_from times range.start.0 (size range)
+runs times range = runs_of_classes (class_at times) range
 
 -- What makes a list of runs the right one, without a word on how it is found: they lie in the range in order, each second has the class that the runs say, and no run goes on in the next one.
 pub record AreRuns (times : List BusyTime) (range : Range) (found : List BusyTime) : Type 0 where

@@ -1,5 +1,5 @@
 -- The times at which an object makes its owner busy, each with its class. From RFC 4791, 7.10, and RFC 5545, 3.2.9 and 3.8.2.6.
--- One list over all rows of the object, whatever range is asked for. Which class a second has, where several times cover it, and the runs of one class stand elsewhere.
+-- One list over all rows of the object, whatever range is asked for. Which class a second has, where several times cover it, and the runs of one class stand in `BusyRuns`.
 use Rattle.std.specs.Prelude.{ℕ, List, [], ◌++◌, map, filter, flat_map, option_to_list, option_and_then, slice_get, ℤ, Option}
 use Rattle.cal_moment.specs.declared.stamp.Period.{Period}
 use Rattle.cal_model.specs.declared.object.Class.{Class}

@@ -1,5 +1,5 @@
 -- Whether a component of an object's tree passes a range (RFC 4791, 9.7.1 and 9.9): which component of the object stands at a place of the tree, which alarm, and what their rows and triggers say.
--- Each test asks for some row of all that are given; no row is carried from one test to another.
+-- Each test asks by itself for some row of all that are given: an alarm that meets an inner range may belong to another row than the one that met the outer range.
 use Rattle.std.specs.Prelude.{ℕ, ◌==◌, Bool, true, false, ◌&&◌, ◌||◌, if◌then◌else◌, List, [], ◌∷◌, map, take, filter, count_by, option_to_list, slice_get, codes, ℤ, Option, Some, None}
 use Rattle.std.specs.List.{list_any, enumerate_from}
 use Rattle.cal_base.specs.declared.line.Node.{Node}
@@ -50,9 +50,9 @@ abbrev pub component_at : Object → ℕ → List Numbered
 component_at object child = filter (λ (n : Numbered). n.component.child == child) (numbered object)
 
 -- the component that stands at a path; only children of the outermost component are components of an object
-abbrev pub component_of : Object → List ℕ → List Numbered
-component_of object (child ∷ []) = component_at object child
-component_of object other = []
+abbrev pub component_at_path : Object → List ℕ → List Numbered
+component_at_path object (child ∷ []) = component_at object child
+component_at_path object other = []
 
 abbrev pub rows_of_number : Matched → ℕ → List Row
 rows_of_number matched number = filter (λ (row : Row). row.component == number) matched.rows
@@ -110,8 +110,8 @@ valarm_passes matched range site (n ∷ more) =
 abbrev pub range_passes : Matched → Range → Site → Bool
 range_passes matched range site =
     if is_alarm site.node then valarm_passes matched range site (holder_of matched.object site.path)
-    else list_any (component_passes matched range) (component_of matched.object site.path)
+    else list_any (component_passes matched range) (component_at_path matched.object site.path)
 
-abbrev pub time_passes : Matched → Option Range → Site → Bool
-time_passes matched None site = true
-time_passes matched (Some range) site = range_passes matched range site
+abbrev pub time_range_passes : Matched → Option Range → Site → Bool
+time_range_passes matched None site = true
+time_range_passes matched (Some range) site = range_passes matched range site

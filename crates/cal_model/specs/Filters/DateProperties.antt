@@ -1,6 +1,6 @@
 -- The dates of a component that a range in a prop-filter is tested on (RFC 4791, 9.7.2 and 9.9): those of its date properties, and the end that DURATION makes.
 -- What a line's value spells stands in `StampTexts`, and which moments a range has in `Overlap`.
-use Rattle.std.specs.Prelude.{ℕ, Bool, ◌&&◌, if◌then◌else◌, List, [], ◌∷◌, ◌++◌, map, filter_map, option_to_list, option_map, option_and_then, bytes_eq, codes, ℤ, Option}
+use Rattle.std.specs.Prelude.{ℕ, Bool, ◌&&◌, if◌then◌else◌, List, [], ◌∷◌, ◌++◌, filter_map, option_to_list, option_map, option_and_then, bytes_eq, codes, ℤ, Option}
 use Rattle.std.specs.List.{list_any}
 use Rattle.cal_base.specs.declared.line.Line.{Line}
 use Rattle.cal_base.specs.declared.line.Node.{Node}
@@ -13,6 +13,7 @@ use Rattle.cal_moment.specs.Texts.{local_of_seconds}
 use Rattle.cal_model.specs.declared.zone.ZoneTable.{ZoneTable}
 use Rattle.cal_model.specs.Instances.Alignment.{written_value}
 use Rattle.cal_model.specs.Objects.ComponentLines.{has_name, all_of, one_of, lines_of, is_named}
+use Rattle.cal_model.specs.Objects.ZoneReading.{zone_names}
 use Rattle.cal_model.specs.Ranges.Overlap.{date_in, effective_end}
 use Rattle.cal_model.specs.Values.StampTexts.{stamps_in_grammar, stamps_of}
 use Rattle.cal_model.specs.Values.ValueTexts.{length_of}
@@ -29,20 +30,17 @@ pub record DateReading : Type 0 where
   pub zones : List ZoneTable
   pub floating : ZoneTable
 
-abbrev pub zone_names : DateReading → List (List ℕ)
-zone_names reading = map (λ (zone : ZoneTable). zone.name) reading.zones
-
 -- a stamp by its local digits alone
 abbrev pub as_floating : Stamp → Stamp
 as_floating stamp = Floating (local_of_seconds (written_value stamp))
 
 -- the one stamp of a line; none where it names a zone that the object lacks
 abbrev pub own_stamp : DateReading → Line → Option Stamp
-own_stamp reading line = option_and_then first (stamps_of (zone_names reading) line)
+own_stamp reading line = option_and_then first (stamps_of (zone_names reading.zones) line)
 
 -- the same of a DTSTART in a VTIMEZONE, which is local time whatever it says beside (RFC 5545, 3.6.5)
 abbrev pub local_stamp : DateReading → Line → Option Stamp
-local_stamp reading line = option_map as_floating (option_and_then first (stamps_in_grammar (zone_names reading) line))
+local_stamp reading line = option_map as_floating (option_and_then first (stamps_in_grammar (zone_names reading.zones) line))
 
 -- the stamp of a date property; the flag is true in a VTIMEZONE
 abbrev pub stamp_of_date : DateReading → Bool → Line → Option Stamp
@@ -73,8 +71,8 @@ end_after reading length start = record {
 }
 
 -- the name of the property that says when a component ends
-abbrev pub end_name : Node → List ℕ
-end_name node = if is_named (codes "VTODO") node then codes "DUE" else codes "DTEND"
+abbrev pub effective_end_name : Node → List ℕ
+effective_end_name node = if is_named (codes "VTODO") node then codes "DUE" else codes "DTEND"
 
 -- The effective end: where DURATION stands beside DTSTART, it is as if the end were written.
 abbrev pub effective_line : DateReading → Bool → Node → Option DatedLine
@@ -83,7 +81,7 @@ effective_line reading in_timezone node =
 
 abbrev pub effective_lines_named : DateReading → Bool → Node → List ℕ → List DatedLine
 effective_lines_named reading in_timezone node name =
-    if bytes_eq name (end_name node) then option_to_list (effective_line reading in_timezone node) else []
+    if bytes_eq name (effective_end_name node) then option_to_list (effective_line reading in_timezone node) else []
 
 -- the dates of that name which a component has; a name that is none of the date properties has none
 abbrev pub dates_named : DateReading → Bool → Node → List ℕ → List DatedLine

@@ -1,5 +1,5 @@
 -- Whether an object matches a filter (RFC 4791, 9.7), by the structure of the filter, over a list of rows of the object.
--- Texts, dates and ranges of components stand elsewhere; each test is made by itself.
+-- Each test is made by itself: texts by `TextTests`, dates by `DateProperties`, ranges of components by `ComponentRanges`.
 use Rattle.std.specs.Prelude.{ℕ, Bool, not, ◌&&◌, if◌then◌else◌, List, [], ◌∷◌}
 use Rattle.std.specs.List.{list_any, list_all}
 use Rattle.cal_base.specs.declared.line.Line.{Line}
@@ -14,9 +14,9 @@ use Rattle.cal_model.specs.declared.object.Object.{Object}
 use Rattle.cal_model.specs.declared.row.Row.{Row}
 use Rattle.cal_model.specs.declared.zone.ZoneTable.{ZoneTable}
 use Rattle.cal_model.specs.Objects.ComponentLines.{all_of, lines_of, is_named}
-use Rattle.cal_model.specs.Filters.ComponentRanges.{Matched, Site, sites_in, whole_site, time_passes}
+use Rattle.cal_model.specs.Filters.ComponentRanges.{Matched, Site, sites_in, whole_site, time_range_passes}
 use Rattle.cal_model.specs.Filters.DateProperties.{DateReading, DatedLine, dates_named}
-use Rattle.cal_model.specs.Words.Numbers.{is_empty}
+use Rattle.cal_model.specs.Words.Lists.{is_empty}
 use Rattle.cal_model.specs.Ranges.Overlap.{is_in}
 use Rattle.cal_model.specs.Instances.Rows.{rows as rows_of}
 use Rattle.cal_model.specs.Filters.TextTests.{text_passes, param_filters_hold}
@@ -48,7 +48,7 @@ has_filter_name name site = is_named name site.node
 abbrev pub passes_all : Matched → CompFilter-F (List Site → Bool) → Site → Bool
 passes_all matched filter site =
     has_filter_name filter.name site
-    && time_passes matched filter.time site
+    && time_range_passes matched filter.time site
     && list_all (prop_filter_holds matched site) filter.props
     && list_all (λ (inner : List Site → Bool). inner (sites_in site)) filter.comps
 

@@ -1,5 +1,5 @@
 -- Tests of texts and of parameters: text-match and param-filter (RFC 4791, 9.7.3 and 9.7.5) under the collations i;ascii-casemap and i;octet (RFC 4790, 9.2 and 9.3).
--- A text is looked at as a whole; no place in it is told.
+-- A text is found in another or is not; the place where it stands says nothing.
 use Rattle.std.specs.Prelude.{ℕ, Bool, not, ◌||◌, ◌==◌, nat_eq, if◌then◌else◌, List, [], ◌∷◌, length, filter, bytes_eq}
 use Rattle.std.specs.List.{list_any, list_all, starts_with}
 use Rattle.cal_base.specs.declared.line.Param.{Param}
@@ -10,7 +10,7 @@ use Rattle.cal_model.specs.declared.filter.TextMatch.{TextMatch}
 use Rattle.cal_model.specs.declared.filter.ParamTest.{ParamTest}
 use Rattle.cal_model.specs.declared.filter.ParamTest.TheVariants.{Absent, Defined, Text}
 use Rattle.cal_model.specs.declared.filter.ParamFilter.{ParamFilter}
-use Rattle.cal_model.specs.Words.Numbers.{is_empty}
+use Rattle.cal_model.specs.Words.Lists.{is_empty}
 use Rattle.cal_model.specs.Values.ValueTexts.{unescaped}
 
 -- the part stands somewhere in the text

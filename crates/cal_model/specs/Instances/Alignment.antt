@@ -1,14 +1,16 @@
 -- A stamp beside a start: which instants, digits or days are compared. From RFC 5545, 3.8.2.4, 3.8.4.4, 3.8.5.1 and 3.3.6.
 -- A table by the kinds of the two stamps. It knows no component and no rule.
-use Rattle.std.specs.Prelude.{ℕ, ◌*◌, Bool, true, false, List, [], get_or, ℤ, pos, ◌+ℤ◌, ◌-ℤ◌, ◌*ℤ◌}
-use Rattle.cal_moment.specs.Calendar.{moment_of_seconds, seconds_since_1970, day_of_moment}
+use Rattle.std.specs.Prelude.{ℕ, Bool, true, false, List, [], get_or, ℤ, pos, ◌+ℤ◌, ◌-ℤ◌, ◌*ℤ◌}
+use Rattle.std.specs.Int.{int_div_euclid}
+use Rattle.cal_moment.specs.Calendar.{moment_of_seconds}
 use Rattle.cal_moment.specs.declared.stamp.Stamp.{Stamp}
 use Rattle.cal_moment.specs.declared.stamp.Stamp.TheVariants.{Date, Floating, Zoned, Utc}
 use Rattle.cal_moment.specs.declared.stamp.Length.{Length}
 use Rattle.cal_model.specs.declared.zone.ZoneTable.{ZoneTable}
 use Rattle.cal_model.specs.declared.row.RowKind.{RowKind}
 use Rattle.cal_model.specs.declared.row.RowKind.TheVariants as kind
-use Rattle.cal_model.specs.Words.Numbers.{same_int, local_seconds}
+use Rattle.cal_model.specs.Words.Integers.{same_int}
+use Rattle.cal_model.specs.Values.LocalTimes.{local_seconds}
 use Rattle.cal_model.specs.TimeZones.Zones.{exists_in, instant_of, local_at}
 use Rattle.cal_model.specs.Recurrence.RecurrenceSet.{Reading, plain_reading, utc_reading}
 
@@ -53,7 +55,7 @@ kind_of (Utc u) = kind.Instant
 
 -- the midnight of the day of some digits
 abbrev pub midnight_of : ℤ → ℤ
-midnight_of l = seconds_since_1970 (86400 * day_of_moment (moment_of_seconds l))
+midnight_of l = int_div_euclid l (pos 86400) *ℤ pos 86400
 
 -- what a stamp says beside a start: one value, or a local day, by its midnight
 pub data Aligned : Type 0 where

@@ -2,17 +2,16 @@
 -- `row_at` and `last_day` in the forms that they have once RANGE=THISANDFUTURE is taken; all else stays. Which overrides have it is an argument here; a field of the component will say it.
 use Rattle.std.specs.Prelude.{ℕ, ◌+◌, ◌/◌, Bool, ◌&&◌, if◌then◌else◌, List, [], ◌∷◌, map, filter, flat_map, option_to_list, max, ℤ, pos, negsuc, ◌+ℤ◌, ◌-ℤ◌, int_le, int_lt}
 use Rattle.std.specs.List.{list_any}
-use Rattle.cal_moment.specs.Calendar.{moment_of_date, seconds_since_1970}
 use Rattle.cal_moment.specs.declared.stamp.Stamp.{Stamp}
 use Rattle.cal_model.specs.declared.object.Object.{Object}
 use Rattle.cal_model.specs.declared.row.Row.{Row}
 use Rattle.cal_model.specs.declared.zone.ZoneTable.{ZoneTable}
-use Rattle.cal_model.specs.Recurrence.RecurrenceSet.{last_written}
+use Rattle.cal_model.specs.Words.Limits.{first_date, last_date}
 use Rattle.cal_model.specs.Instances.Alignment.{reading_of, written_value, kind_of}
 use Rattle.cal_model.specs.Instances.Rows.{Numbered, overrides, named_by, id_of_override, ids_start, own_start, end_from, row_of, row_at, rows_by, starts}
 use Rattle.cal_model.specs.Ranges.Cost.{greatest, last_day, last_of_window, cost_up_to}
 
--- an override with RANGE=THISANDFUTURE that has a start, and the id of its own row
+-- An override that moves all later instances, and the id of its own row: one with RANGE=THISANDFUTURE whose DTSTART is there and of the kind of the ids, a DATE, a floating time or an instant. One that has DUE alone, or a DTSTART of another kind, moves itself alone.
 pub record Governor : Type 0 where
   pub id : ℤ
   pub start : Stamp
@@ -38,16 +37,16 @@ move_of zones g = written_value g.start -ℤ (reading_of zones g.start).local g.
 abbrev pub moved_digits : List ZoneTable → Governor → ℤ → ℤ
 moved_digits zones g r = (reading_of zones g.start).local r +ℤ move_of zones g
 
--- from the first to the last written value of a start
-abbrev pub is_stated : ℤ → Bool
-is_stated l = int_le (seconds_since_1970 (moment_of_date 1600 1 1 0 0 0)) l && int_le l (seconds_since_1970 last_written)
+-- digits of the dates that are served
+abbrev pub is_served : ℤ → Bool
+is_served l = int_le first_date l && int_le l last_date
 
 -- the row of a start that is governed: of the governor's component, with its length; none where the digits leave the stated dates
 abbrev pub moved_row : Object → Stamp → ℤ → Governor → List Row
 moved_row object ids r g =
     let digits = moved_digits object.zones g r in
     let start = (reading_of object.zones g.start).instant digits in
-    if is_stated digits then row_of r start (end_from object.zones g.override.component start) g.override.number (kind_of ids) (kind_of g.start) ∷ [] else []
+    if is_served digits then row_of r start (end_from object.zones g.override.component start) g.override.number (kind_of ids) (kind_of g.start) ∷ [] else []
 
 abbrev pub governed_row : List ℕ → Object → Stamp → List ℤ → ℤ → List Governor → List Row
 governed_row moments object ids all r [] = row_at moments object ids all r

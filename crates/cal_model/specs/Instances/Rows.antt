@@ -1,5 +1,5 @@
 -- The instances of an object as rows: overrides, ids, order, and the rows of a window. From RFC 5545, 3.8.4.4, and RFC 4791, 4.1.
--- One list of all rows. A window is a filter over it; how the rows of one window are found without the others stands elsewhere. Each definition takes the list of moments over which rules are taken: the rows themselves are those over `every_moment`.
+-- One list of all rows. A window is a filter over it; that a part of the instances is enough to find the rows of one window is `merged-part` (`proofs/Instances/MergedParts`). Each definition takes the list of moments over which rules are taken: the rows themselves are those over `every_moment`.
 use Rattle.std.specs.Prelude.{ℕ, ◌+◌, Bool, true, false, not, nat_le, if◌then◌else◌, List, [], ◌∷◌, ◌++◌, map, filter, filter_map, flat_map, option_to_list, option_and_then, slice_get, ℤ, pos, int_lt, Option, Some, None, is_some, is_none}
 use Rattle.std.specs.Int.{int_div_euclid}
 use Rattle.std.specs.List.{list_any}
@@ -10,7 +10,8 @@ use Rattle.cal_model.specs.declared.object.Object.{Object}
 use Rattle.cal_model.specs.declared.row.Row.{Row}
 use Rattle.cal_model.specs.declared.row.RowKind.{RowKind}
 use Rattle.cal_model.specs.declared.row.RowKind.TheVariants as kind
-use Rattle.cal_model.specs.Words.Numbers.{same_int, first_or_else}
+use Rattle.cal_model.specs.Words.Integers.{same_int}
+use Rattle.cal_model.specs.Words.Lists.{first_or_else}
 use Rattle.cal_model.specs.Recurrence.RecurrenceSet.{every_moment}
 use Rattle.cal_model.specs.Instances.Alignment.{Aligned, at, on_day, align, reading_of, value_of, kind_of, names_start}
 pub use Rattle.cal_model.specs.Instances.Starts.{is_date, start_or_due, own_start, end_from, end_of_extent, end_of_instance, starts_of, ascending, has_fine_rule}
@@ -120,7 +121,7 @@ abbrev pub merged : Object → Stamp → List ℤ → List Row → List Row
 merged object ids all instances =
     in_order (flat_map (override_row object ids all) (overrides object) ++ filter (λ (r : Row). not (is_named object ids r.id)) instances)
 
--- the same over the instances alone, whose ids are their starts
+-- The same over all instances, whose ids are their starts (`dated_rows-merged` in `proofs/Instances/RowsInOrder`). Over some of them it is another list: an override by a local day takes its id from the instances that it is given.
 abbrev pub merged_with : Object → List Row → List Row
 merged_with object instances =
     flat_map (λ ids. merged object ids (map (λ (r : Row). r.id) instances) instances) (option_to_list (ids_start object))
@@ -153,6 +154,10 @@ is_dated row = has_date row.kind
 abbrev pub window_seconds : ℤ
 window_seconds = pos 5_529_600
 
+-- the window that holds a moment
+abbrev pub window_at : ℤ → ℤ
+window_at seconds = int_div_euclid seconds window_seconds
+
 -- a start by the digits of the clock beside which its component starts
 abbrev pub nominal_beside : List ZoneTable → ℤ → Option Stamp → ℤ
 nominal_beside zones start None = start
@@ -163,7 +168,7 @@ abbrev pub nominal_start : Object → Row → ℤ
 nominal_start object row = nominal_beside object.zones row.start (option_and_then own_start (slice_get object.components row.component))
 
 abbrev pub window_of : Object → Row → ℤ
-window_of object row = int_div_euclid (nominal_start object row) window_seconds
+window_of object row = window_at (nominal_start object row)
 
 -- Undated rows lie in no window
 abbrev pub lies_in_window : Object → ℤ → Row → Bool

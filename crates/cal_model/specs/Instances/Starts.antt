@@ -16,7 +16,7 @@ use Rattle.cal_model.specs.declared.object.Kind.{Kind}
 use Rattle.cal_model.specs.declared.object.Kind.TheVariants.{Todo, FreeBusy}
 use Rattle.cal_model.specs.declared.object.Extent.{Extent}
 use Rattle.cal_model.specs.declared.object.Extent.TheVariants as extent
-use Rattle.cal_model.specs.Words.Numbers.{same_int, greatest_of}
+use Rattle.cal_model.specs.Words.Integers.{same_int, greatest_of}
 use Rattle.cal_model.specs.Recurrence.NextPassing.{is_fine}
 use Rattle.cal_model.specs.Recurrence.RecurrenceSet.{recurrence_set_over}
 use Rattle.cal_model.specs.Instances.Alignment.{align, reading_of, value_of, written_moment, names_start, start_on, plus_length}

@@ -1,5 +1,5 @@
 -- The lines and components of a component tree by name (RFC 5545, 3.4 and 3.6), and which of them are the four kinds that a calendar stores.
--- Names are looked for in whole lists; no tree is walked.
+-- A name is looked for in the whole list of the lines, or of the children, of one component.
 use Rattle.std.specs.Prelude.{ℕ, Bool, List, [], ◌∷◌, filter, find, Option, option_map, codes}
 use Rattle.std.specs.List.{list_any}
 use Rattle.std.specs.Str.{bytes_eq}
@@ -47,5 +47,5 @@ kinds = (codes "VEVENT", Event) ∷ (codes "VTODO", Todo) ∷ (codes "VJOURNAL",
 abbrev pub kind_named : List ℕ → Option Kind
 kind_named name = option_map (λ (row : List ℕ × Kind). row.1) (find (λ (row : List ℕ × Kind). bytes_eq row.0 name) kinds)
 
-abbrev pub kind_of : Node → Option Kind
-kind_of node = kind_named (name_of node)
+abbrev pub component_kind : Node → Option Kind
+component_kind node = kind_named (name_of node)

@@ -1,5 +1,5 @@
 -- What the lines of a component say, by their names, and the lines of a calendar object that cannot stand (RFC 5545, 3.3 and 3.8).
--- Which line cannot stand is a table of names and a test of one line within the list of all lines; no walk through components stands behind it.
+-- Which line cannot stand is a table of names and a test of one line within the list of all lines: lines of one component are those with the same innermost BEGIN. A reader may walk through the components instead.
 use Rattle.std.specs.Prelude.{ℕ, ◌*◌, Bool, true, false, not, ◌&&◌, ◌||◌, ◌==◌, nat_le, if◌then◌else◌, List, [], ◌∷◌, map, take, filter, filter_map, flat_map, find, bytes_eq, Option, Some, None, is_some, option_map, option_and_then, unwrap_or, codes, nat_abs}
 use Rattle.std.specs.List.{list_any, list_all, enumerate_from}
 use Rattle.cal_base.specs.declared.line.Line.{Line}

@@ -25,13 +25,14 @@ use Rattle.cal_model.specs.declared.row.RowKind.{RowKind}
 use Rattle.cal_model.specs.declared.row.RowKind.TheVariants as row
 use Rattle.cal_model.specs.declared.zone.ZoneTable.{ZoneTable}
 use Rattle.cal_model.specs.Words.Limits.{first_date, last_date}
-use Rattle.cal_model.specs.Words.Numbers.{is_empty, same_int}
+use Rattle.cal_model.specs.Words.Lists.{is_empty}
+use Rattle.cal_model.specs.Words.Integers.{same_int}
 use Rattle.cal_model.specs.Values.ValueTexts.{length_of}
-use Rattle.cal_model.specs.Values.StampTexts.{is_known, is_named as is_one_of, trigger_of}
+use Rattle.cal_model.specs.Values.StampTexts.{is_known, is_one_of, trigger_of}
 use Rattle.cal_model.specs.Instances.Alignment.{Aligned, at, on_day, align, written_value, kind_of as stamp_kind}
 use Rattle.cal_model.specs.Ranges.Overlap.{seconds_of}
 use Rattle.cal_model.specs.Instances.Rows.{masters, ids_start}
-use Rattle.cal_model.specs.Objects.ComponentLines.{has_name, has, lines_of, name_of, children_of, kind_named, kind_of}
+use Rattle.cal_model.specs.Objects.ComponentLines.{has_name, has, lines_of, name_of, children_of, kind_named, component_kind}
 use Rattle.cal_model.specs.Objects.LineValues.{stamps_in, periods_in, periods_at, stamp_at, value_at, rules_of, lines_in}
 use Rattle.cal_model.specs.Objects.ZoneReading.{is_zone, zone_names, are_many, has_zone_fault, are_too_many}
 use Rattle.cal_model.specs.Objects.ComponentReading.{component_of}
@@ -65,12 +66,12 @@ abbrev pub zones_among : List Child → List Child
 zones_among children = filter (λ (child : Child). is_zone child.tree) children
 
 abbrev pub kinds_among : List Child → List Child
-kinds_among children = filter (λ (child : Child). is_some (kind_of child.tree)) children
+kinds_among children = filter (λ (child : Child). is_some (component_kind child.tree)) children
 
 -- The object that a tree is, faults aside
 
 abbrev pub component_of_child : List (List ℕ) → Child → Option Component
-component_of_child zones child = option_map (λ kind. component_of zones child.number kind child.tree) (kind_of child.tree)
+component_of_child zones child = option_map (λ kind. component_of zones child.number kind child.tree) (component_kind child.tree)
 
 -- the first UID of each component
 abbrev pub uids_of : List Child → List (List ℕ)

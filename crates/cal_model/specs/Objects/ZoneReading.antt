@@ -1,5 +1,5 @@
 -- The zones of a calendar object: what a VTIMEZONE says, and which one cannot stand (RFC 5545, 3.6.5).
--- Which zone cannot stand is a test of it alone, and a sum over those up to it; no count goes on from zone to zone.
+-- Which zone cannot stand is a test of it alone, and a sum over those up to it; a reader may let one count go on from zone to zone.
 use Rattle.std.specs.Prelude.{ℕ, Bool, not, ◌||◌, nat_lt, List, [], ◌++◌, map, length, filter, filter_map, flat_map, sum, Option, Some, None, unwrap_or, codes, ℤ}
 use Rattle.std.specs.List.{list_any}
 use Rattle.cal_base.specs.declared.line.Line.{Line}
@@ -10,7 +10,7 @@ use Rattle.cal_moment.specs.declared.stamp.Stamp.{Stamp}
 use Rattle.cal_model.specs.declared.rule.Rule.{Rule}
 use Rattle.cal_model.specs.declared.zone.ZonePart.{ZonePart}
 use Rattle.cal_model.specs.declared.zone.ZoneTable.{ZoneTable}
-use Rattle.cal_model.specs.Words.Numbers.{is_empty}
+use Rattle.cal_model.specs.Words.Lists.{is_empty}
 use Rattle.cal_model.specs.Values.ValueTexts.{offset_of}
 use Rattle.cal_model.specs.Values.StampTexts.{local_digits}
 use Rattle.cal_model.specs.Recurrence.NextPassing.{is_fine}
@@ -40,8 +40,8 @@ part_of_lines lines =
 abbrev pub is_part : Node → Bool
 is_part node = is_named (codes "STANDARD") node || is_named (codes "DAYLIGHT") node
 
-abbrev pub parts_of : Node → List ZonePart
-parts_of zone = filter_map (λ node. part_of_lines (lines_of node)) (filter is_part (children_of zone))
+abbrev pub parts_of_zone : Node → List ZonePart
+parts_of_zone zone = filter_map (λ node. part_of_lines (lines_of node)) (filter is_part (children_of zone))
 
 -- Tables
 
@@ -53,7 +53,7 @@ abbrev pub zone_name : Node → List ℕ
 zone_name zone = unwrap_or (value_at Some (codes "TZID") (lines_of zone)) []
 
 abbrev pub zone_table : List ℕ → Node → ZoneTable
-zone_table moments zone = table_over moments (zone_name zone) (parts_of zone)
+zone_table moments zone = table_over moments (zone_name zone) (parts_of_zone zone)
 
 -- the zones of an object, by the components of its VCALENDAR
 abbrev pub zones_of : List ℕ → Node → List ZoneTable
@@ -65,8 +65,8 @@ zone_names zones = map (λ (zone : ZoneTable). zone.name) zones
 -- Zones that cannot stand
 
 -- a rule that repeats within the hour
-abbrev pub has_fine_rule : ZonePart → Bool
-has_fine_rule part = list_any (λ (rule : Rule). is_fine rule.freq) part.rules
+abbrev pub is_fine_part : ZonePart → Bool
+is_fine_part part = list_any (λ (rule : Rule). is_fine rule.freq) part.rules
 
 -- more than eight rules, of a part or of a component
 abbrev pub are_many : List Rule → Bool
@@ -75,8 +75,8 @@ are_many rules = nat_lt 8 (length rules)
 -- it has no TZID, no part, a rule that repeats within the hour, or a part with many rules
 abbrev pub has_zone_fault : Node → Bool
 has_zone_fault zone =
-    not (has (codes "TZID") (lines_of zone)) || is_empty (parts_of zone)
-    || list_any has_fine_rule (parts_of zone) || list_any (λ (part : ZonePart). are_many part.rules) (parts_of zone)
+    not (has (codes "TZID") (lines_of zone)) || is_empty (parts_of_zone zone)
+    || list_any is_fine_part (parts_of_zone zone) || list_any (λ (part : ZonePart). are_many part.rules) (parts_of_zone zone)
 
 -- the most that the zones of an object may count
 abbrev pub onset_limit : ℕ
@@ -84,4 +84,4 @@ onset_limit = 50_000
 
 -- some zones together count more
 abbrev pub are_too_many : List ℕ → List Node → Bool
-are_too_many moments zones = nat_lt onset_limit (sum (map (λ zone. table_count_over moments (parts_of zone)) zones))
+are_too_many moments zones = nat_lt onset_limit (sum (map (λ zone. table_count_over moments (parts_of_zone zone)) zones))

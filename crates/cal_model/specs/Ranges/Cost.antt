@@ -1,7 +1,7 @@
--- What it costs to find the rows of an object in a window, and in which windows they are looked for. From RFC 4791, 7.8 and 9.9.
+-- What it costs to find the rows of an object in a window, and how far from its start a row can meet a range. Beside RFC 4791, 7.8 and 9.9; which windows a report needs stands in `NeededWindows`.
 -- A count over the whole list of moments, and a sum of three lengths. No walk over periods or windows is retraced.
-use Rattle.std.specs.Prelude.{ℕ, suc, ◌+◌, ◌*◌, Bool, false, ◌&&◌, ◌||◌, nat_le, if◌then◌else◌, List, [], ◌∷◌, map, filter_map, flat_map, option_to_list, length, sum, count_by, max, ℤ, pos, ◌+ℤ◌, ◌-ℤ◌, ◌*ℤ◌, int_lt, unsigned_abs, Option, Some, None}
-use Rattle.cal_moment.specs.Calendar.{epoch_day, day_of_moment, moment_of_seconds}
+use Rattle.std.specs.Prelude.{ℕ, suc, ◌+◌, ◌*◌, Bool, false, ◌&&◌, nat_le, if◌then◌else◌, List, [], ◌∷◌, map, filter_map, flat_map, option_to_list, length, sum, count_by, max, ℤ, pos, negsuc, ◌+ℤ◌, ◌-ℤ◌, ◌*ℤ◌, int_lt, unsigned_abs, Option, Some, None}
+use Rattle.cal_moment.specs.Calendar.{epoch_day}
 use Rattle.cal_moment.specs.declared.stamp.Stamp.{Stamp}
 use Rattle.cal_moment.specs.declared.stamp.Period.{Period}
 use Rattle.cal_moment.specs.declared.stamp.PeriodEnd.{PeriodEnd}
@@ -17,8 +17,6 @@ use Rattle.cal_model.specs.declared.object.Trigger.{Trigger}
 use Rattle.cal_model.specs.declared.object.Trigger.TheVariants as trigger
 use Rattle.cal_model.specs.declared.row.Range.{Range}
 use Rattle.std.specs.Int.{int_div_euclid}
-use Rattle.std.specs.List.{list_any}
-use Rattle.cal_model.specs.Words.Numbers.{same_int}
 use Rattle.cal_model.specs.Recurrence.Passing.{passes, period_number}
 use Rattle.cal_model.specs.Recurrence.RecurrenceSet.{every_moment}
 use Rattle.cal_model.specs.Instances.Alignment.{Aligned, at, on_day, reading_of, value_of, written_moment}
@@ -44,10 +42,19 @@ dates_of c = length c.dates + length c.periods
 abbrev pub component_cost : List ℕ → ℕ → Component → ℕ
 component_cost moments day c = dates_of c + (length (option_to_list c.recurrence_id) + sum (map (rule_cost moments c.start day) c.rules))
 
+-- a whole number from 0 on, and 0 for one below it
+abbrev pub natural_part : ℤ → ℕ
+natural_part (pos n) = n
+natural_part (negsuc n) = 0
+
+-- the number of a day that is counted from 1970; a day before the year 0 costs no more than its first
+abbrev pub number_of_day : ℤ → ℕ
+number_of_day day = natural_part (day +ℤ pos epoch_day)
+
 -- the days that RECURRENCE-IDs of kind DATE name beside a start that is a DATE-TIME
 abbrev pub day_named : Aligned → Option ℕ
 day_named (at v) = None
-day_named (on_day midnight) = Some (day_of_moment (moment_of_seconds midnight))
+day_named (on_day midnight) = Some (number_of_day (int_div_euclid midnight (pos 86400)))
 
 abbrev pub days_named_from : Object → Option Stamp → List ℕ
 days_named_from object None = []
@@ -59,7 +66,7 @@ greatest (n ∷ ns) = max n (greatest ns)
 
 -- the last day of a window of 64 days
 abbrev pub last_of_window : ℤ → ℕ
-last_of_window window = unsigned_abs (window *ℤ pos 64 +ℤ pos (63 + epoch_day))
+last_of_window window = number_of_day (window *ℤ pos 64 +ℤ pos 63)
 
 -- the last day on which a period may begin. RANGE=THISANDFUTURE changes this one definition, to `later_last_day`
 abbrev pub last_day : Object → ℤ → ℕ
@@ -113,15 +120,3 @@ margin object = 345_600 + (longest object + alarms_reach object)
 abbrev pub window_meets : ℕ → Range → ℤ → Bool
 window_meets by range window =
     int_lt (range.start.0 -ℤ pos by) ((window +ℤ pos 1) *ℤ window_seconds) && int_lt (window *ℤ window_seconds) (range.end.0 +ℤ pos by)
-
--- the start of some override lies in a window
-abbrev pub start_window : List ZoneTable → Stamp → ℤ
-start_window zones s = int_div_euclid ((reading_of zones s).local (value_of zones s)) window_seconds
-
-abbrev pub holds_override : Object → ℤ → Bool
-holds_override object window =
-    list_any (λ (n : Numbered). list_any (λ s. same_int (start_window object.zones s) window) (option_to_list (own_start n.component))) (overrides object)
-
--- the windows in which the rows that matter for a range are looked for: those that the range meets once it is widened by the margin, and those that hold the start of an override
-abbrev pub is_looked_at : Object → Range → ℤ → Bool
-is_looked_at object range window = window_meets (margin object) range window || holds_override object window

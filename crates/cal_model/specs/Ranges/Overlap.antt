@@ -25,7 +25,7 @@ use Rattle.cal_model.specs.declared.row.Fixed.{Fixed}
 use Rattle.cal_model.specs.declared.row.RowKind.{RowKind}
 use Rattle.cal_model.specs.declared.row.RowKind.TheVariants as kind
 use Rattle.cal_model.specs.declared.zone.ZoneTable.{ZoneTable}
-use Rattle.cal_model.specs.Words.Numbers.{numbers_between}
+use Rattle.cal_model.specs.Words.Lists.{numbers_between}
 use Rattle.std.specs.List.{list_any}
 use Rattle.cal_model.specs.TimeZones.Zones.{instant_of}
 use Rattle.cal_model.specs.Instances.Alignment.{written_value, value_of, kind_of, reading_of, plus_length}
@@ -138,7 +138,7 @@ line_of_kind FreeBusy c = line_of_free_busy c.start c.extent (map (λ (s : Optio
 abbrev pub line_of : Component → Line
 line_of c = line_of_kind c.kind c
 
--- an instance from and to these moments overlaps a range
+-- an instance from and to these moments overlaps a range: the line alone, of which `row_overlaps` is the test of a row
 abbrev pub overlaps : Component → Fixed → Range → Bool
 overlaps c at range = holds (line_of c) range.start.0 range.end.0 at.start at.end
 
@@ -161,7 +161,7 @@ lasts_its_day other its_kind = false
 abbrev pub row_for_range : Component → Row → Row
 row_for_range c row = if lasts_its_day c.kind row.kind then record row { end = row.start +ℤ pos 86400 } else row
 
--- a row of a component overlaps a range, where floating and DATE moments are read in the zone
+-- A row of a component overlaps a range, where floating and DATE moments are read in the zone. This is the test that filters, calendar data and busy times ask. It takes the row and the zone and not two moments, since a VJOURNAL that is a DATE counts for its day whatever end its row has: `overlaps` beside `fixed` would say otherwise there.
 abbrev pub row_overlaps : Component → Row → Range → ZoneTable → Bool
 row_overlaps c row range zone = overlaps c (fixed (row_for_range c row) zone) range
 

@@ -1,9 +1,12 @@
 -- The next local moment that passes a rule (RFC 5545, 3.3.10): the least one at or after another, up to the end of 2101. It says which moment that is, and not where to look for it.
-use Rattle.std.specs.Prelude.{◌≡◌, ◌⊎◌, ℕ, ◌*◌, ◌<◌, ◌≤◌, Bool, true, false, All, ℤ, pos, negsuc, neg_ℤ, ◌≤ℤ◌, IfSome}
+use Rattle.std.specs.Prelude.{◌≡◌, ◌⊎◌, ℕ, ◌*◌, ◌<◌, ◌≤◌, Bool, true, false, All, ℤ, pos, negsuc, neg_ℤ, ◌≤ℤ◌, IfSome, Option, Some, None}
 use Rattle.std.specs.Int.{IsInRange}
+use Rattle.cal_moment.specs.Calendar.{IsCalendarDay, IsCalendarMoment}
 use Rattle.cal_moment.specs.declared.stamp.Local.{Local}
 use Rattle.cal_model.specs.declared.rule.Rule.{Rule}
 use Rattle.cal_model.specs.declared.rule.DayPart.{DayPart}
+use Rattle.cal_model.specs.declared.rule.Until.{Until}
+use Rattle.cal_model.specs.declared.rule.Until.TheVariants.{Day as UntilDay, Local as UntilLocal, Utc as UntilUtc}
 use Rattle.cal_model.specs.declared.rule.Freq.{Freq}
 use Rattle.cal_model.specs.declared.rule.Freq.TheVariants.{Secondly, Minutely, Hourly, Daily, Weekly, Monthly, Yearly}
 use Rattle.cal_model.specs.Recurrence.Passing.{passes}
@@ -17,6 +20,13 @@ pub record IsWritten (l : Local) : Type 0 where
   pub from_first : neg_ℤ (pos 719_162) ≤ℤ l.day
   pub to_last : l.day ≤ℤ pos 2_932_896
   pub second_below : l.second < 86_400
+
+-- an UNTIL of these years, if there is one
+abbrev pub IsWrittenUntil : Option Until → Type 0
+IsWrittenUntil None = Unit {0}
+IsWrittenUntil (Some (UntilDay d)) = IsCalendarDay d.0
+IsWrittenUntil (Some (UntilLocal l)) = IsWritten l
+IsWrittenUntil (Some (UntilUtc u)) = IsCalendarMoment u.0
 
 -- What a rule that was read keeps: the bounds of its values (RFC 5545, 3.3.10).
 
@@ -33,6 +43,7 @@ pub record IsDayPart (part : DayPart) : Type 0 where
 pub record IsUsable (rule : Rule) : Type 0 where
   pub interval_positive : 0 < rule.interval
   pub count_positive : IfSome rule.count (λ count. 0 < count)
+  pub until : IsWrittenUntil rule.until
   pub week_start_below : rule.week_start < 7
   pub months : All (IsInRange 1 12) rule.by_month
   pub weeks : All (IsPlace 53) rule.by_week

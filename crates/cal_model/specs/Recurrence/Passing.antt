@@ -11,7 +11,8 @@ use Rattle.cal_model.specs.declared.rule.Rule.{Rule}
 use Rattle.cal_model.specs.declared.rule.DayPart.{DayPart}
 use Rattle.cal_model.specs.declared.rule.Freq.{Freq}
 use Rattle.cal_model.specs.declared.rule.Freq.TheVariants.{Secondly, Minutely, Hourly, Daily, Weekly, Monthly, Yearly}
-use Rattle.cal_model.specs.Words.Numbers.{is_empty, has_number, some_names_place}
+use Rattle.cal_model.specs.Words.Lists.{is_empty, has_number}
+use Rattle.cal_model.specs.Words.Integers.{some_names_place}
 use Rattle.std.specs.List.{list_any}
 
 -- Periods: FREQ, INTERVAL and WKST.

@@ -2,11 +2,14 @@
 -- A filter over a whole rising list of local moments, and no walk from one moment to the next. Every definition takes the list: the set itself is the one over `every_moment`, and a shorter list shows what the others do.
 -- In this order: the moments that pass and exist in the zone; of these BYSETPOS keeps some of each period; those after the start, by their digits; those up to UNTIL; the first COUNT; those up to the last written value. The start stands first, whatever the rule, UNTIL, COUNT and the zone say.
 use Rattle.std.specs.Prelude.{ℕ, ◌-◌, ◌*◌, Bool, true, false, ◌==◌, nat_le, nat_lt, if◌then◌else◌, List, ◌∷◌, filter, count_by, take, ℤ, ◌+ℤ◌, ◌-ℤ◌, int_le, Option, Some, None}
-use Rattle.cal_moment.specs.Calendar.{day_of_moment, day_number, moment_of_seconds, seconds_since_1970, moment_of_date}
+use Rattle.cal_moment.specs.Calendar.{day_of_moment, day_number, moment_of_seconds, seconds_since_1970}
 use Rattle.cal_model.specs.declared.rule.Rule.{Rule}
 use Rattle.cal_model.specs.declared.rule.Until.{Until}
 use Rattle.cal_model.specs.declared.rule.Until.TheVariants.{Day, Local, Utc}
-use Rattle.cal_model.specs.Words.Numbers.{is_empty, some_names_place, numbers_between, moment_of_local}
+use Rattle.cal_model.specs.Words.Limits.{last_date}
+use Rattle.cal_model.specs.Words.Lists.{is_empty, numbers_between}
+use Rattle.cal_model.specs.Words.Integers.{some_names_place}
+use Rattle.cal_model.specs.Values.LocalTimes.{moment_of_local}
 use Rattle.cal_model.specs.Recurrence.Passing.{passes, period_number}
 use Rattle.cal_model.specs.Recurrence.NextPassing.{end_day}
 
@@ -16,9 +19,9 @@ use Rattle.cal_model.specs.Recurrence.NextPassing.{end_day}
 abbrev pub first_moment : ℕ
 first_moment = 31_622_400
 
--- the last second of 2100, the last written value of a start
+-- the last date that is served, the last written value of a start
 abbrev pub last_written : ℕ
-last_written = moment_of_date 2100 12 31 23 59 59
+last_written = moment_of_seconds last_date
 
 -- every second of the years 1 to 2101, in order
 unfoldable pub every_moment : List ℕ

@@ -1,13 +1,13 @@
 -- The octets of a reply (RFC 9112, 2.1 and 4): the status line, the fields that apply, an empty line, and the content.
 -- Content is never coded, and its length is always said (RFC 9112, 6).
-use Rattle.std.specs.Prelude.{ℕ, Bool, not, ◌&&◌, ◌||◌, ◌==◌, if◌then◌else◌, List, [], ◌++◌, length, is_some, Option, Some, None, codes, decimal, ℤ, unsigned_abs}
+use Rattle.std.specs.Prelude.{ℕ, Bool, not, ◌&&◌, ◌||◌, ◌==◌, if◌then◌else◌, List, [], ◌++◌, map, length, is_some, Option, Some, None, codes, decimal, ℤ, unsigned_abs}
 use Rattle.cal_model.specs.declared.path.Path.{Path}
-use Rattle.cal_model.specs.declared.path.Path.TheVariants.{Root, Principal, Home, Calendar, Object}
 use Rattle.cal_model.specs.declared.reply.Etag.{Etag}
 use Rattle.cal_model.specs.declared.reply.Media.{Media}
 use Rattle.cal_model.specs.declared.reply.Media.TheVariants.{None as NoMedia, Calendar as CalendarMedia, Xml}
 use Rattle.cal_model.specs.declared.reply.Reply.{Reply}
-use Rattle.cal_model.specs.Words.TextLines.{ended}
+use Rattle.cal_model.specs.Words.TextLines.{ended, with_commas}
+use Rattle.cal_model.specs.Requests.Methods.{method_name, methods_at}
 use Rattle.cal_model.specs.Replies.DateField.{date_of_moment}
 use Rattle.cal_model.specs.Replies.Etags.{etag_text}
 use Rattle.cal_model.specs.Replies.Statuses.{status_line}
@@ -22,11 +22,7 @@ field_if applies name value = if applies then field name value else []
 
 -- the methods of a resource, by its path
 abbrev pub methods : Path → List ℕ
-methods Root = codes "OPTIONS, PROPFIND"
-methods (Principal user) = codes "OPTIONS, PROPFIND"
-methods (Home user) = codes "OPTIONS, PROPFIND"
-methods (Calendar user calendar) = codes "OPTIONS, PROPFIND, PROPPATCH, REPORT, MKCALENDAR, ACL, DELETE"
-methods (Object user calendar object) = codes "OPTIONS, GET, HEAD, PUT, DELETE, PROPFIND"
+methods path = with_commas (map method_name (methods_at path))
 
 -- RFC 9110, 10.2.1
 abbrev pub allow_field : Option Path → List ℕ

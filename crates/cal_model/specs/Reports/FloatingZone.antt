@@ -1,5 +1,5 @@
 -- The zone in which floating times and dates are read (RFC 4791, 5.2.2, 7.3 and 9.8).
--- A choice among three; how the text of a zone is read stands elsewhere.
+-- A choice among three; how the text of a zone is read stands in `ObjectReading` (`read_zone`).
 use Rattle.std.specs.Prelude.{Option, unwrap_or}
 use Rattle.cal_base.specs.Lines.ComponentTrees.{or_else}
 use Rattle.cal_model.specs.declared.zone.ZoneTable.{ZoneTable}

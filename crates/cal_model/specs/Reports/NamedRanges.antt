@@ -1,5 +1,5 @@
 -- The ranges that a report names: in its filter (RFC 4791, 9.7), in what it selects of the calendar data (9.6.5 to 9.6.7), or in a query for busy times (7.10).
--- A list over the whole request; which rows meet a range stands elsewhere.
+-- A list over the whole request; which rows meet a range stands in `RowRanges`.
 use Rattle.std.specs.Prelude.{List, [], ◌∷◌, ◌++◌, flat_map, option_to_list}
 use Rattle.cal_model.specs.declared.filter.PropTest.{PropTest}
 use Rattle.cal_model.specs.declared.filter.PropTest.TheVariants.{Time}

@@ -1,5 +1,5 @@
 -- What a script prints: the replies to the requests that its frames bring, one after the other. Scripts are this project's own.
--- It says what each reply may be, and nothing of how or when it is made.
+-- It says what each reply may be; how and when the program makes it is its own matter.
 use Rattle.std.specs.Prelude.{◌≡◌, ◌≢◌, ℕ, ◌⊎◌, Bool, true, false, ◌==◌, List, [], ◌∷◌, ◌++◌, All, pos}
 use Rattle.std.specs.List.{list_any}
 use Rattle.cal_model.specs.declared.request.Event.{Event}
@@ -9,7 +9,7 @@ use Rattle.cal_model.specs.Server.ServerState.{Directory, ServerState, opening_s
 use Rattle.cal_model.specs.Server.Step.{bare_reply}
 use Rattle.cal_model.specs.Server.Answer.{reply_to, state_after}
 use Rattle.cal_model.specs.Replies.ReplyOctets.{reply_octets}
-use Rattle.cal_model.specs.FirstPath.Requests.{SpellsRequest, SpellsNone}
+use Rattle.cal_model.specs.FirstPath.FirstPathRequests.{SpellsRequest, SpellsNone}
 use Rattle.cal_model.specs.Scripts.Frames.{Frame, bytes, frames_text, IsFrame, IsCutInto, reply_frame}
 
 -- where a script stands: the state of the server, and the connections that were closed
@@ -78,12 +78,3 @@ pub record IsPrinted (directory : Directory) (input rest output : List ℕ) : Ty
   pub frames : List Frame
   pub cut : IsCutInto input frames rest
   pub follows : Follows directory (at_start directory) frames output
-
--- The output is a beginning of what a script may print for whole frames at the start of these octets: it was cut short.
-pub record IsPrintedInPart (directory : Directory) (input output : List ℕ) : Type 0 where
-  pub frames : List Frame
-  pub bounds : All IsFrame frames
-  pub behind : List ℕ
-  pub spelled : input ≡ frames_text frames ++ behind
-  pub missing : List ℕ
-  pub follows : Follows directory (at_start directory) frames (output ++ missing)

@@ -1,5 +1,5 @@
 -- A recurring object as single instances, the option `expand` of calendar data (RFC 4791, 9.6.5): a transformation of the tree by the rows that overlap the range.
--- Rows, overlap and picks stand elsewhere; nothing here says how rows are found.
+-- The rows are given, in the order of `Rows`; `RowRanges` says which of them overlap. Picks come after it (`Picks`).
 use Rattle.std.specs.Prelude.{ℕ, Bool, not, ◌&&◌, ◌||◌, if◌then◌else◌, List, [], ◌∷◌, ◌++◌, take, drop, filter, flat_map, option_to_list, slice_get, bytes_eq, codes, is_some, is_none}
 use Rattle.std.specs.List.{list_any, position_or_len}
 use Rattle.cal_base.specs.declared.line.Line.{Line}
@@ -14,8 +14,9 @@ use Rattle.cal_model.specs.declared.object.Object.{Object}
 use Rattle.cal_model.specs.declared.row.Range.{Range}
 use Rattle.cal_model.specs.declared.row.Row.{Row}
 use Rattle.cal_model.specs.declared.zone.ZoneTable.{ZoneTable}
-use Rattle.cal_model.specs.Objects.ComponentLines.{has, lines_of, name_of, children_of, kind_of}
-use Rattle.cal_model.specs.Words.Numbers.{is_empty, same_int}
+use Rattle.cal_model.specs.Objects.ComponentLines.{has, lines_of, name_of, children_of, component_kind}
+use Rattle.cal_model.specs.Words.Lists.{is_empty}
+use Rattle.cal_model.specs.Words.Integers.{same_int}
 use Rattle.cal_model.specs.Ranges.RowRanges.{row_in_range, component_of_row}
 use Rattle.cal_model.specs.Selections.RowLines.{rewritten, text_line, new_line}
 use Rattle.cal_model.specs.Instances.Rows.{end_from, is_dated}
@@ -113,7 +114,7 @@ abbrev pub overlapping : Object → List Row → ZoneTable → Range → List Ro
 overlapping object rows zone range = filter (row_in_range object zone range) rows
 
 abbrev pub is_of_four_kinds : Node → Bool
-is_of_four_kinds node = is_some (kind_of node)
+is_of_four_kinds node = is_some (component_kind node)
 
 -- the components that are none of the four kinds
 abbrev pub other_components : List Node → List Node

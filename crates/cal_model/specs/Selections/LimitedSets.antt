@@ -1,5 +1,5 @@
 -- Calendar data limited to a range: limit-recurrence-set and limit-freebusy-set (RFC 4791, 9.6.6 and 9.6.7).
--- What stays is a filter over all components and over all periods; rows are given, and not looked for.
+-- What stays is a filter over all components and over all periods. The rows are given, in the order of `Rows`.
 use Rattle.std.specs.Prelude.{ℕ, ◌==◌, Bool, not, if◌then◌else◌, List, [], ◌∷◌, ◌++◌, map, take, filter, flat_map, option_to_list, bytes_eq, codes, ℤ}
 use Rattle.std.specs.List.{list_any, enumerate_from, join_with_byte}
 use Rattle.cal_base.specs.declared.line.Line.{Line}
@@ -17,7 +17,7 @@ use Rattle.cal_model.specs.declared.row.Row.{Row}
 use Rattle.cal_model.specs.declared.zone.ZoneTable.{ZoneTable}
 use Rattle.cal_model.specs.Instances.Alignment.{kind_of}
 use Rattle.cal_model.specs.Objects.ComponentLines.{lines_of, name_of, children_of}
-use Rattle.cal_model.specs.Words.Numbers.{is_empty}
+use Rattle.cal_model.specs.Words.Lists.{is_empty}
 use Rattle.cal_model.specs.Ranges.Overlap.{stored_period, some_meets}
 use Rattle.cal_model.specs.Selections.Picks.{header}
 use Rattle.cal_model.specs.Ranges.RowRanges.{row_in_range}

@@ -1,5 +1,5 @@
 -- The parts of a component tree that a selection keeps: comp, allcomp, prop, allprop and novalue (RFC 4791, 9.6.1 to 9.6.4).
--- A fold over the tree, in which all picks of a component are taken together; no pick is applied after another.
+-- A fold over the tree, in which all picks of a component are taken together: what one of them keeps is kept, whatever the others leave out.
 use Rattle.std.specs.Prelude.{ℕ, ◌-◌, true, false, not, if◌then◌else◌, List, [], ◌∷◌, length, take, filter, flat_map, bytes_eq, Option, Some, None}
 use Rattle.std.specs.List.{list_any}
 use Rattle.cal_base.specs.declared.line.Line.{Line}
@@ -11,7 +11,7 @@ use Rattle.cal_model.specs.declared.selection.PropPick.{PropPick}
 use Rattle.cal_model.specs.declared.selection.CompPick.{CompPick}
 use Rattle.cal_model.specs.declared.selection.CompPick.TheViews.{out-CompPick, roll-CompPick}
 use Rattle.cal_model.specs.Objects.ComponentLines.{name_of}
-use Rattle.cal_model.specs.Words.Numbers.{is_empty}
+use Rattle.cal_model.specs.Words.Lists.{is_empty}
 
 -- a line's text up to its colon, the colon included
 abbrev pub header : Line → List ℕ

@@ -1,5 +1,5 @@
 -- Lines with the values of a row, as `expand` writes them (RFC 4791, 9.6.5; RFC 5545, 3.3.4, 3.3.5, 3.2.19 and 3.2.20).
--- Each line is a record made anew; nothing that is written here is read again.
+-- Each line is a record with its parts and its text: the picks that follow go by its name, and what is printed is its text.
 use Rattle.std.specs.Prelude.{ℕ, ◌-◌, Bool, true, false, not, ◌&&◌, if◌then◌else◌, List, [], ◌∷◌, ◌++◌, length, take, filter, option_to_list, bytes_eq, codes, ℤ, Some, None}
 use Rattle.std.specs.List.{list_any, join_with_byte}
 use Rattle.cal_base.specs.declared.line.Line.{Line}
@@ -30,14 +30,14 @@ abbrev pub dropped_names : List (List ℕ)
 dropped_names = codes "TZID" ∷ []
 
 -- the first value of a parameter is this word, without ASCII case
-abbrev pub says : List ℕ → Param → Bool
-says word param = list_any (λ value. bytes_eq (raised_all value) word) (option_to_list (first param.values))
+abbrev pub param_says : List ℕ → Param → Bool
+param_says word param = list_any (λ value. bytes_eq (raised_all value) word) (option_to_list (first param.values))
 
 -- a parameter stays, but for those and for VALUE=DATE beside a new value that is no date
 abbrev pub stays : RowKind → Param → Bool
 stays kind param =
     not (list_any (bytes_eq param.name) dropped_names)
-    && not (bytes_eq param.name (codes "VALUE") && says (codes "DATE") param && not (is_date_kind kind))
+    && not (bytes_eq param.name (codes "VALUE") && param_says (codes "DATE") param && not (is_date_kind kind))
 
 abbrev pub text_stays : RowKind → List ℕ → Bool
 text_stays kind text = elim (param_of text) [ None ↦ true | Some param ↦ stays kind param ]

@@ -8,19 +8,19 @@ use Rattle.cal_model.specs.declared.row.Range.{Range}
 use Rattle.cal_model.specs.Values.UtcTexts.{utc_of}
 
 -- the lines of a text; a text with a fault has none
-abbrev pub lines_in : List ℕ → List Line
-lines_in octets = result_unwrap_or (read_lines octets) []
+abbrev pub lines_of_octets : List ℕ → List Line
+lines_of_octets octets = result_unwrap_or (read_lines octets) []
 
 -- the value of the first line of that name
-abbrev pub value_of : List ℕ → List ℕ → Option (List ℕ)
-value_of name octets = option_map (λ (line : Line). line.value) (find (λ (line : Line). bytes_eq line.name name) (lines_in octets))
+abbrev pub line_value : List ℕ → List ℕ → Option (List ℕ)
+line_value name octets = option_map (λ (line : Line). line.value) (find (λ (line : Line). bytes_eq line.name name) (lines_of_octets octets))
 
 -- when the event of an object starts and ends, in seconds since 1970
 unfoldable pub start_of : List ℕ → Option ℤ
-start_of octets = option_and_then utc_of (value_of (codes "DTSTART") octets)
+start_of octets = option_and_then utc_of (line_value (codes "DTSTART") octets)
 
 unfoldable pub end_of : List ℕ → Option ℤ
-end_of octets = option_and_then utc_of (value_of (codes "DTEND") octets)
+end_of octets = option_and_then utc_of (line_value (codes "DTEND") octets)
 
 -- an event from one moment to another and a range: it starts before the range ends, and ends after the range starts
 abbrev pub times_overlap : ℤ → ℤ → Range → Bool
@@ -32,5 +32,5 @@ found_times_overlap (Some start) None range = false
 found_times_overlap None end range = false
 
 -- whether the event of an object overlaps the range
-abbrev pub overlaps : Range → List ℕ → Bool
-overlaps range octets = found_times_overlap (start_of octets) (end_of octets) range
+abbrev pub event_overlaps : Range → List ℕ → Bool
+event_overlaps range octets = found_times_overlap (start_of octets) (end_of octets) range

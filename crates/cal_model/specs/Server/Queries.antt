@@ -10,10 +10,11 @@ use Rattle.cal_model.specs.declared.property.Props.TheVariants.{All as AllProps,
 use Rattle.cal_model.specs.declared.report.ReportRequest.{ReportRequest}
 use Rattle.cal_model.specs.declared.report.ReportRequest.TheVariants.{Query, Multiget, FreeBusy}
 use Rattle.cal_model.specs.declared.row.Range.{Range}
-use Rattle.cal_model.specs.declared.selection.Recur.{Recur}
-use Rattle.cal_model.specs.declared.selection.Recur.TheVariants.{Whole, Expand, Limit}
+use Rattle.cal_model.specs.declared.selection.Recur.TheVariants.{Whole}
 use Rattle.cal_model.specs.declared.selection.Selection.{Selection}
 use Rattle.cal_model.specs.Words.Namespaces.{dav, caldav}
+use Rattle.cal_model.specs.Access.Privileges.{same_name}
+use Rattle.cal_model.specs.Selections.ShownData.{takes_all}
 
 -- the two properties that are asked for
 abbrev pub getetag : PropName
@@ -56,14 +57,11 @@ only_range (event ∷ other ∷ more) = None
 abbrev pub calendar_range : CompFilter-F CompFilter → Option Range
 calendar_range filter = if is_plain (codes "VCALENDAR") filter && is_none filter.time then only_range filter.comps else None
 
-abbrev pub is_name : PropName → PropName → Bool
-is_name wanted name = bytes_eq name.space wanted.space && bytes_eq name.name wanted.name
-
 -- whether the two properties are asked for, in this order, and no other
 abbrev pub are_both : List PropName → Bool
 are_both [] = false
 are_both (first ∷ []) = false
-are_both (first ∷ second ∷ []) = is_name getetag first && is_name calendar_data second
+are_both (first ∷ second ∷ []) = same_name first getetag && same_name second calendar_data
 are_both (first ∷ second ∷ third ∷ more) = false
 
 abbrev pub asks_both : Props → Bool
@@ -72,17 +70,9 @@ asks_both AllNames = false
 asks_both NoProps = false
 asks_both (SomeProps names) = are_both names
 
-abbrev pub is_whole : Recur → Bool
-is_whole Whole = true
-is_whole (Expand range) = false
-is_whole (Limit range) = false
-
-abbrev pub shows_all : Selection → Bool
-shows_all select = is_none select.comp && is_whole select.recur && is_none select.busy
-
 -- The range of a query of the one form, and none of any other report.
 unfoldable pub query_range : ReportRequest → Option Range
 query_range (Query props select filter zone) =
-    if asks_both props && shows_all select && is_none zone then calendar_range (out-CompFilter filter.top) else None
+    if asks_both props && takes_all select && is_none zone then calendar_range (out-CompFilter filter.top) else None
 query_range (Multiget props select hrefs) = None
 query_range (FreeBusy range) = None

@@ -1,5 +1,5 @@
 -- What the server holds: homes, their calendars, and in these the octets of calendar objects (RFC 4791, 4.2).
--- It holds no index, nothing of connections, and no time.
+-- It is all that a reply depends on beside the event: indexes, connections and the clock stay outside, and the moment comes with the event.
 use Rattle.std.specs.Prelude.{ℕ, ◌+◌, List, [], ◌∷◌, map, position, bytes_eq, slice_get, slice_set, Option, Some, None, option_map, option_and_then, codes}
 use Rattle.cal_base.specs.Lists.NameMap.{Named, value_at, with_value}
 use Rattle.cal_model.specs.declared.privilege.Grant.{Grant}

@@ -1,16 +1,16 @@
 -- What a request does: it is accepted and changes the state, or it leaves the state as it is and has a reply.
 -- So far a PUT of an object and a calendar-query. The status 501 stands for every request that is not built yet.
-use Rattle.std.specs.Prelude.{ℕ, ◌+◌, nat_le, is_some, if◌then◌else◌, List, [], Option, Some, None}
+use Rattle.std.specs.Prelude.{ℕ, ◌+◌, nat_le, is_some, if◌then◌else◌, List, Option, Some, None}
 use Rattle.cal_base.specs.Lists.NameMap.{value_at}
 use Rattle.cal_model.specs.declared.path.Path.{Path}
 use Rattle.cal_model.specs.declared.path.Path.TheVariants.{Calendar as CalendarPath, Object as ObjectPath}
-use Rattle.cal_model.specs.declared.reply.Media.TheVariants.{None as NoMedia}
 use Rattle.cal_model.specs.declared.reply.Reply.{Reply}
 use Rattle.cal_model.specs.declared.request.Content.{Content}
 use Rattle.cal_model.specs.declared.request.Content.TheVariants.{Put, Report}
 use Rattle.cal_model.specs.declared.request.Event.{Event}
 use Rattle.cal_model.specs.declared.row.Range.{Range}
 use Rattle.cal_model.specs.Words.Limits.{home_limit, change_cost}
+pub use Rattle.cal_model.specs.Replies.BareReplies.{bare_reply}
 use Rattle.cal_model.specs.Server.ServerState.{Directory, Calendar, ServerState, Found, found_calendar, with_home, with_object, after_change}
 use Rattle.cal_model.specs.Server.Queries.{query_range}
 use Rattle.cal_model.specs.Server.Multistatus.{query_reply}
@@ -19,10 +19,6 @@ use Rattle.cal_model.specs.Server.Multistatus.{query_reply}
 pub data Outcome : Type 0 where
   accepted : ℕ → ServerState → Outcome
   unchanged : Reply → Outcome
-
--- a reply that is a status alone
-abbrev pub bare_reply : ℕ → Reply
-bare_reply status = record { status = status; etag = None; allow = None; media = NoMedia; body = [] }
 
 abbrev pub refused : ℕ → Outcome
 refused status = unchanged (bare_reply status)

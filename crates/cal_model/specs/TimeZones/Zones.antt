@@ -1,9 +1,10 @@
 -- Zone conversion: the offset at an instant, the instant of a local time, and whether a local time exists. From RFC 5545, 3.3.5 (form 3) and 3.6.5.
--- Instants and local times are seconds from 1970, local ones by their digits. A table is the set of its onsets, in rising order, and the offset before them. Everything here is the latest, the least or the first of a set; nothing searches in the table's order.
-use Rattle.std.specs.Prelude.{◌≡◌, ◌≢◌, ◌⊎◌, Bool, not, List, [], ◌∷◌, map, filter, ℤ, pos, ◌+ℤ◌, ◌-ℤ◌, ◌≤ℤ◌, ◌<ℤ◌, int_le, int_lt}
+-- Instants and local times are seconds from 1970, local ones by their digits. A table is the set of its onsets, in rising order, and the offset before them. Everything here is the latest, the least or the first of a set. Since a table stands in rising order, the latest is the last of those that a filter keeps and the first is their head; code may search in it as it likes.
+use Rattle.std.specs.Prelude.{◌≡◌, ◌≢◌, ◌⊎◌, Bool, not, List, [], ◌∷◌, Contains, map, filter, ℤ, pos, ◌+ℤ◌, ◌-ℤ◌, ◌≤ℤ◌, ◌<ℤ◌, int_le, int_lt}
 use Rattle.cal_model.specs.declared.zone.Onset.{Onset}
 use Rattle.cal_model.specs.declared.zone.ZoneTable.{ZoneTable}
-use Rattle.cal_model.specs.Words.Numbers.{is_empty, same_int, last_or_else, least_of}
+use Rattle.cal_model.specs.Words.Lists.{is_empty, last_or_else}
+use Rattle.cal_model.specs.Words.Integers.{same_int, least_of}
 
 -- the offset of the latest onset at or before an instant, among onsets in rising order, or the one before them
 abbrev pub offset_among : ℤ → List Onset → ℤ → ℤ
@@ -46,7 +47,23 @@ least_or_after_gap table l (u ∷ us) = least_of u us
 unfoldable pub instant_of : ZoneTable → ℤ → ℤ
 instant_of table l = least_or_after_gap table l (instants_of table l)
 
--- The same in the standard's own words. The function above meets them, and nothing else does (`instant_of-is` and `IsInstantOf-same` in `proofs/TimeZones/Instants`).
+-- The same in the standard's own words. The functions above meet them: `IsOffsetAt-offset_at`, `exists_in-shown` and `exists_in-skipped` (`proofs/TimeZones/ConversionLaws`), `instant_of-is` and, since nothing else meets the last of them, `IsInstantOf-same` (`proofs/TimeZones/Instants`).
+
+-- the latest onset at or before an instant
+pub record IsLatestOnset (table : ZoneTable) (u : ℤ) (onset : Onset) : Type 0 where
+  pub member : Contains table.onsets onset
+  pub at_or_before : onset.at.0 ≤ℤ u
+  pub latest : (other : Onset) → Contains table.onsets other → other.at.0 ≤ℤ u → other.at.0 ≤ℤ onset.at.0
+
+-- an offset holds at an instant: that of the latest onset at or before it, or where all come after it the one before them
+abbrev pub IsOffsetAt : ZoneTable → ℤ → ℤ → Type 0
+IsOffsetAt table u offset =
+    ((onset : Onset) × IsLatestOnset table u onset × (offset ≡ onset.offset))
+    ⊎ (((onset : Onset) → Contains table.onsets onset → u <ℤ onset.at.0) × (offset ≡ table.before))
+
+-- some instant has this local time
+abbrev pub IsShown : ZoneTable → ℤ → Type 0
+IsShown table l = (u : ℤ) × (local_at table u ≡ l)
 
 -- u is the least instant with this local time
 abbrev pub IsLeastInstant : ZoneTable → ℤ → ℤ → Type 0

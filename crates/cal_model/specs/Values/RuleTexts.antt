@@ -105,13 +105,13 @@ without_last_empty (piece ∷ next ∷ more) = piece ∷ without_last_empty (nex
 abbrev pub rule_parts : List ℕ → Option (List Part)
 rule_parts text = every (map part_of (without_last_empty (pieces semicolon text)))
 
-abbrev pub has_name : List ℕ → Part → Bool
-has_name name part = bytes_eq part.0 name
+abbrev pub is_part_named : List ℕ → Part → Bool
+is_part_named name part = bytes_eq part.0 name
 
 -- no name stands twice
 abbrev pub is_each_once : List Part → Bool
 is_each_once [] = true
-is_each_once (part ∷ parts) = not (list_any (has_name part.0) parts) && is_each_once parts
+is_each_once (part ∷ parts) = not (list_any (is_part_named part.0) parts) && is_each_once parts
 
 -- The parts that have a meaning, and how the value of each goes into a rule; one outside its grammar or its bounds does not. FREQ
 -- stands in the rule before the others.
@@ -135,7 +135,7 @@ meanings =
 
 -- a part put into a rule; a part with a name of its own, `X-` before it, says nothing
 abbrev pub with_part : Part → Rule → Option Rule
-with_part part rule = elim (find (λ (row : List ℕ × (List ℕ → Rule → Option Rule)). has_name row.0 part) meanings) [
+with_part part rule = elim (find (λ (row : List ℕ × (List ℕ → Rule → Option Rule)). is_part_named row.0 part) meanings) [
   | None ↦ if starts_with nat_eq part.0 (codes "X-") then Some rule else None
   | Some row ↦ row.1 part.1 rule
 ]
@@ -165,7 +165,7 @@ every_time freq = record {
 
 -- the frequency that the part FREQ says
 abbrev pub freq_in : List Part → Option Freq
-freq_in parts = option_and_then (λ (part : Part). freq_of part.1) (find (has_name (codes "FREQ")) parts)
+freq_in parts = option_and_then (λ (part : Part). freq_of part.1) (find (is_part_named (codes "FREQ")) parts)
 
 -- What cannot stand together
 

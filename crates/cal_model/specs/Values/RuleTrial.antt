@@ -1,5 +1,5 @@
 -- Whether some rule begins with a front, as a trial (RFC 5545, 3.3.10). If one does, then so does one whose rest is a short end of the part that the front
--- breaks off, and perhaps FREQ behind it; so a few rests are tried. It names no state of a reader, and no octet by itself.
+-- breaks off, and perhaps FREQ behind it; so a few rests are tried. A reader keeps a state instead and goes on octet by octet; that the trial is exact is proved (`RuleFronts`).
 use Rattle.std.specs.Prelude.{◌≡◌, ℕ, Bool, true, List, [], ◌∷◌, ◌++◌, map, length, drop, flat_map, replicate, codes, None, is_some, unwrap_or, ◌↔◌}
 use Rattle.std.specs.List.{list_any, last_or}
 use Rattle.cal_base.specs.Lines.ContentLines.{pieces}

@@ -39,8 +39,8 @@ abbrev pub zone_number : List (List ℕ) → List ℕ → ℕ
 zone_number zones name = position_or_len (bytes_eq name) zones
 
 -- the number of the zone that a line names
-abbrev pub zone_of : List (List ℕ) → Line → Option ℕ
-zone_of zones line = option_map (zone_number zones) (param_value (codes "TZID") line)
+abbrev pub line_zone : List (List ℕ) → Line → Option ℕ
+line_zone zones line = option_map (zone_number zones) (param_value (codes "TZID") line)
 
 -- whether a stamp's zone is one of these
 abbrev pub is_known : List (List ℕ) → Stamp → Bool
@@ -70,7 +70,7 @@ is_date_text line text = param_is (codes "VALUE") (codes "DATE") line || (length
 
 abbrev pub date_or_time : List (List ℕ) → Line → List ℕ → Option Stamp
 date_or_time zones line text =
-    if is_date_text line text then option_map Date (date_of text) else time_stamp (zone_of zones line) text
+    if is_date_text line text then option_map Date (date_of text) else time_stamp (line_zone zones line) text
 
 -- the digits of a stamp as they stand in its text; a date is its midnight
 abbrev pub local_digits : Stamp → Local
@@ -81,8 +81,8 @@ local_digits (AtUtc moment) = local_of_seconds moment.0
 
 -- Lines
 
-abbrev pub is_named : List (List ℕ) → Line → Bool
-is_named names line = list_any (bytes_eq line.name) names
+abbrev pub is_one_of : List (List ℕ) → Line → Bool
+is_one_of names line = list_any (bytes_eq line.name) names
 
 -- the lines whose value is a list, joined by commas (RFC 5545, 3.8.5.1, 3.8.5.2 and 3.8.2.6)
 abbrev pub list_names : List (List ℕ)
@@ -94,11 +94,11 @@ utc_names = codes "COMPLETED" ∷ codes "CREATED" ∷ codes "DTSTAMP" ∷ codes 
 
 -- the items of a line's value
 abbrev pub items_of : Line → List (List ℕ)
-items_of line = if is_named list_names line then pieces comma line.value else line.value ∷ []
+items_of line = if is_one_of list_names line then pieces comma line.value else line.value ∷ []
 
 -- one stamp of a line; where UTC is meant there are no dates
 abbrev pub stamp_of : List (List ℕ) → Line → List ℕ → Option Stamp
-stamp_of zones line text = if is_named utc_names line then utc_stamp text else date_or_time zones line text
+stamp_of zones line text = if is_one_of utc_names line then utc_stamp text else date_or_time zones line text
 
 -- the stamps of a line's value, if it is in its grammar, whatever zone it names
 unfoldable pub stamps_in_grammar : List (List ℕ) → Line → Option (List Stamp)
@@ -117,8 +117,8 @@ stamps_of zones line = option_and_then (if_known zones) (stamps_in_grammar zones
 abbrev pub length_ahead : List ℕ → Option PeriodEnd
 length_ahead text = if is_negative text then None else option_map After (length_of text)
 
-abbrev pub period_end : (List ℕ → Option Stamp) → List ℕ → Option PeriodEnd
-period_end moment text = or_else (option_map EndAt (moment text)) (length_ahead text)
+abbrev pub written_period_end : (List ℕ → Option Stamp) → List ℕ → Option PeriodEnd
+written_period_end moment text = or_else (option_map EndAt (moment text)) (length_ahead text)
 
 abbrev pub period_of_ends : Option Stamp → Option PeriodEnd → Option Period
 period_of_ends (Some start) (Some end) = Some (record { start = start; end = end })
@@ -128,12 +128,12 @@ period_of_ends None end = None
 abbrev pub period_with : (List ℕ → Option Stamp) → List ℕ → Option Period
 period_with moment text = elim (cut 47 text) [
   | None ↦ None
-  | Some parts ↦ period_of_ends (moment parts.0) (period_end moment parts.1)
+  | Some parts ↦ period_of_ends (moment parts.0) (written_period_end moment parts.1)
 ]
 
 -- one period of a line; those of FREEBUSY are in UTC
 abbrev pub period_of : List (List ℕ) → Line → List ℕ → Option Period
-period_of zones line text = if is_named utc_names line then period_with utc_stamp text else period_with (time_stamp (zone_of zones line)) text
+period_of zones line text = if is_one_of utc_names line then period_with utc_stamp text else period_with (time_stamp (line_zone zones line)) text
 
 -- the periods of a line's value, if it is in its grammar, whatever zone it names
 unfoldable pub periods_in_grammar : List (List ℕ) → Line → Option (List Period)

@@ -1,7 +1,7 @@
 -- The values that whole texts spell (RFC 5545, 3.3), as functions that compute; a text outside its grammar has none.
--- What a date, a time, a length and an offset are stands in `cal_moment`. Here a date, a time or an offset is a text of the numbers
--- at its places, and a length is cut at its letters; no reader goes on from octet to octet.
-use Rattle.std.specs.Prelude.{ℕ, ◌+◌, ◌*◌, ◌^◌, min, Bool, true, false, ◌&&◌, ◌||◌, ◌==◌, nat_lt, nat_le, if◌then◌else◌, List, [], ◌∷◌, ◌++◌, length, take, drop, bytes_eq, codes, Option, Some, None, option_map, option_and_then, ℤ, pos, ◌+ℤ◌, ◌*ℤ◌}
+-- What a date, a time, a length and an offset are stands in `cal_moment`, whose readers go on from octet to octet. Here a date, a time or an offset is a text of the
+-- numbers at its places, and a length is cut at its letters. That both give the same values is proved (`ValueLaws`, `LengthLaws`).
+use Rattle.std.specs.Prelude.{ℕ, ◌+◌, ◌-◌, ◌*◌, ◌^◌, min, Bool, true, false, ◌&&◌, ◌||◌, ◌==◌, nat_lt, nat_le, if◌then◌else◌, List, [], ◌∷◌, ◌++◌, length, take, drop, fold, bytes_eq, codes, Option, Some, None, option_map, option_and_then, ℤ, pos, ◌+ℤ◌, ◌*ℤ◌}
 use Rattle.cal_base.specs.Lines.ComponentTrees.{or_else}
 use Rattle.cal_moment.specs.declared.stamp.Day.{Day}
 use Rattle.cal_moment.specs.declared.stamp.Length.{Length}
@@ -9,18 +9,21 @@ use Rattle.cal_moment.specs.declared.stamp.Local.{Local}
 use Rattle.cal_moment.specs.declared.stamp.Utc.{Utc}
 use Rattle.cal_moment.specs.Calendar.{month_length, day_of_date, day_since_1970}
 use Rattle.cal_moment.specs.Texts.{digits, date_text, time_text, utc_text, sign_text, signed}
-use Rattle.cal_model.specs.Values.UtcTexts.{number_at}
+
+-- the number whose digits are so many octets of a text from a place on
+abbrev pub number_at : ℕ → ℕ → List ℕ → ℕ
+number_at place count text = fold (λ n octet. n * 10 + (octet - 48)) 0 (take count (drop place text))
 
 -- Dates and times (RFC 5545, 3.3.4 and 3.3.5)
 
 -- the calendar of the years 1 to 9999 has the date
-abbrev pub is_date : ℕ → ℕ → ℕ → Bool
-is_date year month day =
+abbrev pub is_calendar_date : ℕ → ℕ → ℕ → Bool
+is_calendar_date year month day =
     nat_le 1 year && nat_le year 9999 && nat_le 1 month && nat_le month 12 && nat_le 1 day && nat_le day (month_length year month)
 
 -- the clock has the time; 60 is a leap second
-abbrev pub is_time : ℕ → ℕ → ℕ → Bool
-is_time hour minute second = nat_le hour 23 && nat_le minute 59 && nat_le second 60
+abbrev pub is_clock_time : ℕ → ℕ → ℕ → Bool
+is_clock_time hour minute second = nat_le hour 23 && nat_le minute 59 && nat_le second 60
 
 -- DATE: `YYYYMMDD`
 unfoldable pub date_of : List ℕ → Option Day
@@ -28,7 +31,7 @@ date_of text =
     let year = number_at 0 4 text in
     let month = number_at 4 2 text in
     let day = number_at 6 2 text in
-    if is_date year month day && bytes_eq text (date_text year month day)
+    if is_calendar_date year month day && bytes_eq text (date_text year month day)
     then Some (record { 0 = day_since_1970 (day_of_date year month day) })
     else None
 
@@ -38,7 +41,7 @@ time_of text =
     let hour = number_at 0 2 text in
     let minute = number_at 2 2 text in
     let second = number_at 4 2 text in
-    if is_time hour minute second && bytes_eq text (time_text hour minute second)
+    if is_clock_time hour minute second && bytes_eq text (time_text hour minute second)
     then Some (3600 * hour + 60 * minute + min second 59)
     else None
 

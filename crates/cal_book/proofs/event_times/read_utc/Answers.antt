@@ -4,7 +4,7 @@ use Rattle.cal_moment.specs.Texts.{SpellsDateTime}
 use Rattle.cal_moment.specs.declared.stamp.Bad.{Bad}
 use Rattle.cal_moment.specs.declared.stamp.Local.{Local}
 use Rattle.cal_model.specs.Values.UtcTexts.{utc_of}
-use Rattle.cal_model.proofs.Values.UtcLemmas.{utc_of-SpellsDateTime, SpellsDateTime-utc_of}
+use Rattle.cal_model.proofs.Values.UtcLaws.{utc_of-SpellsDateTime, SpellsDateTime-utc_of}
 use Rattle.cal_book.proofs.event_times.read_utc.Goals as goal
 
 -- whether a text was read as one of UTC

@@ -1,15 +1,16 @@
-use Rattle.std.proofs.Common.{rules, ◌∙◌, sym, arith, pos, to_z-of_z, FitsSigned, w32, w64, ◌<◌}
+use Rattle.std.proofs.Common.{rules, ◌∙◌, sym, arith, pos, to_z-of_z, FitsSigned, w32, w64, subst, ◌<◌}
 use Rattle.cal_model.specs.declared.zone.Onset.{Onset}
-use Rattle.cal_model.specs.TimeZones.Zones.{offset_at}
+use Rattle.cal_model.specs.TimeZones.Zones.{offset_at, IsOffsetAt}
 use Rattle.cal_model.proofs.TimeZones.Onsets.{offset_among_at}
+use Rattle.cal_model.proofs.TimeZones.ConversionLaws.{IsOffsetAt-offset_at}
 use Rattle.cal_model.proofs.zone_time.offset_at.Goals as goal
 
 none : Onset
 none = record { at = record { 0 = pos 0 }; offset = pos 0 }
 
-pub returns : goal.returns
+pub returns-clause-value : goal.returns-clause-value
 unfolding offset_at
-returns c =
+returns-clause-value c =
     let fits : FitsSigned w32 c.offset_of.result = search (rules, c.offset_of.type_inv) in
     let in_range : FitsSigned w64 c.args.at.0 = search rules in
     let same = c.as_slice-onsets.ensures in
@@ -20,3 +21,7 @@ returns c =
     let mine = rw same at (c.offset_of.ensures none) in
     let theirs = rw same at last in
     rw (to_z-of_z fits) (mine ∙ sym theirs)
+
+pub returns-clause-meaning : goal.returns-clause-meaning
+returns-clause-meaning c =
+    subst (λ z. IsOffsetAt c.args.table.now c.args.at.0 z) (sym (returns-clause-value c)) (IsOffsetAt-offset_at c.args.table.now c.args.at.0 c.requires)

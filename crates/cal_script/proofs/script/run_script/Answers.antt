@@ -1,6 +1,6 @@
 use Rattle.std.proofs.Common.{refl}
 use Rattle.cal_model.specs.Scripts.Script.{at_start}
-use Rattle.cal_model.specs.Scripts.UsersFile.{alice_alone}
+use Rattle.cal_model.specs.FirstPath.FirstPathUsersFile.{alice_alone}
 use Rattle.cal_script.proofs.RunLemmas.{come_start, start_of_none, stopped_reading, wrote_before}
 use Rattle.cal_script.proofs.script.run_script.Goals as goal
 

@@ -1,4 +1,4 @@
-use Rattle.cal_model.specs.Scripts.UsersFile.{users_line}
+use Rattle.cal_model.specs.FirstPath.FirstPathUsersFile.{users_line}
 use Rattle.cal_script.proofs.UsersLemmas.{told_by_octets}
 use Rattle.cal_script.proofs.users.is_users_file.Goals as goal
 

@@ -1,6 +1,6 @@
 use Rattle.std.proofs.Common.{true, Some, sym, ap, ◌∙◌}
 use Rattle.std.proofs.lemmas.Bool.{false≢true}
-use Rattle.cal_model.proofs.Values.UtcLemmas.{utc_of-SpellsDateTime, SpellsDateTime-utc_of}
+use Rattle.cal_model.proofs.Values.UtcLaws.{utc_of-SpellsDateTime, SpellsDateTime-utc_of}
 use Rattle.first_path.proofs.MomentLemmas.{none_of, is_utc}
 use Rattle.first_path.proofs.moment.utc_of.Goals as goal
 

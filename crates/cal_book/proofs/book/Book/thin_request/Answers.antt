@@ -1,6 +1,6 @@
 use Rattle.std.proofs.Common.{ℕ, List, ◌⊎◌, inl, subst, refl}
 use Rattle.cal_model.specs.Server.Step.{put_at}
-use Rattle.cal_model.specs.Scripts.UsersFile.{alice_alone}
+use Rattle.cal_model.specs.FirstPath.FirstPathUsersFile.{alice_alone}
 use Rattle.cal_model.specs.declared.request.Content.TheVariants.{Put as PutContent, Report as ReportContent}
 use Rattle.cal_book.specs.ThinAnswer.{CarriesOut, IsWantOfMemory}
 use Rattle.cal_book.proofs.OneHomeLemmas.{Answers-content, outcome_of-other, CarriesOut-same}

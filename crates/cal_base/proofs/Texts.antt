@@ -1,0 +1,2 @@
+-- Names without ASCII case.
+pub mod RaisedTexts

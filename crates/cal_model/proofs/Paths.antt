@@ -1,0 +1,3 @@
+-- Paths written and read back.
+pub mod PathLaws
+pub mod NamedPaths

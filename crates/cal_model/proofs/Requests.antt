@@ -1,0 +1,4 @@
+-- Each request that is asked for can be booked.
+pub mod ContentParts
+pub mod SuitedContents
+pub mod BookableLaws

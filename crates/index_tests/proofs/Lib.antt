@@ -1,0 +1,2 @@
+mod PieceExamples
+pub mod PlainListLaws

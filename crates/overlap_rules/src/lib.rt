@@ -1,0 +1,14 @@
+//! Which instances, alarms, periods and dates a range of time meets (RFC 4791, 9.9).
+//!
+//! It is given an instance of a component (a row), an alarm, a stored period or a date, a range, and
+//! the zone in which floating times and dates are read; it says whether the range meets it. No memory
+//! is taken. The crates that match filters, expand calendar data and gather busy times build on it.
+#![tactic(auto)]
+
+mod alarm;
+mod moments;
+mod table;
+
+pub use alarm::{alarm_overlaps, lone_alarm_overlaps};
+pub use moments::{fixed, stored_period};
+pub use table::{overlaps, period_overlaps, row_overlaps};

@@ -1,0 +1,7 @@
+pub mod Added
+pub mod Chains
+pub mod Counted
+pub mod Entries
+pub mod Firsts
+pub mod Nodes
+pub mod Walks
