@@ -1,8 +1,8 @@
 #!/usr/bin/env python3
 """Times the programs over generated input, and prints the figures. It needs Python 3, and Debian's package `time` for the memory.
 
-Build the programs once before: `rt run` in crates/caldav_server, lines_bench, index_bench and turns_bench. Words name the
-parts that are to run (scripts, lines, index, turns); without a word all do.
+Build the programs once before: `rt run` in crates/caldav_server, lines_bench, values_bench, index_bench and turns_bench.
+Words name the parts that are to run (scripts, lines, values, index, turns); without a word all do.
 """
 import os, subprocess, sys, tempfile, time
 
@@ -11,6 +11,7 @@ SERVER = os.path.join(TOP, "crates/caldav_server/out/caldav_server")
 LINES = os.path.join(TOP, "crates/lines_bench/out/lines_bench")
 INDEX = os.path.join(TOP, "crates/index_bench/out/index_bench")
 TURNS = os.path.join(TOP, "crates/turns_bench/out/turns_bench")
+VALUES = os.path.join(TOP, "crates/values_bench/out/values_bench")
 USERS = b"user alice ba7816bf8f01cfea414140de5dae2223b00361a396177a9cb410ff61f20015ad\n"
 
 
@@ -141,8 +142,18 @@ def turns():
         print(f"{label:34} {micros / 1e6:8.3f} {micros / (threads * each):8.3f}")
 
 
+def values():
+    print(f"{'value':34} {'octets':>8} {'seconds':>8} {'ns/octet':>9}  answer")
+    for count in (3855, 7710, 15420, 30840, 61680):
+        text = b"RDATE:" + b",".join([b"19970714T133000Z"] * count) + b"\r\n"
+        best = min(run(VALUES, [], text)[0] for _ in range(5))
+        answer = run(VALUES, [], text)[2].decode().strip()
+        print(f"{f'RDATE of {count} moments':34} {len(text):8d} {best:8.4f} {best / len(text) * 1e9:9.1f}  {answer}")
+
+
 PARTS = {
-    "scripts": (scripts, SERVER), "lines": (lines, LINES), "index": (index, INDEX), "turns": (turns, TURNS),
+    "scripts": (scripts, SERVER), "lines": (lines, LINES), "values": (values, VALUES),
+    "index": (index, INDEX), "turns": (turns, TURNS),
 }
 chosen = sys.argv[1:] or list(PARTS)
 for name in chosen:

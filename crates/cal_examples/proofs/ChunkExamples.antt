@@ -15,10 +15,6 @@ pub three_chunks : chunked_body (codes "1\r\nA\r\n1\r\nB\r\n01\r\nC\r\n0\r\n\r\n
 unfolding chunks_behind chunk_size line_size first_line_text is_broken head_end cut_at
 three_chunks = refl
 
-pub digit_in_capitals : chunked_body (codes "A\r\n0123456789\r\n0\r\n\r\n") ≡ whole (codes "0123456789") []
-unfolding chunks_behind chunk_size line_size first_line_text is_broken head_end cut_at
-digit_in_capitals = refl
-
 -- extensions and the fields of the trailer are dropped
 pub chunk_with_extension : chunked_body (codes "5;a=b\r\nhello\r\n0;x\r\nT: 1\r\n\r\nnext") ≡ whole (codes "hello") (codes "next")
 unfolding chunks_behind chunk_size line_size first_line_text is_broken head_end cut_at
@@ -50,21 +46,9 @@ pub no_size : chunked_body (codes "\r\n") ≡ faulty BadChunk
 unfolding chunks_behind chunk_size line_size first_line_text is_broken head_end cut_at
 no_size = refl
 
-pub no_size_before_extension : chunked_body (codes ";\r\n") ≡ faulty BadChunk
-unfolding chunks_behind chunk_size line_size first_line_text is_broken head_end cut_at
-no_size_before_extension = refl
-
-pub hexadecimal_sign : chunked_body (codes "0x5\r\n") ≡ faulty BadChunk
-unfolding chunks_behind chunk_size line_size first_line_text is_broken head_end cut_at
-hexadecimal_sign = refl
-
 pub line_feed_in_extension : chunked_body (codes "2;a\nb") ≡ faulty BadChunk
 unfolding chunks_behind chunk_size line_size first_line_text is_broken head_end cut_at
 line_feed_in_extension = refl
-
-pub return_in_extension : chunked_body (codes "2;a\rb") ≡ faulty BadChunk
-unfolding chunks_behind chunk_size line_size first_line_text is_broken head_end cut_at
-return_in_extension = refl
 
 -- 256 octets with the CRLF
 pub longest_line : chunked_body (codes "0;" ++ (replicate 252 101 ++ codes "\r\n\r\n")) ≡ whole [] []
@@ -82,17 +66,9 @@ longest_line_cut = refl
 
 -- The octets of a chunk
 
-pub octets_cut : chunked_body (codes "2\r\na") ≡ unfinished
-unfolding chunks_behind chunk_size line_size first_line_text is_broken head_end cut_at
-octets_cut = refl
-
 pub octets_without_end : chunked_body (codes "2\r\nab\r") ≡ unfinished
 unfolding chunks_behind chunk_size line_size first_line_text is_broken head_end cut_at
 octets_without_end = refl
-
-pub octet_too_many : chunked_body (codes "2\r\nabc\r\n0\r\n\r\n") ≡ faulty BadChunk
-unfolding chunks_behind chunk_size line_size first_line_text is_broken head_end cut_at
-octet_too_many = refl
 
 pub octets_with_lf : chunked_body (codes "2\r\nab\n0\r\n\r\n") ≡ faulty BadChunk
 unfolding chunks_behind chunk_size line_size first_line_text is_broken head_end cut_at
@@ -106,10 +82,6 @@ empty_line_for_chunk = refl
 pub nothing_yet : chunked_body [] ≡ unfinished
 unfolding chunks_behind chunk_size line_size first_line_text is_broken head_end cut_at
 nothing_yet = refl
-
-pub line_cut : chunked_body (codes "2;\r") ≡ unfinished
-unfolding chunks_behind chunk_size line_size first_line_text is_broken head_end cut_at
-line_cut = refl
 
 -- The limit of a body: it shows at the end of the line
 
@@ -135,10 +107,6 @@ pub trailer_with_lf : chunked_body (codes "0\r\nabc\n\nrest") ≡ whole [] (code
 unfolding chunks_behind chunk_size line_size first_line_text is_broken head_end cut_at
 trailer_with_lf = refl
 
-pub empty_trailer_with_lf : chunked_body (codes "0\r\n\nrest") ≡ whole [] (codes "rest")
-unfolding chunks_behind chunk_size line_size first_line_text is_broken head_end cut_at
-empty_trailer_with_lf = refl
-
 pub trailer_cut : chunked_body (codes "0\r\nabc\r\n") ≡ unfinished
 unfolding chunks_behind chunk_size line_size first_line_text is_broken head_end cut_at
 trailer_cut = refl
@@ -160,7 +128,3 @@ trailer_too_long = refl
 pub trailer_too_long_cut : chunked_body (codes "0\r\n" ++ replicate 16383 97) ≡ faulty BadChunk
 unfolding chunks_behind chunk_size line_size first_line_text is_broken head_end cut_at
 trailer_too_long_cut = refl
-
-pub long_trailer_cut : chunked_body (codes "0\r\n" ++ replicate 16382 97) ≡ unfinished
-unfolding chunks_behind chunk_size line_size first_line_text is_broken head_end cut_at
-long_trailer_cut = refl

@@ -1,6 +1,6 @@
 -- Heads of requests, and what stands at the front of a stream that begins with one (RFC 9112, 2 to 6).
 -- The expected values were made by a second implementation, which was written from the rules alone.
-use Rattle.std.specs.Prelude.{◌≡◌, refl, ℕ, true, false, List, [], ◌∷◌, ◌++◌, flat_map, Some, None, codes, replicate}
+use Rattle.std.specs.Prelude.{◌≡◌, refl, ℕ, true, false, [], ◌∷◌, ◌++◌, flat_map, Some, None, codes, replicate}
 use Rattle.std.specs.Str.{is_utf8, chars}
 use lib.Utf8.{encode}
 use Rattle.httparse.specs.Grammar.{is_token_byte, trim_ows}
@@ -77,10 +77,6 @@ pub version_2_0 : front (codes "GET / HTTP/2.0\r\nHost: h\r\n\r\n") ≡ fault Ve
 unfolding front head_end cut_at head_of read_head without_empty_lines wire_request is_token_byte trim_ows is_utf8 chars encode
 version_2_0 = refl
 
-pub version_1_2 : front (codes "GET / HTTP/1.2\r\nHost: h\r\n\r\n") ≡ fault Version
-unfolding front head_end cut_at head_of read_head without_empty_lines wire_request is_token_byte trim_ows is_utf8 chars encode
-version_1_2 = refl
-
 -- two digits name no version
 pub version_1_10 : front (codes "GET / HTTP/1.10\r\nHost: h\r\n\r\n") ≡ fault BadHead
 unfolding front head_end cut_at head_of read_head without_empty_lines wire_request is_token_byte trim_ows is_utf8 chars encode
@@ -90,18 +86,10 @@ pub version_in_small_letters : front (codes "GET / http/1.1\r\nHost: h\r\n\r\n")
 unfolding front head_end cut_at head_of read_head without_empty_lines wire_request is_token_byte trim_ows is_utf8 chars encode
 version_in_small_letters = refl
 
-pub no_version : front (codes "GET /\r\nHost: h\r\n\r\n") ≡ fault BadHead
-unfolding front head_end cut_at head_of read_head without_empty_lines wire_request is_token_byte trim_ows is_utf8 chars encode
-no_version = refl
-
 -- the version is looked at first, whatever stands before it
 pub other_version_alone : front (codes "xHTTP/3.1\r\nHost: h\r\n\r\n") ≡ fault Version
 unfolding front head_end cut_at head_of read_head without_empty_lines wire_request is_token_byte trim_ows is_utf8 chars encode
 other_version_alone = refl
-
-pub other_version_then_bad_field : front (codes "GET / HTTP/2.0\r\nbad\r\n\r\n") ≡ fault Version
-unfolding front head_end cut_at head_of read_head without_empty_lines wire_request is_token_byte trim_ows is_utf8 chars encode
-other_version_then_bad_field = refl
 
 pub two_spaces : front (codes "GET  / HTTP/1.1\r\nHost: h\r\n\r\n") ≡ fault BadHead
 unfolding front head_end cut_at head_of read_head without_empty_lines wire_request is_token_byte trim_ows is_utf8 chars encode
@@ -111,14 +99,6 @@ pub space_behind_version : front (codes "GET / HTTP/1.1 \r\nHost: h\r\n\r\n") �
 unfolding front head_end cut_at head_of read_head without_empty_lines wire_request is_token_byte trim_ows is_utf8 chars encode
 space_behind_version = refl
 
-pub tab_for_space : front (codes "GET\t/\tHTTP/1.1\r\nHost: h\r\n\r\n") ≡ fault BadHead
-unfolding front head_end cut_at head_of read_head without_empty_lines wire_request is_token_byte trim_ows is_utf8 chars encode
-tab_for_space = refl
-
-pub return_within_line : front (codes "GET / HTTP/1.1\r\r\nHost: h\r\n\r\n") ≡ fault BadHead
-unfolding front head_end cut_at head_of read_head without_empty_lines wire_request is_token_byte trim_ows is_utf8 chars encode
-return_within_line = refl
-
 pub no_token : front (codes "G(T / HTTP/1.1\r\nHost: h\r\n\r\n") ≡ fault BadHead
 unfolding front head_end cut_at head_of read_head without_empty_lines wire_request is_token_byte trim_ows is_utf8 chars encode
 no_token = refl
@@ -126,10 +106,6 @@ no_token = refl
 pub every_token_octet : front (codes "a!#$%&'*+-.^_`|~9 * HTTP/1.1\r\nHost: h\r\n\r\n") ≡ request (record plain_get { method = codes "a!#$%&'*+-.^_`|~9"; target = codes "*" }) []
 unfolding front head_end cut_at head_of read_head without_empty_lines wire_request is_token_byte trim_ows is_utf8 chars encode
 every_token_octet = refl
-
-pub target_with_host : front (codes "GET http://h/a?b HTTP/1.1\r\nHost: h\r\n\r\n") ≡ request (record plain_get { target = codes "http://h/a?b" }) []
-unfolding front head_end cut_at head_of read_head without_empty_lines wire_request is_token_byte trim_ows is_utf8 chars encode
-target_with_host = refl
 
 -- octets past ASCII are taken where they are UTF-8
 pub target_in_utf8 : front (codes "GET /" ++ (195 ∷ 169 ∷ codes " HTTP/1.1\r\n\r\n")) ≡ request (record plain_get { target = codes "/" ++ 195 ∷ 169 ∷ [] }) []
@@ -141,10 +117,6 @@ unfolding front head_end cut_at head_of read_head without_empty_lines wire_reque
 target_not_utf8 = refl
 
 -- Field lines (RFC 9112, 5)
-
-pub empty_value : front (codes "PUT /a HTTP/1.1\r\na:\r\n\r\nabcd") ≡ request a_put (codes "abcd")
-unfolding front head_end cut_at head_of read_head without_empty_lines wire_request is_token_byte trim_ows is_utf8 chars encode
-empty_value = refl
 
 pub white_space_around_value : front (codes "PUT /a HTTP/1.1\r\nDepth: \t1 \t\r\n\r\nabcd") ≡ request (record a_put { depth = Some (codes "1") }) (codes "abcd")
 unfolding front head_end cut_at head_of read_head without_empty_lines wire_request is_token_byte trim_ows is_utf8 chars encode
@@ -158,28 +130,16 @@ pub no_colon : front (codes "PUT /a HTTP/1.1\r\na\r\n\r\nabcd") ≡ fault BadHea
 unfolding front head_end cut_at head_of read_head without_empty_lines wire_request is_token_byte trim_ows is_utf8 chars encode
 no_colon = refl
 
-pub no_name : front (codes "PUT /a HTTP/1.1\r\n: c\r\n\r\nabcd") ≡ fault BadHead
-unfolding front head_end cut_at head_of read_head without_empty_lines wire_request is_token_byte trim_ows is_utf8 chars encode
-no_name = refl
-
 -- a line that goes on in the next one (5.2)
 pub folded_line : front (codes "PUT /a HTTP/1.1\r\nHost: h\r\n folded\r\n\r\nabcd") ≡ fault BadHead
 unfolding front head_end cut_at head_of read_head without_empty_lines wire_request is_token_byte trim_ows is_utf8 chars encode
 folded_line = refl
-
-pub return_within_value : front (codes "PUT /a HTTP/1.1\r\na: b\rc\r\n\r\nabcd") ≡ fault BadHead
-unfolding front head_end cut_at head_of read_head without_empty_lines wire_request is_token_byte trim_ows is_utf8 chars encode
-return_within_value = refl
 
 -- What fields say (RFC 9110, 5.3; RFC 9112, 6 and 9.3)
 
 pub each_field : front (codes "PUT /a HTTP/1.1\r\nDepth: 1\r\nContent-Type: text/xml\r\nAuthorization: Basic YWxpY2U6YWJj\r\nContent-Length: 3\r\n\r\nabcd") ≡ request (record a_put { authorization = Some (codes "Basic YWxpY2U6YWJj"); media = Some (codes "text/xml"); depth = Some (codes "1"); body = codes "abc" }) (codes "d")
 unfolding front head_end cut_at head_of read_head without_empty_lines wire_request is_token_byte trim_ows is_utf8 chars encode
 each_field = refl
-
-pub field_in_capitals : front (codes "PUT /a HTTP/1.1\r\nCONTENT-LENGTH: 4\r\n\r\nabcd") ≡ request (record a_put { body = codes "abcd" }) []
-unfolding front head_end cut_at head_of read_head without_empty_lines wire_request is_token_byte trim_ows is_utf8 chars encode
-field_in_capitals = refl
 
 -- of several fields the values are one list
 pub tags_joined : front (codes "PUT /a HTTP/1.1\r\nIf-Match: \"a\"\r\nX: y\r\nif-match: \"b\"\r\n\r\nabcd") ≡ request (record a_put { if_match = Some (codes "\"a\", \"b\"") }) (codes "abcd")
@@ -191,21 +151,9 @@ pub second_depth : front (codes "PUT /a HTTP/1.1\r\nDepth: 0\r\nDEPTH: 0\r\n\r\n
 unfolding front head_end cut_at head_of read_head without_empty_lines wire_request is_token_byte trim_ows is_utf8 chars encode
 second_depth = refl
 
-pub second_length : front (codes "PUT /a HTTP/1.1\r\nContent-Length: 1\r\ncontent-length: 1\r\n\r\nabcd") ≡ fault BadHead
-unfolding front head_end cut_at head_of read_head without_empty_lines wire_request is_token_byte trim_ows is_utf8 chars encode
-second_length = refl
-
-pub second_host : front (codes "PUT /a HTTP/1.1\r\nHost: a\r\nHost: b\r\n\r\nabcd") ≡ request a_put (codes "abcd")
-unfolding front head_end cut_at head_of read_head without_empty_lines wire_request is_token_byte trim_ows is_utf8 chars encode
-second_host = refl
-
 pub close_among_options : front (codes "PUT /a HTTP/1.1\r\nConnection: keep-alive,\tclose ,x\r\n\r\nabcd") ≡ request (record a_put { close = true }) (codes "abcd")
 unfolding front head_end cut_at head_of read_head without_empty_lines wire_request is_token_byte trim_ows is_utf8 chars encode
 close_among_options = refl
-
-pub close_in_second_field : front (codes "PUT /a HTTP/1.1\r\nconnection: x\r\nConnection: close\r\n\r\nabcd") ≡ request (record a_put { close = true }) (codes "abcd")
-unfolding front head_end cut_at head_of read_head without_empty_lines wire_request is_token_byte trim_ows is_utf8 chars encode
-close_in_second_field = refl
 
 -- the option is this very text
 pub close_in_capitals : front (codes "PUT /a HTTP/1.1\r\nConnection: Close\r\n\r\nabcd") ≡ request a_put (codes "abcd")
@@ -219,10 +167,6 @@ coding_other_than_identity = refl
 pub coding_of_nothing : front (codes "PUT /a HTTP/1.1\r\nContent-Encoding: \r\n\r\nabcd") ≡ request (record a_put { coding = Some [] }) (codes "abcd")
 unfolding front head_end cut_at head_of read_head without_empty_lines wire_request is_token_byte trim_ows is_utf8 chars encode
 coding_of_nothing = refl
-
-pub length_of_no_digit : front (codes "PUT /a HTTP/1.1\r\nContent-Length: \r\n\r\nabcd") ≡ fault BadHead
-unfolding front head_end cut_at head_of read_head without_empty_lines wire_request is_token_byte trim_ows is_utf8 chars encode
-length_of_no_digit = refl
 
 pub length_with_sign : front (codes "PUT /a HTTP/1.1\r\nContent-Length: +1\r\n\r\nabcd") ≡ fault BadHead
 unfolding front head_end cut_at head_of read_head without_empty_lines wire_request is_token_byte trim_ows is_utf8 chars encode
@@ -257,18 +201,14 @@ pub chunked_in_capitals : front (codes "PUT /a HTTP/1.1\r\nTransfer-Encoding: Ch
 unfolding front head_end cut_at head_of read_head without_empty_lines wire_request is_token_byte trim_ows is_utf8 chars encode
 chunked_in_capitals = refl
 
-pub coded_and_chunked : front (codes "PUT /a HTTP/1.1\r\nTransfer-Encoding: gzip, chunked\r\n\r\nabcd") ≡ fault BadHead
-unfolding front head_end cut_at head_of read_head without_empty_lines wire_request is_token_byte trim_ows is_utf8 chars encode
-coded_and_chunked = refl
-
 -- The limits of a head
 
-pub hundred_fields : front (codes "GET / HTTP/1.1\r\n" ++ (flat_map (λ n. codes "a:b\r\n") (replicate 100 0) ++ codes "\r\n")) ≡ request plain_get []
+pub hundred_fields : front (codes "GET / HTTP/1.1\r\n" ++ (flat_map {X = ℕ} (λ n. codes "a:b\r\n") (replicate 100 0) ++ codes "\r\n")) ≡ request plain_get []
 unfolding front head_end cut_at head_of read_head without_empty_lines wire_request is_token_byte trim_ows is_utf8 chars encode
 hundred_fields = refl
 
 -- too many lines, before anything else is looked at
-pub hundred_and_one_fields : front (codes "GET / HTTP/2.0\r\n" ++ (flat_map (λ n. codes "bad\r\n") (replicate 101 0) ++ codes "\r\n")) ≡ fault HeadTooLong
+pub hundred_and_one_fields : front (codes "GET / HTTP/2.0\r\n" ++ (flat_map {X = ℕ} (λ n. codes "bad\r\n") (replicate 101 0) ++ codes "\r\n")) ≡ fault HeadTooLong
 unfolding front head_end cut_at head_of read_head without_empty_lines wire_request is_token_byte trim_ows is_utf8 chars encode
 hundred_and_one_fields = refl
 

@@ -14,5 +14,3 @@ mod requests;
 mod script;
 #[cfg(test)]
 mod tags;
-#[cfg(test)]
-mod zones;

@@ -1,0 +1,12 @@
+mod CutTexts
+mod ReadTexts
+mod Counts
+mod Triggers
+mod BusyWords
+mod ListPlaces
+mod Numbering
+mod ListReading
+mod FormPlaces
+mod PeriodPlaces
+mod ReadLines
+mod PeriodLists

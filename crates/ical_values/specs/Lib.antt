@@ -1,0 +1,4 @@
+pub mod Forms
+pub mod LineTexts
+pub mod Parts
+pub mod ZonePlaces
