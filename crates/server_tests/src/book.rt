@@ -53,13 +53,8 @@ const THREE_SHOWN: &[u8] =
 /// The tag of the meeting, by the program sha256sum.
 const STAND_UP_TAG: &[u8] = b"e2b908a58297f6090922388fbe2f52e0c09d7f6986555b4ac3424e3347f2b4e5";
 
-/// The octets of a PUT that costs 1,048,576, so that 32 of them fill the home.
-const LARGE: usize = 1_048_320;
-
-/// So many octets.
-fn same_octets(alloc: Global, count: usize) -> Result<Vec<u8>, NoMemory> {
-    Ok(vec![in alloc; b'x'; count]?)
-}
+/// The size of a request that costs 1,048,576, so that 32 of them fill the home.
+const LARGE: u32 = 1_048_320;
 
 /// A request of user 0.
 fn event(method: Method, path: Path, size: u32, content: Content) -> Event {
@@ -78,19 +73,30 @@ fn event(method: Method, path: Path, size: u32, content: Content) -> Event {
     }
 }
 
-/// The PUT of an object of user `user`.
-fn put_of(alloc: Global, user: &[u8], object: &[u8], octets: &[u8]) -> Result<Event, NoMemory> {
+/// The PUT of an object of user `user`, whose request has so many octets.
+fn sized_put(
+    alloc: Global,
+    user: &[u8],
+    object: &[u8],
+    size: u32,
+    octets: &[u8],
+) -> Result<Event, NoMemory> {
+    let content = Content::Put {
+        media_ok: true,
+        octets: Octets::of(alloc, octets)?,
+    };
     let path = Path::Object(
         Octets::of(alloc, user)?,
         Octets::of(alloc, b"calendar")?,
         Octets::of(alloc, object)?,
     );
-    let content = Content::Put {
-        media_ok: true,
-        octets: Octets::of(alloc, octets)?,
-    };
-    let size = u32::try_from(octets.len()).unwrap_or(u32::MAX);
     Ok(event(Method::Put, path, size, content))
+}
+
+/// The PUT of an object of user `user`.
+fn put_of(alloc: Global, user: &[u8], object: &[u8], octets: &[u8]) -> Result<Event, NoMemory> {
+    let size = u32::try_from(octets.len()).unwrap_or(u32::MAX);
+    sized_put(alloc, user, object, size, octets)
 }
 
 fn put(alloc: Global, object: &[u8], octets: &[u8]) -> Result<Event, NoMemory> {
@@ -289,8 +295,8 @@ fn shows_no_text_with_a_fault(rt: HostRuntime) -> Result<(), Fail> {
 }
 
 /// How many of some PUTs of one object are accepted.
-fn accepted(alloc: Global, book: &mut Book, octets: usize, puts: u32) -> Result<u32, NoMemory> {
-    let large = put(alloc, b"a.ics", same_octets(alloc, octets)?.as_slice())?;
+fn accepted(alloc: Global, book: &mut Book, size: u32, puts: u32) -> Result<u32, NoMemory> {
+    let large = sized_put(alloc, b"alice", b"a.ics", size, b"x")?;
     let mut count = 0u32;
     for _ in 0..puts {
         if book.thin_request(alloc, &large).status < 300 {
