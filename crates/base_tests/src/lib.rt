@@ -10,6 +10,20 @@
 #[cfg(test)]
 mod door_threads;
 #[cfg(test)]
+mod lines;
+#[cfg(test)]
 mod link_times;
 #[cfg(test)]
+mod moments;
+#[cfg(test)]
+mod objects;
+#[cfg(test)]
+mod outside;
+#[cfg(test)]
 mod stacks;
+#[cfg(test)]
+mod streams;
+#[cfg(test)]
+mod tcp;
+#[cfg(test)]
+mod values;

@@ -65,8 +65,3 @@ pub use system_clock::SystemClock;
 pub use tcp::{TcpDoor, TcpLink};
 pub use text::{Name, Word};
 pub use write_whole::{send_all, write_all};
-
-#[cfg(test)]
-mod outside_tests;
-#[cfg(test)]
-mod tests;

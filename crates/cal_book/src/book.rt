@@ -1,5 +1,5 @@
 //! The book: the state, and the replies to requests.
-ghost use Rattle.std.specs.Prelude.{◌≡◌, ◌&&◌, bytes_eq};
+ghost use Rattle.std.specs.Prelude.{◌≡◌, ◌+◌, ◌&&◌, bytes_eq};
 ghost use Rattle.cal_book.specs.OneHome.{alice, calendar_name};
 
 use crate::multistatus::query_body;
@@ -99,7 +99,7 @@ impl Book {
         ensures { (media_ok : Bool) → CarriesOut (PutContent media_ok octets.now) (put_at alice_alone self.old size octets.now (ObjectPath alice calendar_name object.now)) self.old self.new result
             ⊎ IsWantOfMemory self.old self.new result }
     {
-        let cost = u64::from(size) + CHANGE_COST;
+        let cost = cost_of(size);
         if self.accepted + cost > HOME_LIMIT {
             return bare_reply(alloc, 507);
         }
@@ -150,6 +150,13 @@ impl Book {
         let _accepted = &self.accepted;
         is_the_calendar(user, calendar)
     }
+}
+
+/// What a change costs: the octets of its request's body, and more for keeping it.
+fn cost_of(size: u32) -> u64
+    ensures { result ≡ size + 256 }
+{
+    u64::from(size) + CHANGE_COST
 }
 
 /// Whether these are the two names.

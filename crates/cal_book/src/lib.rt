@@ -17,6 +17,3 @@ mod stored;
 mod xml;
 
 pub use book::Book;
-
-#[cfg(test)]
-mod tests;

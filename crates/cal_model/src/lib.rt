@@ -24,8 +24,6 @@ pub mod row;
 pub mod rule;
 pub mod selection;
 pub mod store;
-#[cfg(test)]
-mod tests;
 pub mod wire;
 pub mod zone;
 mod zone_time;

@@ -24,6 +24,3 @@ pub use lengths::read_length;
 pub use offsets::read_offset;
 pub use stamp::{Bad, Day, Length, Local, Period, PeriodEnd, Stamp, Utc};
 pub use times::{read_date_time, write_local, write_utc};
-
-#[cfg(test)]
-mod tests;

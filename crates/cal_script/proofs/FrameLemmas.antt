@@ -1,12 +1,12 @@
 -- A whole frame behind its line, and when none stands at the front.
-use Rattle.std.proofs.Common.{◌≡◌, ◌≢◌, ℕ, ◌+◌, ◌<◌, ◌≤◌, ◌^◌, List, [], ◌∷◌, ◌++◌, length, take, drop, slice_index, codes, refl, sym, ap, subst, ◌∙◌, arith, append_assoc, add-one, suc, length-append, length-drop, length-take}
+use Rattle.std.proofs.Common.{◌≡◌, ◌≢◌, ℕ, ◌+◌, ◌<◌, ◌≤◌, ◌^◌, List, [], ◌∷◌, ◌++◌, length, take, drop, slice_index, codes, refl, sym, ap, subst, ◌∙◌, arith, append_assoc, add-one, suc, length-append, length-drop, length-take, inl, inr}
 use Rattle.std.proofs.lemmas.List.{append-nil, take-append-drop, get_or-append-add}
 use Rattle.std.proofs.Math.ListN.{get_or-append}
 use Rattle.std.proofs.Math.Seq.{drop-cons, get_or-append_seam}
 use Rattle.std.specs.Fmt.{decimal, digits}
 use Rattle.cal_model.specs.Words.Limits.{payload_limit, last_moment}
 use Rattle.cal_model.specs.Scripts.Frames.{Frame, bytes, frame_text, AreInBounds, IsFrame}
-use Rattle.cal_script.specs.FrameHeads.{Lacks, head_line, IsHead, IsNoHead}
+use Rattle.cal_script.specs.FrameHeads.{Lacks, head_line, IsHead, IsNoHead, IsFrameStart}
 use Rattle.cal_script.specs.FirstFrames.{BeginsNoFrame, NeverBeginsFrame, IsFrameThen}
 use Rattle.cal_script.proofs.HeadLemmas.{first_place, no_place, length-head_line, head_line_lacks_feed, head_line-injective}
 
@@ -80,6 +80,13 @@ pub no_frame_cut : (octets line rest : List ℕ) (moment size : ℕ) → IsCutAt
 no_frame_cut octets line rest moment size cut head short frame behind bounds e =
     let front = payload_of octets line rest [] moment size frame behind cut head bounds (append-nil octets ∙ e) in
     omega (arith, length-append front.0 (10 ∷ behind), ap length (sym (append-nil rest) ∙ front.2), front.1, short)
+
+-- the start of a frame is no whole one
+pub no_frame_yet : (octets : List ℕ) → IsFrameStart octets → BeginsNoFrame octets
+no_frame_yet octets (inl begun) = no_frame_without_feed octets begun.lacks
+no_frame_yet octets (inr begun) =
+    let lacks : Lacks 10 begun.line = subst (Lacks 10) (sym begun.head.spelled) (head_line_lacks_feed begun.moment begun.size begun.head.moment_to begun.head.size_to) in
+    no_frame_cut octets begun.line begun.rest begun.moment begun.size (record { lacks = lacks; spelled = begun.spelled }) begun.head begun.short
 
 -- another octet than the line feed behind the payload
 pub never_frame_by_end : (octets line rest : List ℕ) (moment size : ℕ) → IsCutAtFeed octets line rest → IsHead line moment size → size < length rest

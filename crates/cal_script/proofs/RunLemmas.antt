@@ -16,8 +16,10 @@ use Rattle.cal_script.specs.Answered.{Reaches, IsAnsweredWhole, IsAnsweredInPart
 use Rattle.cal_script.specs.declared.running.FrameEnd.{FrameEnd}
 use Rattle.cal_script.specs.declared.running.FrameEnd.TheVariants.{Done, Frame as BadFrame}
 use Rattle.cal_script.specs.FrameEnds.{HasEnded}
+use Rattle.cal_script.specs.FrameHeads.{IsFrameStart}
 use Rattle.cal_script.specs.FirstFrames.{BeginsNoFrame, NeverBeginsFrame}
 use Rattle.cal_script.specs.ScriptEnds.{RanToEnd, MetBadFrame, StoppedReading, WroteFront}
+use Rattle.cal_script.proofs.FrameLemmas.{no_frame_yet}
 use Rattle.cal_script.proofs.AnsweredLemmas.{whole_none, whole_append, part_append, part_none, follows_reached, length-frame_text}
 
 -- how far a run has come: the octets that are answered, and those that were taken and are kept
@@ -31,6 +33,10 @@ pub record HasCome (left written : Option (List ℕ)) (place : ℕ) (kept : List
 pub no_frame_in_none : BeginsNoFrame []
 no_frame_in_none (bytes connection moment payload) more bounds e =
     omega (arith, ap length e, length-append (frame_text (bytes connection moment payload)) more, length-frame_text connection moment payload)
+
+-- no octets are the start of a frame
+pub start_of_none : IsFrameStart []
+start_of_none = inl (record { lacks = All-nil (λ (c : ℕ). c ≢ 10); short = omega arith })
 
 takes_none : (left : Option (List ℕ)) → Takes left [] left
 takes_none None = tt
@@ -66,16 +72,16 @@ come_on left written place len kept standing after left_now written_now written_
   place_is = omega (arith, h.place_is, length-append h.done (take len kept), length-take len kept, a.within);
 }
 
--- whole frames in front of what is kept were answered, and behind them none stands
+-- whole frames in front of what is kept were answered, and behind them stands the start of one
 pub come_cut : (len : ℕ) (octets rest : List ℕ) (left written : Option (List ℕ)) (place : ℕ) (kept : List ℕ) (standing after : Standing) (left_now written_now written_next : Option (List ℕ))
     → octets ≡ kept → rest ≡ drop len kept → HasCome left written place kept standing left_now written_now
     → HasAnswered (Cut len) octets standing written_now after written_next
-    → HasCome left written (place + len) rest after left_now written_next × BeginsNoFrame rest × (len ≤ length kept)
+    → HasCome left written (place + len) rest after left_now written_next × IsFrameStart rest × (len ≤ length kept)
 come_cut len octets rest left written place kept standing after left_now written_now written_next e f h a =
     let to : IsAnsweredTo len kept standing written_now after written_next = subst (λ l. IsAnsweredTo len l standing written_now after written_next) e a.0 in
-    let none : BeginsNoFrame (drop len octets) = a.1 in (
+    let start : IsFrameStart (drop len octets) = a.1 in (
       subst (λ l. HasCome left written (place + len) l after left_now written_next) (sym f) (come_on left written place len kept standing after left_now written_now written_next h to),
-      subst BeginsNoFrame (ap (drop len) e ∙ sym f) none,
+      subst IsFrameStart (ap (drop len) e ∙ sym f) start,
       to.within,
     )
 
@@ -153,13 +159,14 @@ met_bad_frame (Some xs) written place kept standing left_now written_now h never
 
 -- nothing was taken any more
 pub stopped_reading : (left written : Option (List ℕ)) (place : ℕ) (kept : List ℕ) (standing : Standing) (left_now written_now left_next : Option (List ℕ))
-    → HasCome left written place kept standing left_now written_now → BeginsNoFrame kept → left_next ≡ left_now → StoppedReading left left_next written written_now
-stopped_reading left written place kept standing left_now written_now left_next h unmet e = record {
+    → HasCome left written place kept standing left_now written_now → IsFrameStart kept → left_next ≡ left_now → StoppedReading left left_next written written_now
+stopped_reading left written place kept standing left_now written_now left_next h start e = record {
   taken = h.done ++ kept;
   took = subst (λ l. Takes left (h.done ++ kept) l) (sym e) h.took;
   rest = kept;
+  start = start;
   printed = h.answered.printed;
-  follows = printed_for h.done kept written written_now standing h.answered unmet;
+  follows = printed_for h.done kept written written_now standing h.answered (no_frame_yet kept start);
   added = h.answered.added;
 }
 
@@ -199,16 +206,16 @@ wrote_before left written place kept standing left_now written_now h =
 
 -- the end of the input, where a piece of no octets was taken
 pub at_end : (nothing_left : Bool) (ended : FrameEnd) (left written : Option (List ℕ)) (place : ℕ) (kept more : List ℕ) (standing : Standing) (left_now written_now left_next : Option (List ℕ))
-    → HasCome left written place kept standing left_now written_now → BeginsNoFrame kept → Goes left_now left_next kept more → (left_next ≡ Some []) × (more ≡ kept)
+    → HasCome left written place kept standing left_now written_now → IsFrameStart kept → Goes left_now left_next kept more → (left_next ≡ Some []) × (more ≡ kept)
     → nothing_left ≡ (length more == 0) → ended ≡ (if nothing_left then Done place else BadFrame place) → HasEnded ended left left_next written written_now
-at_end true ended left written place kept more standing left_now written_now left_next h unmet goes e b f =
+at_end true ended left written place kept more standing left_now written_now left_next h start goes e b f =
     let come = come_more left written place kept more standing left_now written_now left_next h goes in
     subst (λ x. HasEnded x left left_next written written_now) (sym f)
     (ran_to_end left written place more standing left_next written_now come (empty more (eqb-true (length more) 0 (sym b))) e.0)
-at_end false ended left written place kept more standing left_now written_now left_next h unmet goes e b f =
+at_end false ended left written place kept more standing left_now written_now left_next h start goes e b f =
     let come = come_more left written place kept more standing left_now written_now left_next h goes in
     subst (λ x. HasEnded x left left_next written written_now) (sym f)
-    (cut_at_end left written place more standing left_next written_now come (subst BeginsNoFrame (sym e.1) unmet)
+    (cut_at_end left written place more standing left_next written_now come (subst BeginsNoFrame (sym e.1) (no_frame_yet kept start))
     (λ none. eqb-false (length more) 0 (sym b) (ap length none)) e.0)
 
 -- behind the whole frames of what is kept begins none, whatever follows

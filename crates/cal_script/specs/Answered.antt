@@ -4,7 +4,8 @@ use Rattle.cal_base.specs.World.Outside.{Adds}
 use Rattle.cal_model.specs.Scripts.Frames.{Frame, bytes, frames_text, IsFrame}
 use Rattle.cal_model.specs.Scripts.Script.{Standing, Turn}
 use Rattle.cal_model.specs.FirstPath.FirstPathUsersFile.{alice_alone}
-use Rattle.cal_script.specs.FirstFrames.{BeginsNoFrame, NeverBeginsFrame}
+use Rattle.cal_script.specs.FrameHeads.{IsFrameStart}
+use Rattle.cal_script.specs.FirstFrames.{NeverBeginsFrame}
 use Rattle.cal_script.specs.declared.answering.Answering.{Answering}
 use Rattle.cal_script.specs.declared.answering.Answering.TheVariants.{Cut, Bad, OutputFault, NoMemory}
 
@@ -43,7 +44,7 @@ pub record IsAnsweredTo (len : ℕ) (octets : List ℕ) (before : Standing) (wri
 
 -- what is said of an end of answering is so
 abbrev pub HasAnswered : Answering → List ℕ → Standing → Option (List ℕ) → Standing → Option (List ℕ) → Type 0
-HasAnswered (Cut len) octets before written after now = IsAnsweredTo len octets before written after now × BeginsNoFrame (drop len octets)
+HasAnswered (Cut len) octets before written after now = IsAnsweredTo len octets before written after now × IsFrameStart (drop len octets)
 HasAnswered (Bad len) octets before written after now = IsAnsweredTo len octets before written after now × NeverBeginsFrame (drop len octets)
 HasAnswered OutputFault octets before written after now = IsAnsweredInPart octets before written now
 HasAnswered NoMemory octets before written after now = IsAnsweredInPart octets before written now

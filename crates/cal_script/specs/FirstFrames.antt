@@ -1,6 +1,7 @@
 -- What stands at the front of some octets of a script: a whole frame, the start of one, or what no frame begins with.
 use Rattle.std.specs.Prelude.{◌≡◌, ◌≢◌, ℕ, List, ◌++◌}
 use Rattle.cal_model.specs.Scripts.Frames.{Frame, bytes, frame_text, AreInBounds, IsFrame}
+use Rattle.cal_script.specs.FrameHeads.{IsFrameStart}
 use Rattle.cal_script.specs.declared.frame.FirstFrame.{FirstFrame}
 use Rattle.cal_script.specs.declared.frame.FirstFrame.TheVariants.{Whole, Cut, Bad}
 
@@ -20,5 +21,5 @@ pub record IsFrameThen (octets : List ℕ) (moment : ℕ) (payload rest : List �
 -- what was found at the front is right
 abbrev pub IsFirstFrame : List ℕ → FirstFrame → Type 0
 IsFirstFrame octets (Whole moment payload rest) = IsFrameThen octets moment payload.now rest.now
-IsFirstFrame octets Cut = BeginsNoFrame octets
+IsFirstFrame octets Cut = IsFrameStart octets
 IsFirstFrame octets Bad = NeverBeginsFrame octets

@@ -1,5 +1,5 @@
--- The line at the front of a frame, and the numbers in it.
-use Rattle.std.specs.Prelude.{◌≡◌, ◌≢◌, ℕ, ◌<◌, ◌≤◌, ◌^◌, List, ◌∷◌, ◌++◌, length, slice_index, All, codes, decimal}
+-- The line at the front of a frame, the numbers in it, and the start of a frame that is not whole yet.
+use Rattle.std.specs.Prelude.{◌≡◌, ◌≢◌, ◌⊎◌, ℕ, ◌<◌, ◌≤◌, ◌^◌, List, ◌∷◌, ◌++◌, length, slice_index, All, codes, decimal}
 use Rattle.cal_model.specs.Words.Limits.{payload_limit, last_moment}
 
 -- the octet stands nowhere in the text
@@ -30,3 +30,22 @@ pub record IsHead (line : List ℕ) (moment size : ℕ) : Type 0 where
 -- the line is that of no frame
 abbrev pub IsNoHead : List ℕ → Type 0
 IsNoHead line = (moment size : ℕ) → ¬ IsHead line moment size
+
+-- a line that has not ended yet, and is not longer than the longest line of a frame, `bytes 0 253402300799 1048576`
+pub record IsOpenLine (octets : List ℕ) : Type 0 where
+  pub lacks : Lacks 10 octets
+  pub short : length octets ≤ 28
+
+-- the line of a frame, and behind it no more octets than its payload has
+pub record IsOpenPayload (octets : List ℕ) : Type 0 where
+  pub line : List ℕ
+  pub moment : ℕ
+  pub size : ℕ
+  pub rest : List ℕ
+  pub spelled : octets ≡ line ++ (10 ∷ rest)
+  pub head : IsHead line moment size
+  pub short : length rest ≤ size
+
+-- the octets may go on as a frame, and are no whole one
+abbrev pub IsFrameStart : List ℕ → Type 0
+IsFrameStart octets = IsOpenLine octets ⊎ IsOpenPayload octets

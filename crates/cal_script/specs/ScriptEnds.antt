@@ -2,6 +2,7 @@
 use Rattle.std.specs.Prelude.{◌≡◌, ◌≢◌, ◌⊎◌, ℕ, ◌+◌, List, [], ◌∷◌, ◌++◌, length, take, bytes_eq, not, ◌&&◌, if◌then◌else◌, Option, Some, None, IfSome, codes}
 use Rattle.cal_base.specs.World.Outside.{Takes, Adds}
 use Rattle.cal_model.specs.Scripts.Script.{IsPrinted}
+use Rattle.cal_script.specs.FrameHeads.{IsFrameStart}
 use Rattle.cal_model.specs.FirstPath.FirstPathUsersFile.{alice_alone}
 
 -- the path of the users file, where the words are `script`, `--users` and a path that is not empty
@@ -47,11 +48,12 @@ pub record MetBadFrame (left written written_after : Option (List ℕ)) (place :
   pub added : Adds written printed written_after
   pub place_is : place + length rest ≡ length all
 
--- the output is what a script may print for what was taken from the input
+-- the output is what a script may print for what was taken from the input, and what stands behind the whole frames of it is the start of a frame
 pub record StoppedReading (left left_after written written_after : Option (List ℕ)) : Type 0 where
   pub taken : List ℕ
   pub took : Takes left taken left_after
   pub rest : List ℕ
+  pub start : IsFrameStart rest
   pub printed : List ℕ
   pub follows : IsPrinted alice_alone taken rest printed
   pub added : Adds written printed written_after

@@ -14,8 +14,6 @@ mod running;
 pub mod script;
 mod split;
 mod standing;
-#[cfg(test)]
-mod tests;
 mod users;
 mod words;
 

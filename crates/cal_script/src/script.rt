@@ -26,7 +26,9 @@ pub struct ScriptEnd {
 ///
 /// Where the input tells what is left to read and the output what was written, the output is what a
 /// script may print for the frames of the input (status 0), for those before the place (6), for
-/// those that were taken (4), or a front of that (5 and 7).
+/// those that were taken (4), or a front of that (5 and 7). At status 4 the octets behind the last
+/// whole frame are the start of a frame: a bad line is told at its end, and at the latest after as
+/// many octets as the longest line has, however the input goes on.
 pub fn run_script<F: Files, I: Source, O: Sink>(
     alloc: Global,
     words: &List<Word>,
@@ -41,6 +43,10 @@ pub fn run_script<F: Files, I: Source, O: Sink>(
     ensures users_refused { result.status ≡ 3 → IfSome (users_path words.now) (λ path. IfSome (F.content files.old path) (λ octets. ¬ IsUsersFile octets alice_alone)) }
     ensures users_taken { RunsFrames result.status → IfSome (users_path words.now) (λ path. IfSome (F.content files.old path) (λ octets. IsUsersFile octets alice_alone)) }
     ensures refused { RefusesStart result.status → (input.new ≡ input.old) × (output.new ≡ output.old) }
+
+    // The words come first, then the users file, and the input and the output only once it is taken.
+    ensures words_first { result.status ≡ 2 → files.new ≡ files.old }
+    ensures served { ((input.new ≡ input.old) × (output.new ≡ output.old)) ⊎ IfSome (users_path words.now) (λ path. IfSome (F.content files.old path) (λ octets. IsUsersFile octets alice_alone)) }
 
     // The frames.
     ensures done { result.status ≡ 0 → RanToEnd (I.left input.old) (I.left input.new) (O.written output.old) (O.written output.new) result.place }
@@ -57,40 +63,26 @@ pub fn run_script<F: Files, I: Source, O: Sink>(
     ensures output_never_falls { O.faults output.old ≤ O.faults output.new }
 {
     let Some(path) = users_path(words) else {
-        return ScriptEnd {
-            status: 2,
-            place: 0,
-        };
+        return without_place(2);
     };
     match check_users(alloc, files, path.as_str()) {
         Ok(()) => {}
-        Err(UsersFault::Line) => return ScriptEnd {
-            status: 3,
-            place: 0,
-        },
-        Err(UsersFault::Files) => return ScriptEnd {
-            status: 4,
-            place: 0,
-        },
-        Err(UsersFault::NoMemory) => return ScriptEnd {
-            status: 7,
-            place: 0,
-        },
+        Err(UsersFault::Line) => return without_place(3),
+        Err(UsersFault::Files) => return without_place(4),
+        Err(UsersFault::NoMemory) => return without_place(7),
     }
     match run_frames(alloc, input, output) {
         FrameEnd::Done(place) => ScriptEnd { status: 0, place },
-        FrameEnd::Input => ScriptEnd {
-            status: 4,
-            place: 0,
-        },
-        FrameEnd::Output => ScriptEnd {
-            status: 5,
-            place: 0,
-        },
         FrameEnd::Frame(place) => ScriptEnd { status: 6, place },
-        FrameEnd::NoMemory => ScriptEnd {
-            status: 7,
-            place: 0,
-        },
+        FrameEnd::Input => without_place(4),
+        FrameEnd::Output => without_place(5),
+        FrameEnd::NoMemory => without_place(7),
     }
+}
+
+/// An end that no place tells more of.
+fn without_place(status: u8) -> ScriptEnd
+    ensures { result ≡ record { status = status; place = 0 } }
+{
+    ScriptEnd { status, place: 0 }
 }

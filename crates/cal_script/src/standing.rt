@@ -1,5 +1,9 @@
 //! Where a script stands, and what one of its frames is answered.
-ghost use Rattle.std.specs.Prelude.{◌≡◌, ◌≤◌, [], IfOk};
+ghost use Rattle.std.specs.Prelude.{◌≡◌, ◌≤◌, pos, [], true, false, IfOk};
+ghost use Rattle.cal_model.specs.declared.reply.Reply.{Reply};
+ghost use Rattle.cal_model.specs.Replies.ReplyOctets.{reply_octets};
+ghost use Rattle.cal_base.specs.World.Outside.{IsMoment};
+ghost use Rattle.cal_book.specs.ThinAnswer.{Answers};
 ghost use Rattle.cal_model.specs.Words.Limits.{last_moment};
 ghost use Rattle.cal_model.specs.Scripts.Script.{at_start, Turn};
 ghost use Rattle.cal_model.specs.Scripts.Frames.{bytes};
@@ -9,7 +13,7 @@ ghost use Rattle.cal_script.specs.Printed.{printed_of};
 
 use cal_base::{NoMemory, Octets};
 use cal_book::Book;
-use cal_model::{Event, Media, Reply};
+use cal_model::{Event, Media, Reply, Request};
 use first_path::{read_request, write_reply};
 use std::alloc::Global;
 use std::marker::Model;
@@ -59,21 +63,42 @@ impl Standing {
             return Ok(None);
         }
         let moment = moment as i64;
-        let Some(request) = read_request(alloc, payload)? else {
-            self.closed = true;
-            let octets = write_reply(alloc, &not_implemented(alloc), moment, true, false)?;
-            return Ok(Some(octets));
-        };
-        let event = Event {
-            session: 0,
-            who: 0,
-            moment,
-            request,
-        };
-        let reply = self.book.thin_request(alloc, &event);
-        let octets = write_reply(alloc, &reply, moment, false, false)?;
-        Ok(Some(octets))
+        match read_request(alloc, payload)? {
+            Some(request) => Ok(Some(answer_request(&mut self.book, alloc, moment, request)?)),
+            None => {
+                self.closed = true;
+                Ok(Some(turn_away(alloc, moment)?))
+            }
+        }
     }
+}
+
+/// The octets of the reply to a request.
+fn answer_request(
+    book: &mut Book,
+    alloc: Global,
+    moment: i64,
+    request: Request,
+) -> Result<Octets, NoMemory>
+    requires { IsMoment moment }
+    ensures { IfOk result (λ octets. (reply : Reply) × Answers (record { session = 0; who = 0; moment = moment; request = request }) book.old book.new reply × (octets ≡ reply_octets reply moment false false)) }
+{
+    let event = Event {
+        session: 0,
+        who: 0,
+        moment,
+        request,
+    };
+    let reply = book.thin_request(alloc, &event);
+    write_reply(alloc, &reply, moment, false, false)
+}
+
+/// The octets of the reply to what is no request.
+fn turn_away(alloc: Global, moment: i64) -> Result<Octets, NoMemory>
+    requires { IsMoment moment }
+    ensures { IfOk result (λ octets. octets ≡ reply_octets (bare_reply 501) moment true false) }
+{
+    write_reply(alloc, &not_implemented(alloc), moment, true, false)
 }
 
 /// The reply to what is no request that is known.

@@ -1,5 +1,5 @@
-//! Tests of the crates that read calendar objects, above them all, so that a test costs its own
-//! check and no other.
+//! Tests of the crates that read calendar objects, and of the conversions of their zones, above them
+//! all, so that a test costs its own check and no other.
 #![tactic(auto)]
 
 #[cfg(test)]
@@ -10,3 +10,5 @@ mod line_values;
 mod long_values;
 #[cfg(test)]
 mod plain_values;
+#[cfg(test)]
+mod zones;

@@ -16,6 +16,3 @@ mod text;
 
 pub use reply::write_reply;
 pub use request::read_request;
-
-#[cfg(test)]
-mod tests;

@@ -13,6 +13,3 @@ mod write;
 
 pub use split::{LineFault, split_lines};
 pub use write::write_line;
-
-#[cfg(test)]
-mod tests;

@@ -1,5 +1,5 @@
 //! Splitting a text into its content lines.
-ghost use Rattle.std.specs.Prelude.{◌≡◌, ℕ, ◌+◌, ◌-◌, ◌<◌, ◌^◌, List, [], All, length, Option, None, IfOk, IsErrOf, Ok, Err};
+ghost use Rattle.std.specs.Prelude.{◌≡◌, ℕ, ◌+◌, ◌-◌, ◌<◌, ◌^◌, List, [], All, length, Option, None, Some, IfOk, IsErrOf, Ok, Err};
 ghost use Rattle.std.specs.Option.{option_or, option_to_list};
 ghost use Rattle.cal_base.specs.declared.line.Line.{Line};
 ghost use Rattle.cal_base.specs.Texts.Octets.{line_feed};
@@ -110,13 +110,21 @@ fn logical_line(
     ensures none { IfOk result (λ line. text_fault place raw refused ≡ None) }
     ensures fault { (at : ℕ) → IsErrOf result (LineFault.At at) → text_fault place raw refused ≡ Some at }
 {
-    let mut line = None;
-    if !raw.is_empty() {
-        line = read_line(alloc, raw)?;
-        if line.is_none() {
-            return Err(LineFault::At { place });
-        }
+    if raw.is_empty() {
+        return unless_refused(None, refused);
     }
+    match read_line(alloc, raw)? {
+        None => Err(LineFault::At { place }),
+        line => unless_refused(line, refused),
+    }
+}
+
+/// The line, unless a physical line of it is refused.
+fn unless_refused(line: Option<Line>, refused: Option<u64>) -> Result<Option<Line>, LineFault>
+    ensures line { IfOk result (λ kept. kept ≡ line) }
+    ensures none { IfOk result (λ kept. refused ≡ None) }
+    ensures fault { (at : ℕ) → IsErrOf result (LineFault.At at) → refused ≡ Some at }
+{
     match refused {
         Some(place) => Err(LineFault::At { place }),
         None => Ok(line),

@@ -1,5 +1,5 @@
 //! From lines to a tree.
-ghost use Rattle.std.specs.Prelude.{◌≡◌, ℕ, ◌<◌, ◌^◌, [], length, None, Some, All, IfOk, IfErr, IsTrue, IsFalse};
+ghost use Rattle.std.specs.Prelude.{◌≡◌, ℕ, ◌<◌, ◌^◌, [], ◌∷◌, ◌++◌, bytes_eq, length, None, Some, All, IfOk, IfErr, IsTrue, IsFalse};
 ghost use Rattle.cal_base.specs.Lines.ComponentTrees.{is_begin, is_end, component_name, nesting_fault, tree_of};
 ghost use Rattle.cal_base.specs.Lines.LineGrammar.{IsReadLine, IsComponent};
 ghost use Rattle.cal_base.specs.Lines.Nesting.{fault_from};
@@ -132,18 +132,25 @@ fn end(
     ensures step { IfOk result (λ after. IsStep number (Progress.Within inner around) line.now after) }
     ensures stop { IfErr result (λ fault. IsStop number (Progress.Within inner around) line.now fault) }
 {
-    let name = Name::of(alloc, line.value.as_slice())?;
-    if name != inner.name {
+    if !is_end_of(alloc, &inner, line)? {
         return Err(TreeFault::WrongEnd { line: number });
     }
     Ok(closed(inner, around)?)
+}
+
+/// Whether a line has the name of the component.
+fn is_end_of(alloc: Global, component: &OpenComponent, line: &Line) -> Result<bool, NoMemory>
+    ensures { IfOk result (λ same. same ≡ bytes_eq (component_name line.now) component.now.name) }
+{
+    let name = Name::of(alloc, line.value.as_slice())?;
+    Ok(name == component.name)
 }
 
 /// A line within a component.
 #[tactic(auto, using(crate::proofs::BuildSteps::step_own))]
 fn within(
     alloc: Global,
-    mut inner: OpenComponent,
+    inner: OpenComponent,
     around: Stack<OpenComponent>,
     number: u32,
     line: Line,
@@ -157,6 +164,17 @@ fn within(
     if is_end(&line) {
         return end(alloc, inner, around, number, &line);
     }
+    Ok(with_own(inner, around, line)?)
+}
+
+/// What is open behind a line of the component itself.
+fn with_own(
+    mut inner: OpenComponent,
+    around: Stack<OpenComponent>,
+    line: Line,
+) -> Result<Progress, NoMemory>
+    ensures { IfOk result (λ after. after ≡ Progress.Within (record inner { lines = inner.lines ++ line ∷ [] }) around) }
+{
     inner.lines.push(line)?;
     Ok(Progress::Within { inner, around })
 }

@@ -8,8 +8,6 @@
 mod fault;
 mod from_lines;
 mod open_component;
-#[cfg(test)]
-mod tests;
 mod to_text;
 
 pub use fault::TreeFault;

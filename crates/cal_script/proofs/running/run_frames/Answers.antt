@@ -1,8 +1,8 @@
 use Rattle.std.proofs.Common.{arith, rules, refl, subst, sym, ap, ◌∙◌, length, length-drop, Err}
 use Rattle.std.proofs.lemmas.Grind.{common_steps}
 use Rattle.cal_script.specs.Answered.{IsAnsweredInPart}
-use Rattle.cal_script.specs.FirstFrames.{BeginsNoFrame}
-use Rattle.cal_script.proofs.RunLemmas.{come_start, come_more, come_cut, bounded_next, no_frame_in_none, at_end, bad_behind, stopped_reading, wrote_front, wrote_before}
+use Rattle.cal_script.specs.FrameHeads.{IsFrameStart}
+use Rattle.cal_script.proofs.RunLemmas.{come_start, come_more, come_cut, bounded_next, start_of_none, at_end, bad_behind, stopped_reading, wrote_front, wrote_before}
 use Rattle.cal_script.proofs.running.run_frames.Goals as goal
 
 pub returns-in_default-clause-ended : goal.returns-in_default-clause-ended
@@ -14,7 +14,7 @@ returns-in_default-make_piece-clause-ended g c = wrote_before _ _ _ _ _ _ _ (com
 pub reading-init : goal.reading-init
 reading-init g c = record {
   come = come_start _ _ _ _ c.new-kept.ensures c.in-Ok.ensures;
-  unmet = subst BeginsNoFrame (sym c.new-kept.ensures) no_frame_in_none;
+  start = subst IsFrameStart (sym c.new-kept.ensures) start_of_none;
   bounded = λ some. absurd (omega (arith, some, ap length c.new-kept.ensures));
   room = c.in-Ok-make_piece.ensures;
   input_count = omega arith;
@@ -23,12 +23,12 @@ reading-init g c = record {
 
 pub returns-in-Ok-eq0-clause-ended : goal.returns-in-Ok-eq0-clause-ended
 returns-in-Ok-eq0-clause-ended g c =
-    at_end c.is_empty.result c.end_at.result _ _ _ _ _ _ _ _ _ c.reading.invariant.come c.reading.invariant.unmet c.in-Ok-eq0.ensures.goes
+    at_end c.is_empty.result c.end_at.result _ _ _ _ _ _ _ _ _ c.reading.invariant.come c.reading.invariant.start c.in-Ok-eq0.ensures.goes
     (c.in-Ok-eq0.ensures.at_end c.in-Ok-eq0.field-0-test) c.is_empty.ensures c.end_at.ensures
 
 pub returns-in-Err-Input-clause-ended : goal.returns-in-Err-Input-clause-ended
 returns-in-Err-Input-clause-ended g c =
-    stopped_reading _ _ _ _ _ _ _ _ c.reading.invariant.come c.reading.invariant.unmet
+    stopped_reading _ _ _ _ _ _ _ _ c.reading.invariant.come c.reading.invariant.start
     (c.take_piece.ensures.nothing_read (c.in-Err-Input.is ∙ ap (λ why. Err why) c.in-Err-Input.field-0-is))
 
 pub returns-in-Err-NoMemory-clause-ended : goal.returns-in-Err-NoMemory-clause-ended
@@ -40,7 +40,7 @@ reading-preserved g c =
     let cut = come_cut c.in-Cut.len _ _ _ _ _ _ _ _ _ _ _ c.as_slice.ensures c.behind_front-kept.ensures more c.in-Cut.ensures.answered in
     record {
       come = cut.0;
-      unmet = cut.1;
+      start = cut.1;
       bounded = bounded_next c.reading.place c.in-Cut.len _ _ _ _ _ _ c.reading.invariant.bounded c.in-Ok-take_piece.ensures.longer c.in-Ok-take_piece.ensures.allowed
           c.in-Ok-take_piece.ensures.bounded (ap length c.behind_front-kept.ensures ∙ length-drop c.in-Cut.len c.take_piece.new.kept) cut.2;
       room = grind (arith, common_steps);

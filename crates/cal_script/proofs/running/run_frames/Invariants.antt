@@ -1,13 +1,13 @@
 use Rattle.std.proofs.Common.{◌+◌, ◌<◌, ◌≤◌, ◌^◌, length}
-use Rattle.cal_script.specs.FirstFrames.{BeginsNoFrame}
+use Rattle.cal_script.specs.FrameHeads.{IsFrameStart}
 use Rattle.cal_script.proofs.RunLemmas.{HasCome}
 use Rattle.cal_script.proofs.running.run_frames.Given as goal
 
--- how far the run has come; no frame stands in what is kept; the octets are at most all that a source may give, and no count fell
+-- how far the run has come; what is kept is the start of a frame; the octets are at most all that a source may give, and no count fell
 abbrev pub invariant-reading : goal.invariant-reading
 invariant-reading g l = record {
   come : HasCome (g.I.Source.left l.fn.input) (g.O.Sink.written l.fn.output) l.place l.kept l.standing (g.I.Source.left l.input) (g.O.Sink.written l.output);
-  unmet : BeginsNoFrame l.kept;
+  start : IsFrameStart l.kept;
   bounded : 0 < l.place + length l.kept → l.place + length l.kept + g.I.Source.allowance l.input ≤ 2 ^ 62;
   room : 0 < length l.piece.items;
   input_count : g.I.Source.faults l.fn.input ≤ g.I.Source.faults l.input;
