@@ -1,2 +1,3 @@
 mod Covering
 mod Triggers
+mod UtcMoments

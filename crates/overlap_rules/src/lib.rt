@@ -10,5 +10,5 @@ mod moments;
 mod table;
 
 pub use alarm::{alarm_overlaps, lone_alarm_overlaps};
-pub use moments::{fixed, stored_period};
+pub use moments::{date_in, fixed, stored_period};
 pub use table::{overlaps, period_overlaps, row_overlaps};

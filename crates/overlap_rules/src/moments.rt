@@ -9,7 +9,8 @@ ghost use Rattle.cal_model.specs.TimeZones.TableBounds.{IsTable};
 ghost use Rattle.cal_model.specs.TimeZones.Zones.{instant_of};
 ghost use Rattle.overlap_rules.specs.Bounds.{IsOfDays, HasDays, IsNearRow};
 
-use cal_model::{Fixed, Range, Row, RowKind, ZoneTable, to_utc};
+use cal_base::List;
+use cal_model::{Fixed, Row, RowKind, ZoneTable, to_utc};
 use cal_moment::{Length, Local, Period, PeriodEnd, Stamp};
 
 const DAY: i64 = 86_400;
@@ -104,4 +105,36 @@ pub fn stored_period(period: &Period) -> (i128, i128)
 {
     let start = written_value(period.start);
     (start as i128, period_end(start, period.end))
+}
+
+/// The instant of a local time in the zone of that number; a number that no zone has stands for UTC.
+#[tactic(auto, using(crate::proofs::UtcMoments::instant_of_utc))]
+fn instant_in(zones: &[ZoneTable], number: u32, local: Local) -> i64
+    requires { All IsTable zones.now }
+    ensures { result ≡ instant_of (alignment.zone_of zones.now number) (local_seconds local) }
+{
+    match zones.get(number as usize) {
+        Some(zone) => to_utc(zone, local).0,
+        None => local.day as i64 * DAY + local.second as i64,
+    }
+}
+
+/// The instant of a date as it is written, floating times and dates read in a given zone.
+pub fn date_in(zones: &List<ZoneTable>, zone: &ZoneTable, date: Stamp) -> i64
+    requires zones { All IsTable zones.now }
+    requires zone { IsTable zone.now }
+    ensures { result ≡ spec.date_in zones.now zone.now date }
+{
+    match date {
+        Stamp::Date(day) => {
+            let midnight = Local {
+                day: day.0,
+                second: 0,
+            };
+            to_utc(zone, midnight).0
+        }
+        Stamp::Floating(local) => to_utc(zone, local).0,
+        Stamp::Zoned(local, number) => instant_in(zones.as_slice(), number, local),
+        Stamp::Utc(moment) => moment.0,
+    }
 }
