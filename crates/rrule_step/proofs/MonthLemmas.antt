@@ -7,7 +7,8 @@ use Rattle.cal_moment.proofs.CalendarLaws.{first_of_year-le, day_of_date-within,
 use Rattle.cal_model.specs.declared.rule.Rule.{Rule}
 use Rattle.cal_model.specs.declared.rule.Freq.{Freq}
 use Rattle.cal_model.specs.declared.rule.Freq.TheVariants.{Yearly}
-use Rattle.cal_model.specs.Words.Numbers.{is_empty, some_names_place}
+use Rattle.cal_model.specs.Words.Lists.{is_empty}
+use Rattle.cal_model.specs.Words.Integers.{some_names_place}
 use Rattle.std.specs.List.{list_any}
 use Rattle.cal_model.specs.Recurrence.Passing.{month_passes, month_day_passes, year_day_passes, week_passes, by_day_passes, default_passes, day_default, day_passes, has_day_part, counts_in_month, weekday_passes}
 use Rattle.rrule_step.specs.declared.month.Month.{Month}

@@ -4,8 +4,8 @@ ghost use Rattle.std.specs.List.{list_any};
 ghost use Rattle.cal_moment.specs.Calendar as cal;
 ghost use Rattle.cal_model.specs.Recurrence.NextPassing.{IsUsable};
 ghost use Rattle.cal_model.specs.Recurrence.Passing as spec;
-ghost use Rattle.cal_model.specs.Words.Numbers as numbers;
-ghost use Rattle.cal_model.specs.Words.Numbers.{names_place, some_names_place};
+ghost use Rattle.cal_model.specs.Words.Lists as lists;
+ghost use Rattle.cal_model.specs.Words.Integers.{names_place, some_names_place};
 ghost use Rattle.rrule_step.specs.Sets.{has};
 
 use crate::month::{Month, days_before_month, weekday_of, year_length};
@@ -193,7 +193,7 @@ fn has_day_part(rule: &Rule) -> bool
 
 /// Whether the start leaves its day to a month under YEARLY: without BYMONTH to its own alone.
 fn in_start_month(rule: &Rule, start: &Start, month: &Month) -> bool
-    ensures { result ≡ (if numbers.is_empty rule.now.by_month then month.now.month == start.now.month else true) }
+    ensures { result ≡ (if lists.is_empty rule.now.by_month then month.now.month == start.now.month else true) }
 {
     !rule.by_month.is_empty() || month.month == start.month
 }

@@ -1,6 +1,6 @@
 //! Parts of a rule as sets.
 ghost use Rattle.std.specs.Prelude.{◌≡◌, ℕ, ◌<◌, ◌==◌, true, if◌then◌else◌};
-ghost use Rattle.cal_model.specs.Words.Numbers as numbers;
+ghost use Rattle.cal_model.specs.Words.Lists as lists;
 ghost use Rattle.cal_model.specs.Recurrence.Passing as spec;
 ghost use Rattle.rrule_step.specs.Sets.{has};
 
@@ -21,7 +21,7 @@ fn with_small(set: Set, number: u8) -> Set
 
 /// The numbers of a part.
 pub fn numbers_of(part: &List<u8>) -> Set
-    ensures { (i : ℕ) → i < 64 → has result i ≡ numbers.has_number part.now i }
+    ensures { (i : ℕ) → i < 64 → has result i ≡ lists.has_number part.now i }
 {
     let mut set = Set::none();
     for number in part.as_slice() {

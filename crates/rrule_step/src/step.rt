@@ -2,7 +2,7 @@
 ghost use Rattle.std.specs.Prelude.{◌≡◌, ℕ, ◌+◌, ◌-◌, ◌*◌, ◌/◌, ◌%◌, ◌<◌, ◌≤◌, true, false, IfSome, MatchOption, pos, neg_ℤ, ◌≤ℤ◌};
 ghost use Rattle.cal_moment.specs.Calendar as cal;
 ghost use Rattle.cal_model.specs.Recurrence.NextPassing.{IsWritten, IsUsable, NonePasses, IsNextPassing, end_day, is_fine};
-ghost use Rattle.cal_model.specs.Words.Numbers.{moment_of_local};
+ghost use Rattle.cal_model.specs.Values.LocalTimes.{moment_of_local};
 ghost use Rattle.cal_model.specs.Recurrence.Passing as spec;
 ghost use Rattle.rrule_step.specs.StartMoment.{moment_of};
 ghost use Rattle.rrule_step.specs.Plans.{IsPlan, IsFound, passes_on};

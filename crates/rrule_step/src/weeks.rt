@@ -3,7 +3,8 @@ ghost use Rattle.std.specs.Prelude.{◌≡◌, ◌≢◌, ℕ, ◌+◌, ◌-◌,
 ghost use Rattle.cal_moment.specs.Calendar as cal;
 ghost use Rattle.cal_model.specs.Recurrence.NextPassing.{IsUsable};
 ghost use Rattle.cal_model.specs.Recurrence.Passing as spec;
-ghost use Rattle.cal_model.specs.Words.Numbers as numbers;
+ghost use Rattle.cal_model.specs.Words.Integers as integers;
+ghost use Rattle.cal_model.specs.Words.Lists as lists;
 ghost use Rattle.rrule_step.specs.Sets.{has};
 
 use crate::month::{Month, first_of_year, weekday_of};
@@ -14,7 +15,7 @@ use cal_model::Rule;
 /// Whether a written number names a place, from the front or, where it is negative, from the end.
 fn names_place(place: u32, size: u32, number: i16) -> bool
     requires { place ≤ 1000 }
-    ensures { result ≡ numbers.names_place place size number }
+    ensures { result ≡ integers.names_place place size number }
 {
     if number >= 0 {
         number as u32 == place
@@ -26,7 +27,7 @@ fn names_place(place: u32, size: u32, number: i16) -> bool
 /// Whether one of the written numbers names a place.
 fn some_names_place(part: &List<i16>, place: u32, size: u32) -> bool
     requires { place ≤ 1000 }
-    ensures { result ≡ numbers.some_names_place part.now place size }
+    ensures { result ≡ integers.some_names_place part.now place size }
 {
     part.iter().any(|n| names_place(place, size, *n))
 }
@@ -75,7 +76,7 @@ fn near_year(year: u32, day: u32) -> u32
 /// Whether a day of a year lies in one of the weeks of BYWEEKNO.
 fn week_passes(rule: &Rule, year: u32, day: u32) -> bool
     requires rule { IsUsable rule.now }
-    requires some { (numbers.is_empty rule.now.by_week) ≡ false }
+    requires some { (lists.is_empty rule.now.by_week) ≡ false }
     requires bounds { (1 ≤ year) × (year ≤ 2101) }
     requires from { cal.first_of_year year ≤ day }
     requires to { day < cal.first_of_year (year + 1) }
@@ -101,7 +102,7 @@ fn begins(week_start: u8, place: u32, day: u32) -> bool
 /// there, and its later days are as the day before them.
 fn week_passes_at(rule: &Rule, month: &Month, place: u32, before: bool) -> bool
     requires rule { IsUsable rule.now }
-    requires some { (numbers.is_empty rule.now.by_week) ≡ false }
+    requires some { (lists.is_empty rule.now.by_week) ≡ false }
     requires place { place < month.now.size }
     requires before { 0 < place → before ≡ spec.week_passes rule.now (month.now.first + place - 1) }
     ensures { result ≡ spec.week_passes rule.now (month.now.first + place) }
@@ -125,7 +126,7 @@ fn with_if(set: Set, number: u32, asked: bool) -> Set
 /// The days of a month in the weeks of BYWEEKNO.
 fn named_weeks(rule: &Rule, month: &Month) -> Set
     requires rule { IsUsable rule.now }
-    requires some { (numbers.is_empty rule.now.by_week) ≡ false }
+    requires some { (lists.is_empty rule.now.by_week) ≡ false }
     ensures { (i : ℕ) → i < month.now.size → has result i ≡ spec.week_passes rule.now (month.now.first + i) }
 {
     let mut set = Set::none();

@@ -1,5 +1,5 @@
 use Rattle.std.proofs.Common.{◌≡◌, ℕ, ◌+◌, ◌<◌, take}
-use Rattle.cal_model.specs.Words.Numbers.{some_names_place}
+use Rattle.cal_model.specs.Words.Integers.{some_names_place}
 use Rattle.rrule_step.specs.Sets.{has}
 use Rattle.rrule_step.proofs.days.all_named.Given as goal
 

@@ -1,7 +1,7 @@
 use Rattle.std.proofs.Common.{◌≡◌, ◌<◌, ◌∙◌, sym, ap, arith, rules, true, false, not, ◌==◌}
 use Rattle.std.specs.Prelude.{if◌then◌else◌}
 use Rattle.cal_moment.specs.Calendar.{month_of}
-use Rattle.cal_model.specs.Words.Numbers.{is_empty, has_number}
+use Rattle.cal_model.specs.Words.Lists.{is_empty, has_number}
 use Rattle.cal_model.specs.Recurrence.Passing.{month_passes, has_day_part}
 use Rattle.cal_model.proofs.Recurrence.Rising.{month_of-last}
 use Rattle.rrule_step.proofs.MonthLemmas.{day_passes-month, day_passes-default, default-other_month}

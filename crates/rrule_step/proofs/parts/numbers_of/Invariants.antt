@@ -1,5 +1,5 @@
 use Rattle.std.proofs.Common.{◌≡◌, ℕ, ◌<◌, take}
-use Rattle.cal_model.specs.Words.Numbers.{has_number}
+use Rattle.cal_model.specs.Words.Lists.{has_number}
 use Rattle.rrule_step.specs.Sets.{has}
 use Rattle.rrule_step.proofs.parts.numbers_of.Given as goal
 
