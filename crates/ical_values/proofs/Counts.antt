@@ -8,7 +8,8 @@ use Rattle.cal_moment.proofs.DigitLemmas.{digits_push, digit_below, tail_below}
 use Rattle.cal_moment.proofs.CountLemmas.{count_length}
 use Rattle.cal_model.specs.Values.ValueTexts.{count_of, integer_of, is_negative, sign_length}
 use Rattle.ical_values.specs.LineTexts.{IsDigitOctet}
-use Rattle.cal_model.proofs.Values.CutLemmas.{cases_Option, count_of-SpellsCount, SpellsCount-count_of, length-digits}
+use Rattle.cal_model.proofs.Values.CutLemmas.{cases_Option, count_of-SpellsCount, SpellsCount-count_of}
+use Rattle.cal_moment.proofs.DigitLemmas.{length-digits}
 
 -- each octet of a number is one
 pub digit_at : (count n place : ℕ) → n < 10 ^ count → place < count → IsDigitOctet (get_or (digits count n) place 0)
