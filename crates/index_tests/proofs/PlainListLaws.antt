@@ -1,9 +1,8 @@
 -- The piece at an index of a list, and what a walk over the list has counted by then.
-use Rattle.std.proofs.Common.{◌≡◌, ◌≢◌, ℕ, ◌+◌, ◌≤◌, ◌<◌, Bool, true, false, if◌then◌else◌, List, [], ◌∷◌, filter, length, drop, get_or, Some, sym, ap, ◌∙◌, arith}
+use Rattle.std.proofs.Common.{◌≡◌, ◌≢◌, ℕ, ◌+◌, ◌≤◌, ◌<◌, Bool, true, false, if◌then◌else◌, List, [], ◌∷◌, filter, length, drop, get_or, sym, ap, ◌∙◌, arith}
 use Rattle.std.proofs.lemmas.List.{drop_more}
-use Rattle.std.specs.Prelude.{ℤ}
 use Rattle.cal_model.specs.declared.piece.Piece.{Piece}
-use Rattle.cal_model.specs.Pieces.PieceLists.{is_piece_of, is_other_piece, is_piece_at, rows_at, rows_in}
+use Rattle.cal_model.specs.Pieces.PieceLists.{is_other_piece, rows_in}
 
 drop_at : (ps : List Piece) (i : ℕ) (p : Piece) → i < length ps → p ≡ get_or ps i p → drop i ps ≡ p ∷ drop (i + 1) ps
 drop_at ps i p within is = drop_more ps i p within ∙ ap (λ q. q ∷ drop (i + 1) ps) (sym is)

@@ -8,11 +8,10 @@ ghost use Rattle.std.specs.Prelude.{◌≡◌, true, false, refl, [], All, IfOk}
 
 use cal_base::NoMemory;
 use std::alloc::{AllocError, Global};
-use std::env;
 use std::sync::Wait;
-use std::thread;
 use std::thread::Threads;
 use std::time::Instant;
+use std::{env, thread};
 use turn_lock::{Held, Keeps, Pass, TurnLock};
 
 /// A journal that stays empty.

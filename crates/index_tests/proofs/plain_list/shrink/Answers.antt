@@ -1,5 +1,4 @@
-use Rattle.std.proofs.Common.{◌≡◌, ◌≤◌, ◌∙◌, sym, arith}
-use Rattle.cal_model.specs.Pieces.PieceLists.{rows_in}
+use Rattle.std.proofs.Common.{◌∙◌, sym, arith}
 use Rattle.cal_model.proofs.Pieces.PieceListLaws.{within_done}
 use Rattle.index_tests.proofs.plain_list.shrink.Goals as goal
 

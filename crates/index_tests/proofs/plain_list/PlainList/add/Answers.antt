@@ -1,4 +1,4 @@
-use Rattle.std.proofs.Common.{◌≡◌, ◌≤◌, ◌+◌, ◌-◌, ◌∙◌, ap, sym, subst, arith, [], ◌∷◌, ◌++◌, length, None}
+use Rattle.std.proofs.Common.{◌≡◌, ◌-◌, ◌∙◌, ap, sym, subst, arith, [], ◌∷◌, ◌++◌, None}
 use Rattle.cal_model.specs.Pieces.PieceLists.{ArePairsApart, rows_at, rows_in, newest_within}
 use Rattle.cal_model.proofs.Pieces.PieceListLaws.{rows_in_append, apart_within, apart_snoc}
 use Rattle.cal_model.proofs.Pieces.FoundPieces.{none_within}
