@@ -1,4 +1,4 @@
-use Rattle.std.proofs.Common.{arith}
+use Rattle.std.proofs.Common.{rules}
 use Rattle.calendar_tests.proofs.ZoneTables.{IsTable-two}
 use Rattle.calendar_tests.proofs.zones.new_york.Goals as goal
 
