@@ -11,7 +11,7 @@ use crate::cuts::cut;
 use crate::fault::ValueFault;
 use crate::list::{Items, read_list};
 use crate::single::read_duration;
-use crate::stamps::{TimeForm, has_zone_below, is_list, is_utc, read_time, line_zone};
+use crate::stamps::{TimeForm, has_zone_below, is_list, is_utc, line_zone, read_time};
 use crate::zones::ZoneNames;
 use cal_base::{Line, List};
 use cal_moment::{Bad, Period, PeriodEnd};
