@@ -20,6 +20,7 @@ use Rattle.cal_model.specs.declared.request.Tags.TheVariants.{Any}
 use Rattle.cal_model.specs.declared.wire.WireRequest.{WireRequest}
 use Rattle.cal_model.specs.Words.Cuts.{cut_at}
 use Rattle.cal_model.specs.Words.Limits.{last_date}
+use Rattle.cal_model.specs.Values.ValueTexts.{date_of, time_of, date_time_of}
 use Rattle.cal_model.specs.Values.UtcTexts.{utc_of}
 use Rattle.cal_model.specs.Replies.BareReplies.{bare_reply}
 use Rattle.cal_model.specs.Paths.TargetPaths.{target_path}
@@ -105,90 +106,90 @@ report_of_object = refl
 
 -- a well-formed field stands in the request also where the other one is refused
 pub put_of_object : asked_with users (record (bare_wire (codes "PUT") (codes "/calendars/x/c/o")) { if_none = Some (codes "*"); if_match = Some (codes "a"); body = codes "text" }) 0 ≡ asked 0 (record { method = PutMethod; path = Object (codes "x") (codes "c") (codes "o"); if_match = None; if_none = Some Any; size = 4; content = Bad bad_request })
-unfolding content_of report_content acl_content tags_of target_path cut_at percent_decode trim_ows utc_of is_utf8 chars encode I.out-Item I.roll-Item B.shown-the_row-Item-0 B.hidden-the_row-Item-0 B.shape-the_row-Item-0 H.out H.roll H.shown H.hidden
+unfolding content_of report_content acl_content tags_of target_path cut_at percent_decode trim_ows utc_of date_time_of date_of time_of is_utf8 chars encode I.out-Item I.roll-Item B.shown-the_row-Item-0 B.hidden-the_row-Item-0 B.shape-the_row-Item-0 H.out H.roll H.shown H.hidden
 put_of_object = refl
 
 -- The content of a method
 
 pub put_without_type : content_of users (record (bare_wire (codes "PUT") (codes "/")) { body = codes "text" }) PutMethod ≡ Put true (codes "text")
-unfolding content_of report_content acl_content tags_of target_path cut_at percent_decode trim_ows utc_of is_utf8 chars encode I.out-Item I.roll-Item B.shown-the_row-Item-0 B.hidden-the_row-Item-0 B.shape-the_row-Item-0 H.out H.roll H.shown H.hidden
+unfolding content_of report_content acl_content tags_of target_path cut_at percent_decode trim_ows utc_of date_time_of date_of time_of is_utf8 chars encode I.out-Item I.roll-Item B.shown-the_row-Item-0 B.hidden-the_row-Item-0 B.shape-the_row-Item-0 H.out H.roll H.shown H.hidden
 put_without_type = refl
 
 -- it is refused later, in its place
 pub put_of_another_type : content_of users (record (bare_wire (codes "PUT") (codes "/")) { media = Some (codes "text/plain"); body = codes "text" }) PutMethod ≡ Put false (codes "text")
-unfolding content_of report_content acl_content tags_of target_path cut_at percent_decode trim_ows utc_of is_utf8 chars encode I.out-Item I.roll-Item B.shown-the_row-Item-0 B.hidden-the_row-Item-0 B.shape-the_row-Item-0 H.out H.roll H.shown H.hidden
+unfolding content_of report_content acl_content tags_of target_path cut_at percent_decode trim_ows utc_of date_time_of date_of time_of is_utf8 chars encode I.out-Item I.roll-Item B.shown-the_row-Item-0 B.hidden-the_row-Item-0 B.shape-the_row-Item-0 H.out H.roll H.shown H.hidden
 put_of_another_type = refl
 
 pub find : content_of users (a_find (codes "0")) Propfind ≡ find_all false
-unfolding content_of report_content acl_content tags_of target_path cut_at percent_decode trim_ows utc_of is_utf8 chars encode I.out-Item I.roll-Item B.shown-the_row-Item-0 B.hidden-the_row-Item-0 B.shape-the_row-Item-0 H.out H.roll H.shown H.hidden
+unfolding content_of report_content acl_content tags_of target_path cut_at percent_decode trim_ows utc_of date_time_of date_of time_of is_utf8 chars encode I.out-Item I.roll-Item B.shown-the_row-Item-0 B.hidden-the_row-Item-0 B.shape-the_row-Item-0 H.out H.roll H.shown H.hidden
 find = refl
 
 pub find_without_body : content_of users (record (a_find (codes "0")) { body = [] }) Propfind ≡ find_all false
-unfolding content_of report_content acl_content tags_of target_path cut_at percent_decode trim_ows utc_of is_utf8 chars encode I.out-Item I.roll-Item B.shown-the_row-Item-0 B.hidden-the_row-Item-0 B.shape-the_row-Item-0 H.out H.roll H.shown H.hidden
+unfolding content_of report_content acl_content tags_of target_path cut_at percent_decode trim_ows utc_of date_time_of date_of time_of is_utf8 chars encode I.out-Item I.roll-Item B.shown-the_row-Item-0 B.hidden-the_row-Item-0 B.shape-the_row-Item-0 H.out H.roll H.shown H.hidden
 find_without_body = refl
 
 pub make_without_body : content_of users (record (a_find (codes "0")) { body = [] }) Mkcalendar ≡ Make []
-unfolding content_of report_content acl_content tags_of target_path cut_at percent_decode trim_ows utc_of is_utf8 chars encode I.out-Item I.roll-Item B.shown-the_row-Item-0 B.hidden-the_row-Item-0 B.shape-the_row-Item-0 H.out H.roll H.shown H.hidden
+unfolding content_of report_content acl_content tags_of target_path cut_at percent_decode trim_ows utc_of date_time_of date_of time_of is_utf8 chars encode I.out-Item I.roll-Item B.shown-the_row-Item-0 B.hidden-the_row-Item-0 B.shape-the_row-Item-0 H.out H.roll H.shown H.hidden
 make_without_body = refl
 
 pub patch_without_body : content_of users (record (a_find (codes "0")) { body = [] }) Proppatch ≡ Bad bad_request
-unfolding content_of report_content acl_content tags_of target_path cut_at percent_decode trim_ows utc_of is_utf8 chars encode I.out-Item I.roll-Item B.shown-the_row-Item-0 B.hidden-the_row-Item-0 B.shape-the_row-Item-0 H.out H.roll H.shown H.hidden
+unfolding content_of report_content acl_content tags_of target_path cut_at percent_decode trim_ows utc_of date_time_of date_of time_of is_utf8 chars encode I.out-Item I.roll-Item B.shown-the_row-Item-0 B.hidden-the_row-Item-0 B.shape-the_row-Item-0 H.out H.roll H.shown H.hidden
 patch_without_body = refl
 
 pub body_that_is_no_xml : content_of users (record (a_find (codes "0")) { body = codes "<a>" }) Propfind ≡ Bad bad_request
-unfolding content_of report_content acl_content tags_of target_path cut_at percent_decode trim_ows utc_of is_utf8 chars encode I.out-Item I.roll-Item B.shown-the_row-Item-0 B.hidden-the_row-Item-0 B.shape-the_row-Item-0 H.out H.roll H.shown H.hidden
+unfolding content_of report_content acl_content tags_of target_path cut_at percent_decode trim_ows utc_of date_time_of date_of time_of is_utf8 chars encode I.out-Item I.roll-Item B.shown-the_row-Item-0 B.hidden-the_row-Item-0 B.shape-the_row-Item-0 H.out H.roll H.shown H.hidden
 body_that_is_no_xml = refl
 
 -- Refusals by fields, in their order: the coding, the type, the body, the tags, Depth
 
 pub other_type : content_of users (record (a_find (codes "0")) { media = Some (codes "text/plain") }) Propfind ≡ unsupported
-unfolding content_of report_content acl_content tags_of target_path cut_at percent_decode trim_ows utc_of is_utf8 chars encode I.out-Item I.roll-Item B.shown-the_row-Item-0 B.hidden-the_row-Item-0 B.shape-the_row-Item-0 H.out H.roll H.shown H.hidden
+unfolding content_of report_content acl_content tags_of target_path cut_at percent_decode trim_ows utc_of date_time_of date_of time_of is_utf8 chars encode I.out-Item I.roll-Item B.shown-the_row-Item-0 B.hidden-the_row-Item-0 B.shape-the_row-Item-0 H.out H.roll H.shown H.hidden
 other_type = refl
 
 pub other_type_without_body : content_of users (record (a_find (codes "0")) { media = Some (codes "text/plain"); body = [] }) Mkcalendar ≡ unsupported
-unfolding content_of report_content acl_content tags_of target_path cut_at percent_decode trim_ows utc_of is_utf8 chars encode I.out-Item I.roll-Item B.shown-the_row-Item-0 B.hidden-the_row-Item-0 B.shape-the_row-Item-0 H.out H.roll H.shown H.hidden
+unfolding content_of report_content acl_content tags_of target_path cut_at percent_decode trim_ows utc_of date_time_of date_of time_of is_utf8 chars encode I.out-Item I.roll-Item B.shown-the_row-Item-0 B.hidden-the_row-Item-0 B.shape-the_row-Item-0 H.out H.roll H.shown H.hidden
 other_type_without_body = refl
 
 pub other_coding : content_of users (record (a_find (codes "0")) { coding = Some (codes "gzip") }) Propfind ≡ unsupported
-unfolding content_of report_content acl_content tags_of target_path cut_at percent_decode trim_ows utc_of is_utf8 chars encode I.out-Item I.roll-Item B.shown-the_row-Item-0 B.hidden-the_row-Item-0 B.shape-the_row-Item-0 H.out H.roll H.shown H.hidden
+unfolding content_of report_content acl_content tags_of target_path cut_at percent_decode trim_ows utc_of date_time_of date_of time_of is_utf8 chars encode I.out-Item I.roll-Item B.shown-the_row-Item-0 B.hidden-the_row-Item-0 B.shape-the_row-Item-0 H.out H.roll H.shown H.hidden
 other_coding = refl
 
 -- of every method; the empty value is another coding
 pub other_coding_of_options : content_of users (record (bare_wire (codes "OPTIONS") (codes "/")) { coding = Some [] }) Options ≡ unsupported
-unfolding content_of report_content acl_content tags_of target_path cut_at percent_decode trim_ows utc_of is_utf8 chars encode I.out-Item I.roll-Item B.shown-the_row-Item-0 B.hidden-the_row-Item-0 B.shape-the_row-Item-0 H.out H.roll H.shown H.hidden
+unfolding content_of report_content acl_content tags_of target_path cut_at percent_decode trim_ows utc_of date_time_of date_of time_of is_utf8 chars encode I.out-Item I.roll-Item B.shown-the_row-Item-0 B.hidden-the_row-Item-0 B.shape-the_row-Item-0 H.out H.roll H.shown H.hidden
 other_coding_of_options = refl
 
 -- of every method
 pub tags_of_options : content_of users (record (bare_wire (codes "OPTIONS") (codes "/")) { if_none = Some (codes "x") }) Options ≡ Bad bad_request
-unfolding content_of report_content acl_content tags_of target_path cut_at percent_decode trim_ows utc_of is_utf8 chars encode I.out-Item I.roll-Item B.shown-the_row-Item-0 B.hidden-the_row-Item-0 B.shape-the_row-Item-0 H.out H.roll H.shown H.hidden
+unfolding content_of report_content acl_content tags_of target_path cut_at percent_decode trim_ows utc_of date_time_of date_of time_of is_utf8 chars encode I.out-Item I.roll-Item B.shown-the_row-Item-0 B.hidden-the_row-Item-0 B.shape-the_row-Item-0 H.out H.roll H.shown H.hidden
 tags_of_options = refl
 
 pub body_before_tags : content_of users (record (bare_wire (codes "REPORT") (codes "/")) { if_match = Some (codes "x"); body = codes "<a/>" }) Report ≡ Bad (dav_refusal (codes "supported-report"))
-unfolding content_of report_content acl_content tags_of target_path cut_at percent_decode trim_ows utc_of is_utf8 chars encode I.out-Item I.roll-Item B.shown-the_row-Item-0 B.hidden-the_row-Item-0 B.shape-the_row-Item-0 H.out H.roll H.shown H.hidden
+unfolding content_of report_content acl_content tags_of target_path cut_at percent_decode trim_ows utc_of date_time_of date_of time_of is_utf8 chars encode I.out-Item I.roll-Item B.shown-the_row-Item-0 B.hidden-the_row-Item-0 B.shape-the_row-Item-0 H.out H.roll H.shown H.hidden
 body_before_tags = refl
 
 pub tags_before_depth : content_of users (record (a_find (codes "infinity")) { if_match = Some (codes "x") }) Propfind ≡ Bad bad_request
-unfolding content_of report_content acl_content tags_of target_path cut_at percent_decode trim_ows utc_of is_utf8 chars encode I.out-Item I.roll-Item B.shown-the_row-Item-0 B.hidden-the_row-Item-0 B.shape-the_row-Item-0 H.out H.roll H.shown H.hidden
+unfolding content_of report_content acl_content tags_of target_path cut_at percent_decode trim_ows utc_of date_time_of date_of time_of is_utf8 chars encode I.out-Item I.roll-Item B.shown-the_row-Item-0 B.hidden-the_row-Item-0 B.shape-the_row-Item-0 H.out H.roll H.shown H.hidden
 tags_before_depth = refl
 
 pub depth_1 : content_of users (a_find (codes "1")) Propfind ≡ find_all true
-unfolding content_of report_content acl_content tags_of target_path cut_at percent_decode trim_ows utc_of is_utf8 chars encode I.out-Item I.roll-Item B.shown-the_row-Item-0 B.hidden-the_row-Item-0 B.shape-the_row-Item-0 H.out H.roll H.shown H.hidden
+unfolding content_of report_content acl_content tags_of target_path cut_at percent_decode trim_ows utc_of date_time_of date_of time_of is_utf8 chars encode I.out-Item I.roll-Item B.shown-the_row-Item-0 B.hidden-the_row-Item-0 B.shape-the_row-Item-0 H.out H.roll H.shown H.hidden
 depth_1 = refl
 
 pub depth_infinity : content_of users (a_find (codes "infinity")) Propfind ≡ no_finite_depth
-unfolding content_of report_content acl_content tags_of target_path cut_at percent_decode trim_ows utc_of is_utf8 chars encode I.out-Item I.roll-Item B.shown-the_row-Item-0 B.hidden-the_row-Item-0 B.shape-the_row-Item-0 H.out H.roll H.shown H.hidden
+unfolding content_of report_content acl_content tags_of target_path cut_at percent_decode trim_ows utc_of date_time_of date_of time_of is_utf8 chars encode I.out-Item I.roll-Item B.shown-the_row-Item-0 B.hidden-the_row-Item-0 B.shape-the_row-Item-0 H.out H.roll H.shown H.hidden
 depth_infinity = refl
 
 pub no_depth : content_of users (record (a_find (codes "0")) { depth = None }) Propfind ≡ no_finite_depth
-unfolding content_of report_content acl_content tags_of target_path cut_at percent_decode trim_ows utc_of is_utf8 chars encode I.out-Item I.roll-Item B.shown-the_row-Item-0 B.hidden-the_row-Item-0 B.shape-the_row-Item-0 H.out H.roll H.shown H.hidden
+unfolding content_of report_content acl_content tags_of target_path cut_at percent_decode trim_ows utc_of date_time_of date_of time_of is_utf8 chars encode I.out-Item I.roll-Item B.shown-the_row-Item-0 B.hidden-the_row-Item-0 B.shape-the_row-Item-0 H.out H.roll H.shown H.hidden
 no_depth = refl
 
 -- another Depth
 pub depth_in_capitals : content_of users (a_find (codes "Infinity")) Propfind ≡ Bad bad_request
-unfolding content_of report_content acl_content tags_of target_path cut_at percent_decode trim_ows utc_of is_utf8 chars encode I.out-Item I.roll-Item B.shown-the_row-Item-0 B.hidden-the_row-Item-0 B.shape-the_row-Item-0 H.out H.roll H.shown H.hidden
+unfolding content_of report_content acl_content tags_of target_path cut_at percent_decode trim_ows utc_of date_time_of date_of time_of is_utf8 chars encode I.out-Item I.roll-Item B.shown-the_row-Item-0 B.hidden-the_row-Item-0 B.shape-the_row-Item-0 H.out H.roll H.shown H.hidden
 depth_in_capitals = refl
 
 -- of a REPORT it is not looked at
 pub depth_of_report : content_of users (record (a_find (codes "x")) { body = codes "<C:free-busy-query xmlns:C=\"urn:ietf:params:xml:ns:caldav\"><C:time-range start=\"20250101T000000Z\"/></C:free-busy-query>" }) Report ≡ ReportContent (FreeBusy (record { start = record { 0 = pos 1735689600 }; end = record { 0 = last_date } }))
-unfolding content_of report_content acl_content tags_of target_path cut_at percent_decode trim_ows utc_of is_utf8 chars encode I.out-Item I.roll-Item B.shown-the_row-Item-0 B.hidden-the_row-Item-0 B.shape-the_row-Item-0 H.out H.roll H.shown H.hidden
+unfolding content_of report_content acl_content tags_of target_path cut_at percent_decode trim_ows utc_of date_time_of date_of time_of is_utf8 chars encode I.out-Item I.roll-Item B.shown-the_row-Item-0 B.hidden-the_row-Item-0 B.shape-the_row-Item-0 H.out H.roll H.shown H.hidden
 depth_of_report = refl

@@ -20,6 +20,7 @@ use Rattle.cal_model.specs.declared.request.Method.TheVariants.{Report as Report
 use Rattle.cal_model.specs.declared.wire.WireRequest.{WireRequest}
 use Rattle.cal_model.specs.Words.Cuts.{cut_at}
 use Rattle.cal_model.specs.Words.Namespaces.{dav, caldav}
+use Rattle.cal_model.specs.Values.ValueTexts.{date_of, time_of, date_time_of}
 use Rattle.cal_model.specs.Values.UtcTexts.{utc_of}
 use Rattle.cal_model.specs.Streams.Heads.{head_end, head_of, without_empty_lines}
 use Rattle.cal_model.specs.Streams.HeadFields.{read_head, wire_request}
@@ -58,7 +59,7 @@ unfolding front head_end cut_at head_of read_head without_empty_lines wire_reque
 evolution_request = refl
 
 pub evolution_asks : asked_with [] evolution 0 ≡ asks home 302 (Query (SomeProps (getetag ∷ [])) all_data (objects_with (codes "VEVENT")) None)
-unfolding content_of report_content target_path cut_at percent_decode trim_ows utc_of is_utf8 chars encode I.out-Item I.roll-Item B.shown-the_row-Item-0 B.hidden-the_row-Item-0 B.shape-the_row-Item-0 H.out H.roll H.shown H.hidden
+unfolding content_of report_content target_path cut_at percent_decode trim_ows utc_of date_time_of date_of time_of is_utf8 chars encode I.out-Item I.roll-Item B.shown-the_row-Item-0 B.hidden-the_row-Item-0 B.shape-the_row-Item-0 H.out H.roll H.shown H.hidden
 evolution_asks = refl
 
 -- iCal: prefixes of its own choice
@@ -73,7 +74,7 @@ unfolding front head_end cut_at head_of read_head without_empty_lines wire_reque
 ical_request = refl
 
 pub ical_asks : asked_with [] ical 0 ≡ asks home 289 (Multiget (SomeProps (getetag ∷ record { space = caldav; name = codes "calendar-data" } ∷ [])) all_data (codes "/caldav.php/user1/home/AAA9318E-37D9-4319-8626-95ECD3D3B243.ics" ∷ []))
-unfolding content_of report_content target_path cut_at percent_decode trim_ows utc_of is_utf8 chars encode I.out-Item I.roll-Item B.shown-the_row-Item-0 B.hidden-the_row-Item-0 B.shape-the_row-Item-0 H.out H.roll H.shown H.hidden
+unfolding content_of report_content target_path cut_at percent_decode trim_ows utc_of date_time_of date_of time_of is_utf8 chars encode I.out-Item I.roll-Item B.shown-the_row-Item-0 B.hidden-the_row-Item-0 B.shape-the_row-Item-0 H.out H.roll H.shown H.hidden
 ical_asks = refl
 
 -- Sunbird: a default namespace, and a calendar whose name begins with a dot
@@ -88,5 +89,5 @@ unfolding front head_end cut_at head_of read_head without_empty_lines wire_reque
 sunbird_request = refl
 
 pub sunbird_asks : asked_with [] sunbird 0 ≡ asks (Calendar (codes "user1") (codes ".in")) 278 (Query (SomeProps (getetag ∷ [])) all_data (objects_with (codes "VTODO")) None)
-unfolding content_of report_content target_path cut_at percent_decode trim_ows utc_of is_utf8 chars encode I.out-Item I.roll-Item B.shown-the_row-Item-0 B.hidden-the_row-Item-0 B.shape-the_row-Item-0 H.out H.roll H.shown H.hidden
+unfolding content_of report_content target_path cut_at percent_decode trim_ows utc_of date_time_of date_of time_of is_utf8 chars encode I.out-Item I.roll-Item B.shown-the_row-Item-0 B.hidden-the_row-Item-0 B.shape-the_row-Item-0 H.out H.roll H.shown H.hidden
 sunbird_asks = refl
