@@ -6,7 +6,7 @@
 
 ghost use Rattle.std.specs.Prelude.{◌≡◌, ◌<◌, ◌≤◌, ◌*◌, false};
 ghost use Rattle.cal_model.specs.Recurrence.NextPassing.{IsWritten, IsUsable, end_day, is_fine};
-ghost use Rattle.cal_model.specs.Words.Numbers.{moment_of_local};
+ghost use Rattle.cal_model.specs.Values.LocalTimes.{moment_of_local};
 
 use cal_base::List;
 use cal_model::{Freq, Rule, Rules};
