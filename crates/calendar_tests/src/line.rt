@@ -1,5 +1,7 @@
 //! Lines for the tests.
 
+ghost use Rattle.std.specs.Prelude.{◌≡◌, length, IfOk};
+
 use cal_base::{Line, List, Name, NoMemory, Octets, Param};
 use std::alloc::Global;
 
@@ -32,7 +34,9 @@ fn one_param(alloc: Global, name: &[u8], value: &[u8]) -> Result<Param, NoMemory
 }
 
 /// A list of names.
-pub fn names(alloc: Global, texts: &[&[u8]]) -> Result<List<Octets>, NoMemory> {
+pub fn names(alloc: Global, texts: &[&[u8]]) -> Result<List<Octets>, NoMemory>
+    ensures { IfOk result (λ list. length list ≡ length texts.now) }
+{
     let mut list = List::new(alloc);
     for text in texts {
         list.push(Octets::of(alloc, text)?)?;

@@ -5,66 +5,12 @@ use Rattle.std.specs.Int.{IsInRange}
 use Rattle.std.proofs.lemmas.Bool.{cases_Bool, ltb-true, ltb-false, eqb-true}
 use Rattle.cal_moment.specs.Calendar.{first_of_year, year_of, day_of_year, year_length, month_of, day_of_month, days_before_month, month_length, the_months, day_of_date, day_of_moment, weekday_of}
 use Rattle.cal_moment.proofs.CalendarLaws.{first_of_year-le, year_of-first, year_of-last, year_of-only, days_before_month-le, month_length-bounds, day_of_date-within, year_of-day_of_date, month_of-day_of_date, fields_of_date, days_before_month-next, days_before_month-end, first_of_year-suc}
-use Rattle.cal_model.proofs.Recurrence.Periods.{count_one, count_zero}
+use Rattle.cal_model.proofs.Recurrence.DateFields.{day_of_date-fields}
 use Rattle.cal_model.proofs.Recurrence.Rising.{month_of-first, month_of-last, period_number-le}
 use Rattle.cal_model.specs.declared.rule.Rule.{Rule}
 use Rattle.cal_model.specs.declared.rule.Freq.TheVariants.{Monthly}
 use Rattle.cal_model.specs.Recurrence.Passing.{period_number, fourth_day, week_passes}
 use Rattle.rrule_step.specs.Periods.{month_begin}
-
-count_le : (p q : ℕ → Bool) (xs : List ℕ) → ((x : ℕ) → p x ≡ true → q x ≡ true) → count_by p xs ≤ count_by q xs
-count_le p q [] h = omega arith
-count_le p q (x ∷ xs) h =
-    let rest = count_le p q xs h in
-    elim (cases_Bool (p x)) [
-      | inl w ↦ (let a = count_one p x xs w in let b = count_one q x xs (h x w) in omega (arith, rest, a, b))
-      | inr w ↦ (let a = count_zero p x xs w in elim (cases_Bool (q x)) [
-        | inl v ↦ (let b = count_one q x xs v in omega (arith, rest, a, b))
-        | inr v ↦ (let b = count_zero q x xs v in omega (arith, rest, a, b))
-      ])
-    ]
-
-months_until : (m : ℕ) → m ≤ 12 → count_by (λ k. nat_le k m) the_months ≡ m
-months_until zero h = refl
-months_until (suc (zero)) h = refl
-months_until (suc (suc (zero))) h = refl
-months_until (suc (suc (suc (zero)))) h = refl
-months_until (suc (suc (suc (suc (zero))))) h = refl
-months_until (suc (suc (suc (suc (suc (zero)))))) h = refl
-months_until (suc (suc (suc (suc (suc (suc (zero))))))) h = refl
-months_until (suc (suc (suc (suc (suc (suc (suc (zero)))))))) h = refl
-months_until (suc (suc (suc (suc (suc (suc (suc (suc (zero))))))))) h = refl
-months_until (suc (suc (suc (suc (suc (suc (suc (suc (suc (zero)))))))))) h = refl
-months_until (suc (suc (suc (suc (suc (suc (suc (suc (suc (suc (zero))))))))))) h = refl
-months_until (suc (suc (suc (suc (suc (suc (suc (suc (suc (suc (suc (zero)))))))))))) h = refl
-months_until (suc (suc (suc (suc (suc (suc (suc (suc (suc (suc (suc (suc (zero))))))))))))) h = refl
-months_until (suc (suc (suc (suc (suc (suc (suc (suc (suc (suc (suc (suc (suc (m)))))))))))))) h = absurd (omega arith)
-
-above_it : (a b : ℕ) → nat_le a b ≡ false → b < a
-above_it a b h = grind (arith, h)
-
--- the month of a day begins before the day's end
-month_of-begun : (day : ℕ) → days_before_month (year_of day) (month_of day) < day_of_year day
-unfolding month_of
-month_of-begun day = elim (cases_Bool (nat_lt (days_before_month (year_of day) (month_of day)) (day_of_year day))) [
-  | inl w ↦ ltb-true _ _ w
-  | inr w ↦
-      (let late : day_of_year day ≤ days_before_month (year_of day) (month_of day) = ltb-false _ _ w in
-      let first = month_of-first day in
-      let last = month_of-last day in
-      let fewer = count_le (λ m. nat_lt (days_before_month (year_of day) m) (day_of_year day)) (λ m. nat_le m (month_of day - 1)) the_months
-      (λ m h. elim (cases_Bool (nat_le m (month_of day - 1))) [
-        | inl v ↦ v
-        | inr v ↦ (let over = above_it m (month_of day - 1) v in let above : month_of day ≤ m = omega (arith, over, first) in let le = days_before_month-le (year_of day) (month_of day) m above in let lt = ltb-true _ _ h in absurd (omega (arith, le, lt, late)))
-      ]) in
-      let so_many = months_until (month_of day - 1) (omega (arith, last)) in
-      absurd (omega (arith, fewer, so_many, first)))
-]
-
--- and so a day is that of its year, month and day of the month
-day_of_date-fields : (day : ℕ) → day_of_date (year_of day) (month_of day) (day_of_month day) ≡ day
-unfolding day_of_month
-day_of_date-fields day = let begun = month_of-begun day in let from = year_of-first day in omega (arith, begun, from)
 
 -- The number of a day's month, in the order of days.
 

@@ -6,7 +6,7 @@ use Rattle.cal_moment.specs.Calendar.{day_of_moment, second_of_day, month_of}
 use Rattle.cal_model.specs.declared.rule.Rule.{Rule}
 use Rattle.cal_model.specs.Recurrence.Passing.{passes, period_number, period_passes, day_passes, time_passes}
 use Rattle.cal_model.specs.Recurrence.NextPassing.{NonePasses, IsNextPassing, end_day, is_fine}
-use Rattle.cal_model.proofs.Recurrence.Days.{passes-on_day, NonePasses-days, NoneOnDay-failing}
+use Rattle.cal_model.proofs.Recurrence.Days.{passes-on_day, NonePasses-days, NonePasses-period, NoneOnDay-failing}
 use Rattle.cal_model.proofs.Recurrence.DayTimes.{period_number-hour, day_of_start, second_of_start}
 use Rattle.rrule_step.specs.declared.set.Set.{Set}
 use Rattle.rrule_step.specs.declared.step.Plan.{Plan}
@@ -16,10 +16,6 @@ use Rattle.rrule_step.specs.Firsts.{NoneHolds, IsFirst, FindsFirst}
 use Rattle.rrule_step.specs.Periods.{is_counted}
 use Rattle.rrule_step.specs.Plans.{IsPlan, passes_on}
 use Rattle.rrule_step.specs.StartMoment.{moment_of}
-
--- where no period counts none passes
-pub NonePasses-period : (rule : Rule) (start : ℕ) (dated : Bool) (a b : ℕ) → ((m : ℕ) → a ≤ m → m < b → period_passes rule start m ≡ false) → NonePasses rule start dated a b
-NonePasses-period rule start dated a b h = record { each = λ m low high. (let e = h m low high in rw e refl) }
 
 module _ (rule : Rule) (plan : Plan) (is : IsPlan rule plan) where
   pub uncounted : (a b : ℕ) → ((m : ℕ) → a ≤ m → m < b → is_counted plan.first rule.interval (period_number rule.freq rule.week_start m) ≡ false) → NonePasses rule (moment_of plan.start) plan.dated a b
