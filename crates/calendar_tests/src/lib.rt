@@ -11,4 +11,8 @@ mod long_values;
 #[cfg(test)]
 mod plain_values;
 #[cfg(test)]
+mod rule_cases;
+#[cfg(test)]
+mod rule_walks;
+#[cfg(test)]
 mod zones;
