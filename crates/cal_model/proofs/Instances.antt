@@ -3,6 +3,7 @@
 pub mod EachRowLemmas
 pub mod DayLaws
 pub mod RisingLists
+pub mod SortedNumbers
 pub mod RowsInOrder
 pub mod MergedParts
 pub mod LeastStarts

@@ -6,3 +6,4 @@ pub mod StretchLemmas
 pub mod ZoneTableLaws
 pub mod NearTimes
 pub mod ConversionLaws
+pub mod SpanLemmas

@@ -11,6 +11,8 @@
 #![tactic(auto)]
 
 pub mod filter;
+mod local_span;
+mod local_times;
 pub mod next_passing;
 pub mod object;
 pub mod path;
@@ -31,6 +33,7 @@ mod zone_time;
 pub use filter::{
     Collation, CompFilter, Filter, ParamFilter, ParamTest, PropFilter, PropTest, TextMatch,
 };
+pub use local_times::LocalTimes;
 pub use next_passing::Rules;
 pub use object::{Alarm, Class, Component, Extent, Kind, NotResource, Object, Related, Trigger};
 pub use path::{ObjectPath, Path};

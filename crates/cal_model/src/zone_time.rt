@@ -47,7 +47,7 @@ pub fn offset_at(table: &ZoneTable, at: Utc) -> i32
 }
 
 /// The digits of a local moment in seconds from 1970.
-fn seconds_of(local: Local) -> i64
+pub fn seconds_of(local: Local) -> i64
     ensures value { result ≡ local_seconds local }
     ensures near { IsDigits result }
 {
@@ -55,7 +55,7 @@ fn seconds_of(local: Local) -> i64
 }
 
 /// The offset that holds in a stretch.
-fn stretch_offset(table: &ZoneTable, k: usize) -> i32
+pub fn stretch_offset(table: &ZoneTable, k: usize) -> i32
     requires { k ≤ length table.now.onsets }
     ensures { result ≡ stretches.offset_of_stretch table.now k }
 {
@@ -84,7 +84,7 @@ fn instant_by(table: &ZoneTable, local: i64, k: usize) -> i64
 
 /// Whether a stretch has a moment with this local time.
 #[tactic(auto, unfolding(crate::specs::TimeZones::Stretches::has_local))]
-fn has_local(table: &ZoneTable, local: i64, k: usize) -> bool
+pub fn has_local(table: &ZoneTable, local: i64, k: usize) -> bool
     requires near { IsDigits local }
     requires within { k ≤ length table.now.onsets }
     ensures { result ≡ stretches.has_local table.now local k }
@@ -147,7 +147,7 @@ fn exists_at(table: &ZoneTable, local: i64) -> bool
 }
 
 /// Whether the local time from an onset on is past this one.
-fn leads_past(onset: &Onset, local: i64) -> bool
+pub fn leads_past(onset: &Onset, local: i64) -> bool
     requires near { IsDigits local }
     ensures { result ≡ stretches.leads_past local onset.now }
 {
