@@ -18,3 +18,8 @@ pub mod Bodies
 pub mod Requests
 pub mod FirstPath
 pub mod Scripts
+pub mod State
+pub mod Sight
+pub mod Refusals
+pub mod Serving
+pub mod History

@@ -20,3 +20,11 @@ pub mod Bodies
 pub mod Requests
 pub mod FirstPath
 pub mod Scripts
+pub mod State
+pub mod Sight
+pub mod Properties
+pub mod Refusals
+pub mod Serving
+pub mod History
+pub mod Transcripts
+pub mod Load

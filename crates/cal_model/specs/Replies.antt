@@ -5,9 +5,11 @@
 -- and XmlText (multistatus).
 pub mod Statuses
 pub mod BareReplies
+pub mod ReplyForms
 pub mod Etags
 pub mod DateField
 pub mod Hrefs
 pub mod XmlText
+pub mod ReplyElements
 pub mod ReplyOctets
 pub mod WireReplies

@@ -1,0 +1,6 @@
+-- What a script of frames prints, on sixteen connections with workers beside them. Scripts and frames are this project's own and stand in no standard.
+-- Given: the users and the octets of a script. Transcript is the answer. Read before it: ScriptFrames (which octets are which frames), ConnectionAnswers (what the octets of a connection complete).
+-- The first path's script, which the program still runs, is chapter Scripts; this chapter takes its place.
+pub mod ScriptFrames
+pub mod ConnectionAnswers
+pub mod Transcript
