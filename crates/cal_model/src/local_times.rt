@@ -15,13 +15,14 @@ use cal_base::{List, NoMemory};
 use cal_moment::{Local, Utc};
 use std::alloc::Global;
 
-/// So many onsets may lie within two days and still be looked at one after the other.
+/// Where no more onsets lie within two days anywhere, to look at each of them is cheaper than to make
+/// spans.
 const FEW: usize = 16;
 
-/// Two days in seconds: no more onsets than lie within them matter to a local time.
+/// In seconds: the onsets that matter to a local time lie at most a day from its digits.
 const TWO_DAYS: i64 = 172_800;
 
-/// Whether so many onsets lie close together somewhere that going over them costs more than a search.
+/// Whether more onsets than a few lie within two days somewhere.
 fn is_crowded(onsets: &[Onset]) -> bool {
     for k in FEW..onsets.len() {
         if onsets[k].at.0 <= onsets[k - FEW].at.0.saturating_add(TWO_DAYS) {
@@ -64,10 +65,10 @@ fn exists_in(table: &ZoneTable, spans: &[Span], local: i64) -> bool
     is_shown(value_at(spans, local))
 }
 
-/// The local times of a zone, for who converts many of them: they are made once from its table, and
-/// then a conversion costs one search and a few steps, however close the onsets lie. For a single
-/// conversion the functions `to_utc` and `exists` over the table itself are enough; they go over each
-/// onset within a day.
+/// The local times of a zone, for many conversions in it. They are made once from its table; then each
+/// conversion costs a search and a few steps, however close the onsets lie. For one conversion there
+/// are the functions `to_utc` and `exists` over the table itself, which look at each onset within a
+/// day.
 #[derive(Drop)]
 pub struct LocalTimes<'a> {
     /// The zone.

@@ -1,5 +1,5 @@
 -- Spans that are taken at all borders say what holds between them, and what stretches make of a local time is put together from parts of them.
-use Rattle.std.proofs.Common.{◌≡◌, ℕ, zero, suc, ◌+◌, ◌-◌, ◌<◌, ◌≤◌, List, [], ◌∷◌, ◌++◌, map, refl, sym, ap, ap₂, ◌∙◌, subst, arith, Bool, true, false, ℤ, ◌+ℤ◌, ◌-ℤ◌, ◌<ℤ◌, length, get_or, pos, neg_ℤ, ◌⊎◌, nat_lt, ◌≤ℤ◌, inl, inr}
+use Rattle.std.proofs.Common.{◌≡◌, ℕ, zero, suc, ◌+◌, ◌-◌, ◌<◌, ◌≤◌, List, [], ◌∷◌, ◌++◌, map, refl, sym, ap, ap₂, ◌∙◌, subst, arith, Bool, true, false, ℤ, ◌+ℤ◌, ◌-ℤ◌, ◌<ℤ◌, length, get_or, pos, neg_ℤ, nat_lt, ◌≤ℤ◌, inl, inr}
 use Rattle.std.specs.Prelude.{Option, Some, IfSome, All, AllPairs, Contains, int_le, int_lt, ◌==◌, ◌&&◌, if◌then◌else◌}
 use Rattle.std.proofs.Math.Logic.{∥∥₁_elim}
 use Rattle.std.proofs.lemmas.Int.{ints}
@@ -14,7 +14,7 @@ use Rattle.cal_model.specs.declared.local_span.Found.TheVariants.{Shown, Skipped
 use Rattle.cal_model.specs.declared.local_span.Span.{Span}
 use Rattle.cal_model.specs.declared.zone.Onset.{Onset}
 use Rattle.cal_model.specs.declared.zone.ZoneTable.{ZoneTable}
-use Rattle.cal_model.specs.TimeZones.Stretches.{no_onset, offset_of_stretch, begins_by, ends_after, is_in_stretch, has_local, leads_past}
+use Rattle.cal_model.specs.TimeZones.Stretches.{no_onset, offset_of_stretch, begins_by, ends_after, has_local, leads_past}
 use Rattle.cal_model.specs.TimeZones.TableBounds.{IsRising, IsDigits, IsOffset}
 use Rattle.cal_model.specs.TimeZones.Zones.{exists_in, instant_of, IsInstantOf}
 use Rattle.cal_model.specs.Instances.Starts.{ascending}
@@ -22,7 +22,7 @@ use Rattle.cal_model.specs.TimeZones.LocalSpans.{is_shown, instant_by, IsSpansOf
 use Rattle.cal_model.proofs.Words.AllLemmas.{All-unmap}
 use Rattle.cal_model.proofs.TimeZones.Instants.{IsInstantOf-instant_of}
 use Rattle.cal_model.proofs.TimeZones.StretchLemmas.{IsLeastInstant-stretch, IsSkipped-stretches, IsInstantOf-first_past, some_leads_past, exists_in_stretch, exists_in_none}
-use Rattle.cal_model.proofs.Instances.RisingLists.{IsBelow, All-ascending, ascending-rising, ascending-has, ascending-only, AllPairs-head, AllPairs-tail, Contains-here, Contains-there, Contains-split}
+use Rattle.cal_model.proofs.Instances.RisingLists.{IsBelow, All-ascending, ascending-rising, ascending-has, AllPairs-head, AllPairs-tail, Contains-here, Contains-there, Contains-split}
 
 best-assoc : (a b c : Found) → best (best a b) c ≡ best a (best b c)
 best-assoc (Shown o) b c = refl

@@ -1,4 +1,4 @@
-use Rattle.std.proofs.Common.{rules, arith, ◌-◌, ◌+◌, ◌/◌, ◌<◌, ◌≤◌}
+use Rattle.std.proofs.Common.{arith, ◌-◌, ◌+◌, ◌/◌, ◌<◌, ◌≤◌}
 use Rattle.cal_model.proofs.TimeZones.SpanLemmas.{IsSpans-between}
 use Rattle.cal_model.proofs.local_span.+spans_between.Goals as goal
 

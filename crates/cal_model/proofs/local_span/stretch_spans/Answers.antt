@@ -1,4 +1,4 @@
-use Rattle.std.proofs.Common.{sym, ◌∙◌}
+use Rattle.std.proofs.Common.{◌∙◌}
 use Rattle.cal_model.proofs.TimeZones.SpanLemmas.{digits_rising, IsSpans-stretch}
 use Rattle.cal_model.proofs.local_span.stretch_spans.Goals as goal
 

@@ -1,4 +1,4 @@
-use Rattle.std.proofs.Common.{rules, subst, List, ℤ, get_or, length, ◌==◌, to_z-of_z, FitsSigned, w32, w64}
+use Rattle.std.proofs.Common.{rules, subst, get_or, length, ◌==◌, to_z-of_z, FitsSigned, w32, w64}
 use Rattle.cal_model.specs.TimeZones.Stretches.{no_onset}
 use Rattle.cal_model.specs.TimeZones.LocalSpans.{IsWith, end_border}
 use Rattle.cal_model.proofs.TimeZones.SpanLemmas.{with_pushed, with_beyond}
