@@ -57,3 +57,4 @@ mod ReportReplyExamples
 mod TranscriptExamples
 mod HistoryExamples
 mod LoadExamples
+mod PropertyExamples
