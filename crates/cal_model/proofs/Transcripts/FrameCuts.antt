@@ -4,7 +4,7 @@ use Rattle.std.specs.Prelude.{slice_index}
 use Rattle.std.specs.Fmt.{decimal}
 use Rattle.cal_model.proofs.Words.EndLemmas.{tails, fronts, number_ends}
 use Rattle.cal_model.specs.Transcripts.FrameLaws.{CutsAgree}
-use Rattle.cal_model.specs.Transcripts.ScriptFrames.{WorkerStep, claim, expand, publish, abandon, Frame, bytes, worker, step_word, frame_text, frames_text, AreInBounds, IsFrame, IsCutInto}
+use Rattle.cal_model.specs.Transcripts.ScriptFrames.{WorkerStep, claim, expand, publish, abandon, Frame, bytes, worker, step_word, frame_text, frames_text, AreInBounds, IsFrame}
 
 -- a frame before more octets, each part before the rest
 abbrev pub bytes_before : ℕ → ℕ → List ℕ → List ℕ → List ℕ

@@ -1,5 +1,5 @@
 -- A script goes on from where its frames so far leave it.
-use Rattle.std.proofs.Common.{◌≡◌, ℕ, List, [], ◌∷◌, ◌++◌, refl, sym, ap, ◌∙◌, subst}
+use Rattle.std.proofs.Common.{ℕ, List, [], ◌∷◌, ◌++◌, refl, sym, ap, ◌∙◌, subst}
 use Rattle.std.proofs.lemmas.List.{append_assoc, append-nil}
 use Rattle.cal_model.specs.Transcripts.ScriptFrames.{Frame}
 use Rattle.cal_model.specs.Transcripts.Transcript.{Standing, Turn, Follows}
