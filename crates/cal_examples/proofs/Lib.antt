@@ -47,3 +47,14 @@ mod StreamExamples
 mod WireReplyExamples
 mod ClientExamples
 mod ValueExamples
+mod FilterRolls
+mod ServingSamples
+mod SightExamples
+mod ConditionExamples
+mod PutRefusalExamples
+mod SettingExamples
+mod ReportReplyExamples
+mod TranscriptExamples
+mod HistoryExamples
+mod LoadExamples
+mod PropertyExamples

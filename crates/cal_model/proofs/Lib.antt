@@ -23,3 +23,4 @@ pub mod Sight
 pub mod Refusals
 pub mod Serving
 pub mod History
+pub mod Transcripts

@@ -1,12 +1,9 @@
 -- The runs that a report lists are those of the calendar's busy times: a range that is not refused lies in the dates that are served, where the class that is shown is the class.
-use Rattle.std.proofs.Common.{◌≡◌, None, arith}
-use Rattle.std.specs.Prelude.{◌≤ℤ◌}
+use Rattle.std.proofs.Common.{None, arith}
 use Rattle.std.proofs.lemmas.Int.{ints}
-use Rattle.cal_model.specs.declared.row.Range.{Range}
-use Rattle.cal_model.specs.Busy.BusyRuns.{class_at, runs_of_classes, calendar_times, calendar_runs}
+use Rattle.cal_model.specs.Busy.BusyRuns.{class_at, calendar_times}
 use Rattle.cal_model.specs.Reports.FloatingZone.{floating_zone}
-use Rattle.cal_model.specs.Words.Limits.{first_date, last_date}
-use Rattle.cal_model.specs.State.ServerState.{Calendar, objects_of, own_zone}
+use Rattle.cal_model.specs.State.ServerState.{objects_of, own_zone}
 use Rattle.cal_model.specs.Sight.Views.{served_class}
 use Rattle.cal_model.specs.Serving.ServingLaws.{ShownRunsAreTheCalendars}
 use Rattle.cal_model.proofs.Busy.BusyRunLaws.{runs_of_classes-same}

@@ -6,7 +6,7 @@ use Rattle.std.specs.Map.{lookup, remove_entry}
 use Rattle.std.proofs.lemmas.Bool.{false≢true, eq-eqb}
 use Rattle.cal_base.specs.Lists.NameMap.{Named, value_at}
 use Rattle.cal_model.specs.declared.request.Event.{Event}
-use Rattle.cal_model.specs.State.ServerState.{Directory, Calendar, Home, ServerState}
+use Rattle.cal_model.specs.State.ServerState.{Directory, Calendar, Home}
 use Rattle.cal_model.specs.Sight.Views.{held_on, Sight, sight_of, visible_calendars, home_by}
 use Rattle.cal_model.specs.Sight.LookingAlike.{LookAlike}
 use Rattle.cal_model.specs.State.Changes.{without_calendar}

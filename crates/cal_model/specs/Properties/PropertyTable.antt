@@ -10,6 +10,9 @@ use Rattle.cal_model.specs.State.PropertyTexts.{Texts}
 use Rattle.cal_model.specs.Sight.Views.{Contents}
 use Rattle.cal_model.specs.Sight.Resources.{Resource, held_of, any_resource, is_principal, is_calendar, is_object, is_named, is_owned, Asker, calendar}
 use Rattle.cal_model.specs.Properties.PropertyValues.{Value, always, resource_type, asking_principal, principal_href, home_href, privileges_held_here, text_value, display_value, of_octets, shown_data, kinds_value, acl_value, data_type, report_elements}
+use Rattle.cal_model.specs.Refusals.RequestLimits.{resource_limit, instances_limit}
+use Rattle.cal_model.specs.Busy.FreeBusyText.{utc_text}
+use Rattle.cal_model.specs.Words.Limits.{first_date, last_date}
 
 -- what lists a property that isn't asked for by name
 pub data Listing : Type 0 where
@@ -75,10 +78,10 @@ properties =
     ∷ text_row (in_caldav (codes "calendar-timezone")) in_names zone
     ∷ row (in_caldav (codes "supported-calendar-component-set")) is_calendar read in_names kinds kinds_value
     ∷ fixed_row (in_caldav (codes "supported-calendar-data")) data_type
-    ∷ fixed_row (in_caldav (codes "max-resource-size")) (codes "262144")
-    ∷ fixed_row (in_caldav (codes "min-date-time")) (codes "16000101T000000Z")
-    ∷ fixed_row (in_caldav (codes "max-date-time")) (codes "21001231T235959Z")
-    ∷ fixed_row (in_caldav (codes "max-instances")) (codes "250000")
+    ∷ fixed_row (in_caldav (codes "max-resource-size")) (decimal resource_limit)
+    ∷ fixed_row (in_caldav (codes "min-date-time")) (utc_text first_date)
+    ∷ fixed_row (in_caldav (codes "max-date-time")) (utc_text last_date)
+    ∷ fixed_row (in_caldav (codes "max-instances")) (decimal instances_limit)
     ∷ fixed_row (in_dav (codes "supported-report-set")) report_elements
     ∷ row (in_dav (codes "acl")) is_calendar read_acl in_names protected acl_value
     ∷ []

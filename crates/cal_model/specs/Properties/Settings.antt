@@ -12,22 +12,8 @@ use Rattle.cal_model.specs.State.ServerState.{Calendar, every_kind}
 use Rattle.cal_model.specs.Bodies.Refusals.{dav_refusal, caldav_refusal}
 use Rattle.cal_model.specs.Properties.PropertyValues.{kind_names}
 use Rattle.cal_model.specs.Refusals.RefusalReplies.{refused_where}
+use Rattle.cal_model.specs.Refusals.RequestLimits.{texts_limit, name_limit, value_limit, zone_limit}
 use Rattle.cal_model.specs.Properties.PropertyTable.{Setting, protected, text, zone, kinds, row_of, is_text, text_names}
-
--- Limits
-
--- the texts of a calendar, and the octets of the name and of the value of one
-abbrev pub texts_limit : ℕ
-texts_limit = 64
-
-abbrev pub name_limit : ℕ
-name_limit = 256
-
-abbrev pub value_limit : ℕ
-value_limit = 4096
-
-abbrev pub zone_limit : ℕ
-zone_limit = 262_144
 
 -- Values
 

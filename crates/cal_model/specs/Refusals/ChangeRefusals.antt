@@ -18,16 +18,13 @@ use Rattle.cal_model.specs.State.ServerState.{Home, ServerState, home_at}
 use Rattle.cal_model.specs.Sight.Views.{Contents, Sight}
 use Rattle.cal_model.specs.Replies.BareReplies.{bare_reply}
 use Rattle.cal_model.specs.Refusals.RefusalReplies.{refusal_reply, when, refuse}
+use Rattle.cal_model.specs.Refusals.RequestLimits.{calendars_limit}
 use Rattle.cal_model.specs.Bodies.Refusals.{dav_refusal}
 use Rattle.cal_model.specs.Properties.Settings.{faults_of_all, first_fault}
 use Rattle.cal_model.specs.Properties.PropertyReplies.{setting_answers, settings_reply}
 use Rattle.cal_model.specs.Refusals.Preconditions.{put_refusal, conflict}
 use Rattle.cal_model.specs.Sight.Scenes.{Scene, held_in, user_in, calendar_in, object_in}
 use Rattle.cal_model.specs.Replies.ReplyForms.{no_request}
-
--- the most calendars of a home
-abbrev pub calendars_limit : ℕ
-calendars_limit = 64
 
 -- 507 (RFC 4918, 11.5): the home has not that much left of what it may accept
 abbrev pub is_full : ServerState → Scene → ℕ → Bool

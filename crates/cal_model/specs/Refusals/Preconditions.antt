@@ -22,13 +22,7 @@ use Rattle.cal_model.specs.Bodies.Refusals.{caldav_refusal}
 use Rattle.cal_model.specs.Replies.ReplyElements.{href_element}
 use Rattle.cal_model.specs.State.ServerState.{object_of}
 use Rattle.cal_model.specs.Refusals.RefusalReplies.{refused_where}
-
--- the octets of one object, and its instances
-abbrev pub resource_limit : ℕ
-resource_limit = 262_144
-
-abbrev pub instances_limit : ℕ
-instances_limit = 250_000
+use Rattle.cal_model.specs.Refusals.RequestLimits.{resource_limit, instances_limit}
 
 -- What the octets are
 

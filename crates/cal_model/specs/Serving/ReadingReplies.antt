@@ -24,12 +24,9 @@ use Rattle.cal_model.specs.Sight.Resources.{Resource, root, principal, home, cal
 use Rattle.cal_model.specs.Properties.PropertyReplies.{resource_response, multistatus_reply}
 use Rattle.cal_model.specs.Serving.ReportReplies.{Reported, zone_of_report, query_reply, multiget_reply, free_busy_reply}
 use Rattle.cal_model.specs.Refusals.ReportRefusals.{report_faults}
+use Rattle.cal_model.specs.Refusals.RequestLimits.{answer_limit}
 use Rattle.cal_model.specs.Sight.Scenes.{Scene, user_in, calendar_in}
 use Rattle.cal_model.specs.Refusals.SharedRefusals.{shared_rows}
-
--- the most octets of an answer to a report or a PROPFIND (RFC 4791, 7.8)
-abbrev pub answer_limit : ℕ
-answer_limit = 67_108_864
 
 -- GET and HEAD (RFC 9110, 9.3.1)
 abbrev pub get_reply : Scene → Reply

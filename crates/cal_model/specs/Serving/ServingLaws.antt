@@ -1,7 +1,6 @@
 -- The laws of outcomes: an accepted change has exactly its effect, what holds of states stays, and no reply has the status 503.
 -- Given: the users, a state and an event. That replies are alike where states are is `Sight.SightLaws`.
 use Rattle.std.specs.Prelude.{◌≡◌, ◌≢◌, ℕ, false, Some, None, ◌≤ℤ◌}
-use Rattle.cal_model.specs.declared.reply.Refusal.{Refusal}
 use Rattle.cal_model.specs.declared.request.Content.{Content}
 use Rattle.cal_model.specs.declared.request.Content.TheVariants.{Bad}
 use Rattle.cal_model.specs.declared.request.Event.{Event}
