@@ -7,7 +7,7 @@ use Rattle.cal_base.specs.declared.line.Node.TheBlock as B
 use denote.Hole.Carrier as H
 use Rattle.cal_model.specs.Access.Privileges.{privileges_held}
 use Rattle.cal_model.specs.History.Claims.{Work, Pair, next_claim, latest_after}
-use Rattle.cal_model.specs.History.Journal.{Entry, asked, IsAcceptedAt}
+use Rattle.cal_model.specs.History.Journal.{Entry, asked}
 use Rattle.cal_model.specs.History.LiveObjects.{Placed, live_at}
 use Rattle.cal_model.specs.History.Origins.{origins_after}
 use Rattle.cal_model.specs.Refusals.Preconditions.{put_table}

@@ -1,5 +1,5 @@
 -- What the sessions of the command `load` draw.
-use Rattle.std.specs.Prelude.{◌≡◌, refl, ℕ, List, length, codes}
+use Rattle.std.specs.Prelude.{◌≡◌, refl, length, codes}
 use Rattle.std.specs.Fmt.{digits}
 use Rattle.cal_moment.specs.Calendar.{year_of, month_of, day_of_month}
 use Rattle.cal_model.specs.Load.LoadRequests.{draw, drawn_body, load_user, requests_of}

@@ -1,11 +1,9 @@
 -- What the examples of the server share: three users, states in which alice has a calendar, events, and replies in full octets.
 use Rattle.std.specs.Prelude.{◌≡◌, refl, ℕ, List, [], ◌∷◌, ◌++◌, None, codes, pos, ◌+◌, Option, ℤ}
-use lib.Utf8.{encode}
 use Rattle.cal_model.specs.declared.path.Path.TheVariants as path
 use Rattle.cal_model.specs.declared.reply.Media.TheVariants as media
 use Rattle.cal_model.specs.declared.report.ReportRequest.TheVariants as report
 use Rattle.cal_model.specs.declared.request.Content.TheVariants as content
-use Rattle.cal_model.specs.Serving.Outcomes.{accepted}
 use Rattle.cal_model.specs.State.ServerState.{Directory, Calendar, ServerState, first_calendar, first_home, opening_state}
 use Rattle.cal_base.specs.Lists.NameMap.{Named}
 use Rattle.cal_model.specs.declared.path.Path.{Path}

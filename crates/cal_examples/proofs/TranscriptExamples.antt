@@ -1,9 +1,9 @@
 -- Scripts: what the octets of a connection complete, a request that is turned away in two frames with a frame of a worker between them, and spellings.
-use Rattle.std.specs.Prelude.{◌≡◌, refl, ℕ, true, false, List, [], ◌∷◌, ◌++◌, length, None, codes, replicate}
+use Rattle.std.specs.Prelude.{◌≡◌, refl, ℕ, true, false, List, [], ◌∷◌, length, None, codes, replicate}
 use Rattle.std.specs.Fmt.{digits}
 use Rattle.std.specs.Str.{is_utf8, chars}
 use lib.Utf8.{encode}
-use Rattle.std.proofs.Common.{inl, inr}
+use Rattle.std.proofs.Common.{inl}
 use Rattle.httparse.specs.Grammar.{is_token_byte, trim_ows}
 use Rattle.cal_moment.specs.Calendar.{year_of, month_of, day_of_month}
 use Rattle.cal_model.specs.declared.wire.WireFault.TheVariants.{BadHead}
@@ -13,11 +13,10 @@ use Rattle.cal_model.specs.Replies.ReplyOctets.{fields, reply_octets}
 use Rattle.cal_model.specs.Replies.Statuses.{reason}
 use Rattle.cal_model.specs.Replies.WireReplies.{answer_octets}
 use Rattle.cal_model.specs.Requests.AskedRequests.{asked_of}
-use Rattle.cal_model.specs.State.ServerState.{opening_state}
 use Rattle.cal_model.specs.Streams.HeadFields.{read_head, wire_request}
 use Rattle.cal_model.specs.Streams.Heads.{head_end, head_of, without_empty_lines}
 use Rattle.cal_model.specs.Streams.StreamRequests.{front, ends_idle, ends_cut, ends_at}
-use Rattle.cal_model.specs.Transcripts.ConnectionAnswers.{Completed, whole, faulty, answered, Completes}
+use Rattle.cal_model.specs.Transcripts.ConnectionAnswers.{whole, faulty, answered, Completes}
 use Rattle.cal_model.specs.Transcripts.ScriptFrames.{bytes, worker, claim, publish, frame_text, reply_frame}
 use Rattle.cal_model.specs.Transcripts.Transcript.{at_start, fed, Follows}
 use Rattle.cal_model.specs.Users.Credentials.{authenticated}
