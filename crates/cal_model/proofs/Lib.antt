@@ -3,6 +3,7 @@ pub mod Values
 pub mod Recurrence
 pub mod TimeZones
 pub mod Objects
+pub mod Walks
 pub mod Instances
 pub mod Ranges
 pub mod Filters

@@ -26,6 +26,7 @@ pub mod row;
 pub mod rule;
 pub mod selection;
 pub mod store;
+pub mod walk;
 pub mod wire;
 pub mod zone;
 mod zone_time;

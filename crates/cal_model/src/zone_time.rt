@@ -47,7 +47,7 @@ pub fn offset_at(table: &ZoneTable, at: Utc) -> i32
 }
 
 /// The digits of a local moment in seconds from 1970.
-pub fn seconds_of(local: Local) -> i64
+pub(crate) fn seconds_of(local: Local) -> i64
     ensures value { result ≡ local_seconds local }
     ensures near { IsDigits result }
 {

@@ -1,0 +1,14 @@
+//! The walk of a rule's recurrence set (RFC 5545, 3.3.10 and 3.8.5.3), with any body of `Rules`.
+//!
+//! Given: a rule, a start and the clock beside which it is written. Gives: one after the other, the
+//! moments that pass and exist, of these those that BYSETPOS picks, up to UNTIL and as many as COUNT
+//! allows. Each moment is taken from the rule once. Zones and objects are read by it.
+
+pub mod clock;
+mod cursor;
+mod kept;
+mod period;
+mod picks;
+pub mod rule_walk;
+pub mod starts;
+mod until;

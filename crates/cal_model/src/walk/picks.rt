@@ -1,0 +1,228 @@
+//! BYSETPOS: the moments of one period, and those of them that are picked (RFC 5545, 3.3.10).
+ghost use Rattle.std.specs.Prelude.{◌≡◌, ℕ, ◌+◌, ◌-◌, ◌*◌, ◌<◌, ◌≤◌, ◌^◌, true, false, ◌++◌, [], ◌∷◌, OnOk, if◌then◌else◌, All, AllPairs, length, drop, IfSome, MatchOption};
+ghost use Rattle.cal_model.specs.Recurrence.NextPassing.{NonePasses, IsWritten, IsUsable, end_day, is_fine};
+ghost use Rattle.cal_model.specs.Words.Integers as integers;
+ghost use Rattle.cal_model.specs.Words.Lists as lists;
+ghost use Rattle.cal_model.specs.Values.LocalTimes.{moment_of_local};
+ghost use Rattle.cal_model.specs.Recurrence.RecurrenceSet.{at_places};
+ghost use Rattle.cal_model.specs.Walks.Budgets.{last_period, left_to_take};
+ghost use Rattle.cal_model.specs.Walks.Clocks.{reading_by, IsClock};
+ghost use Rattle.cal_model.specs.Walks.Cursors.{IsAt};
+ghost use Rattle.cal_model.specs.Walks.KeptMoments.{found_from, found_between, kept_from, moments_of, if_there, number_of};
+
+use crate::next_passing::Rules;
+use crate::rule::Rule;
+use crate::walk::clock::Clock;
+use crate::walk::cursor::{Cursor, peek, second_after};
+use crate::walk::period::period_of;
+use cal_base::{List, NoMemory, Steps};
+use cal_moment::Local;
+use std::sync::ledger::Ledger;
+
+/// Puts a moment behind the others, if it exists.
+fn keep_if_there(clock: &Clock, m: Local, found: &mut List<Local>) -> Result<(), NoMemory>
+    requires clock { IsClock clock.now }
+    requires written { IsWritten m }
+    ensures found { OnOk result (moments_of found.new ≡ moments_of found.old ++ if_there (reading_by clock.now) (moment_of_local m)) }
+    ensures written { OnOk result (All (λ l. IsWritten l) found.old → All (λ l. IsWritten l) found.new) }
+{
+    if clock.exists(m) {
+        found.push(m)?;
+    }
+    Ok(())
+}
+
+/// Goes on to the next moment that passes, and says whether it lies in the period of that number.
+fn stays<R: Rules, L: Ledger>(
+    rules: &R,
+    rule: &Rule,
+    start: Local,
+    clock: &Clock,
+    number: u64,
+    cursor: &mut Cursor,
+    end: Local,
+    steps: &mut Steps<L>,
+) -> bool
+    requires start { IsWritten start }
+    requires rule { IsUsable rule.now }
+    requires coarse { is_fine rule.now.freq ≡ false }
+    requires cursor { IsAt rule.now (moment_of_local start) (reading_by clock.now).dated cursor.old }
+    requires from { number ≤ number_of rule.now (moment_of_local cursor.old.at) }
+    requires begun { number_of rule.now (moment_of_local cursor.old.at - 1) ≤ last_period rule.now (moment_of_local end) }
+    ensures cursor { IsAt rule.now (moment_of_local start) (reading_by clock.now).dated cursor.new }
+    ensures forward { moment_of_local cursor.old.at ≤ moment_of_local cursor.new.at }
+    ensures passed { NonePasses rule.now (moment_of_local start) (reading_by clock.now).dated (moment_of_local cursor.old.at) (moment_of_local cursor.new.at) }
+    ensures steps { steps.new + left_to_take rule.now (moment_of_local start) (reading_by clock.now).dated (moment_of_local end) cursor.new ≤ steps.old + left_to_take rule.now (moment_of_local start) (reading_by clock.now).dated (moment_of_local end) cursor.old }
+    ensures goes_on { result ≡ true → (cursor.new.taken ≡ true) × (number_of rule.now (moment_of_local cursor.new.at) ≡ number) }
+    ensures ends { result ≡ false → All (λ m. number < number_of rule.now m) (found_from rule.now (moment_of_local start) (reading_by clock.now) (moment_of_local cursor.new.at)) }
+{
+    if period_of(rule, cursor.at) != number {
+        return false;
+    }
+    let Some(next) = peek(rules, rule, start, clock, cursor, end, steps) else {
+        return false;
+    };
+    period_of(rule, next) == number
+}
+
+/// Gathers what is found in the period of the moment at hand.
+pub fn gather<R: Rules, L: Ledger>(
+    rules: &R,
+    rule: &Rule,
+    start: Local,
+    clock: &Clock,
+    cursor: &mut Cursor,
+    found: &mut List<Local>,
+    end: Local,
+    steps: &mut Steps<L>,
+) -> Result<(), NoMemory>
+    requires start { IsWritten start }
+    requires clock { IsClock clock.now }
+    requires rule { IsUsable rule.now }
+    requires coarse { is_fine rule.now.freq ≡ false }
+    requires cursor { IsAt rule.now (moment_of_local start) (reading_by clock.now).dated cursor.old }
+    requires taken { cursor.old.taken ≡ true }
+    requires empty { found.old ≡ [] }
+    requires begun { number_of rule.now (moment_of_local cursor.old.at) ≤ last_period rule.now (moment_of_local end) }
+    ensures cursor { IsAt rule.now (moment_of_local start) (reading_by clock.now).dated cursor.new }
+    ensures steps { steps.new + left_to_take rule.now (moment_of_local start) (reading_by clock.now).dated (moment_of_local end) cursor.new ≤ steps.old + left_to_take rule.now (moment_of_local start) (reading_by clock.now).dated (moment_of_local end) cursor.old }
+    ensures forward { OnOk result (moment_of_local cursor.old.at < moment_of_local cursor.new.at) }
+    ensures found { OnOk result (moments_of found.new ≡ found_between rule.now (moment_of_local start) (reading_by clock.now) (moment_of_local cursor.old.at) (moment_of_local cursor.new.at)) }
+    ensures written { OnOk result (All (λ l. IsWritten l) found.new) }
+    ensures one { OnOk result (All (λ m. number_of rule.now m ≡ number_of rule.now (moment_of_local cursor.old.at)) (moments_of found.new)) }
+    ensures later { OnOk result (All (λ m. number_of rule.now (moment_of_local cursor.old.at) < number_of rule.now m) (found_from rule.now (moment_of_local start) (reading_by clock.now) (moment_of_local cursor.new.at))) }
+{
+    let number = period_of(rule, cursor.at);
+    'gather: loop {
+        let m = cursor.at;
+        keep_if_there(clock, m, found)?;
+        cursor.at = second_after(m);
+        cursor.taken = false;
+        if !stays(rules, rule, start, clock, number, cursor, end, steps) {
+            return Ok(());
+        }
+    }
+}
+
+/// Whether a written number names a place, from the front or, where it is negative, from the end.
+fn names_place(place: u64, size: u64, number: i16) -> bool
+    requires { place ≤ size }
+    ensures { result ≡ integers.names_place place size number }
+{
+    if number >= 0 {
+        number as u64 == place
+    } else {
+        (-(number as i32 + 1)) as u64 == size - place
+    }
+}
+
+fn some_names_place(part: &List<i16>, place: u64, size: u64) -> bool
+    requires { place ≤ size }
+    ensures { result ≡ integers.some_names_place part.now place size }
+{
+    part.iter().any(|n| names_place(place, size, *n))
+}
+
+/// Puts a moment behind the others, if it is picked.
+fn push_if(is_picked: bool, m: Local, out: &mut List<Local>) -> Result<(), NoMemory>
+    requires written { IsWritten m }
+    ensures picked { OnOk result (moments_of out.new ≡ moments_of out.old ++ (if is_picked then moment_of_local m ∷ [] else [])) }
+    ensures written { OnOk result (All (λ l. IsWritten l) out.old → All (λ l. IsWritten l) out.new) }
+{
+    if is_picked {
+        out.push(m)?;
+    }
+    Ok(())
+}
+
+/// Puts those moments of a period behind the others that BYSETPOS picks.
+fn pick(rule: &Rule, found: &List<Local>, out: &mut List<Local>) -> Result<(), NoMemory>
+    requires some { lists.is_empty rule.now.by_set_pos ≡ false }
+    requires rises { AllPairs (λ x y. x < y) (moments_of found.now) }
+    requires one { (n : ℕ) × All (λ m. number_of rule.now m ≡ n) (moments_of found.now) }
+    requires written { All (λ l. IsWritten l) found.now }
+    ensures picked { OnOk result (moments_of out.new ≡ moments_of out.old ++ at_places rule.now (moments_of found.now)) }
+    ensures written { OnOk result (All (λ l. IsWritten l) out.old → All (λ l. IsWritten l) out.new) }
+{
+    let size = found.len();
+    for k in 0..size {
+        let is_picked = some_names_place(&rule.by_set_pos, k as u64 + 1, size as u64);
+        let m = found[k];
+        push_if(is_picked, m, out)?;
+    }
+    Ok(())
+}
+
+/// The picked moments of a period that are still to be given, and the moments behind it.
+#[derive(Drop)]
+pub struct Picks {
+    pub cursor: Cursor,
+    /// What was found in the period.
+    pub found: List<Local>,
+    /// What was picked of it.
+    pub moments: List<Local>,
+    /// How many of these were given.
+    pub given: usize,
+}
+
+/// Gives the next of the moments that were picked.
+pub fn give(picks: &mut Picks) -> Option<Local>
+    requires given { picks.old.given ≤ length picks.old.moments }
+    requires written { All (λ l. IsWritten l) picks.old.moments }
+    ensures given { picks.new.given ≤ length picks.new.moments }
+    ensures moments { picks.new.moments ≡ picks.old.moments }
+    ensures cursor { picks.new.cursor ≡ picks.old.cursor }
+    ensures written { IfSome result (λ m. IsWritten m) }
+    ensures next { MatchOption result (drop picks.old.given (moments_of picks.old.moments) ≡ [])
+        (λ m. drop picks.old.given (moments_of picks.old.moments) ≡ moment_of_local m ∷ drop picks.new.given (moments_of picks.new.moments)) }
+{
+    if picks.given == picks.moments.len() {
+        return None;
+    }
+    let m = picks.moments[picks.given];
+    picks.given += 1;
+    Some(m)
+}
+
+/// Picks from the period of the moment at hand.
+pub fn refill<R: Rules, L: Ledger>(
+    rules: &R,
+    rule: &Rule,
+    start: Local,
+    clock: &Clock,
+    picks: &mut Picks,
+    end: Local,
+    steps: &mut Steps<L>,
+) -> Result<(), NoMemory>
+    requires start { IsWritten start }
+    requires clock { IsClock clock.now }
+    requires rule { IsUsable rule.now }
+    requires coarse { is_fine rule.now.freq ≡ false }
+    requires some { lists.is_empty rule.now.by_set_pos ≡ false }
+    requires cursor { IsAt rule.now (moment_of_local start) (reading_by clock.now).dated picks.old.cursor }
+    requires taken { picks.old.cursor.taken ≡ true }
+    requires begun { number_of rule.now (moment_of_local picks.old.cursor.at) ≤ last_period rule.now (moment_of_local end) }
+    ensures cursor { OnOk result (IsAt rule.now (moment_of_local start) (reading_by clock.now).dated picks.new.cursor) }
+    ensures steps { steps.new + left_to_take rule.now (moment_of_local start) (reading_by clock.now).dated (moment_of_local end) picks.new.cursor ≤ steps.old + left_to_take rule.now (moment_of_local start) (reading_by clock.now).dated (moment_of_local end) picks.old.cursor }
+    ensures forward { OnOk result (moment_of_local picks.old.cursor.at < moment_of_local picks.new.cursor.at) }
+    ensures given { OnOk result (picks.new.given ≡ 0) }
+    ensures written { OnOk result (All (λ l. IsWritten l) picks.new.moments) }
+    ensures kept { OnOk result (kept_from rule.now (moment_of_local start) (reading_by clock.now) (moment_of_local picks.old.cursor.at)
+        ≡ moments_of picks.new.moments ++ kept_from rule.now (moment_of_local start) (reading_by clock.now) (moment_of_local picks.new.cursor.at)) }
+{
+    picks.found.truncate(0);
+    gather(
+        rules,
+        rule,
+        start,
+        clock,
+        &mut picks.cursor,
+        &mut picks.found,
+        end,
+        steps,
+    )?;
+    picks.moments.truncate(0);
+    picks.given = 0;
+    pick(rule, &picks.found, &mut picks.moments)?;
+    Ok(())
+}
