@@ -36,12 +36,12 @@ AllAfter-put_change z (x ∷ xs) c lt h = elim (cases_Bool (int_lt c.at x.at)) [
   ]
 ]
 
-AllAfter-earlier : (y z : ℤ) (cs : List Change) → y <ℤ z → AllAfter z cs → AllAfter y cs
+pub AllAfter-earlier : (y z : ℤ) (cs : List Change) → y <ℤ z → AllAfter z cs → AllAfter y cs
 unfolding AllAfter
 AllAfter-earlier y z [] lt h = tt
 AllAfter-earlier y z (c ∷ cs) lt h = let first = h.0 in (omega (arith, ints, lt, first), AllAfter-earlier y z cs lt h.1)
 
-AreInOrder-put_change : (cs : List Change) (c : Change) → AreInOrder cs → AreInOrder (put_change cs c)
+pub AreInOrder-put_change : (cs : List Change) (c : Change) → AreInOrder cs → AreInOrder (put_change cs c)
 unfolding AllAfter AreInOrder
 AreInOrder-put_change [] c h = (tt, tt)
 AreInOrder-put_change (x ∷ xs) c h = elim (cases_Bool (int_lt c.at x.at)) [
@@ -61,7 +61,7 @@ AreInOrder-put_change (x ∷ xs) c h = elim (cases_Bool (int_lt c.at x.at)) [
         let same : same_int c.at x.at ≡ true = rw e (same_int-self x.at) in
         let clash : true ≡ false = rw same at other in absurd cc)
 
-AreInOrder-fold : (cs more : List Change) → AreInOrder cs → AreInOrder (fold put_change cs more)
+pub AreInOrder-fold : (cs more : List Change) → AreInOrder cs → AreInOrder (fold put_change cs more)
 AreInOrder-fold cs [] h = h
 AreInOrder-fold cs (c ∷ more) h = AreInOrder-fold (put_change cs c) more (AreInOrder-put_change cs c h)
 

@@ -1,6 +1,7 @@
 -- The trial of rules is exact: it passes for the fronts of rules and for no others.
-use Rattle.std.proofs.Common.{◌≡◌, ℕ, suc, ◌+◌, ◌<◌, ◌≤◌, Bool, true, false, not, ◌&&◌, ◌||◌, ◌==◌, nat_eq, if◌then◌else◌, List, [], ◌∷◌, ◌++◌, length, map, flat_map, find, bytes_eq, codes, Option, Some, None, is_some, option_map, option_and_then, unwrap_or, refl, sym, ap, ap₂, subst, ◌∙◌, arith, ◌⊎◌, inl, inr}
+use Rattle.std.proofs.Common.{◌≡◌, ℕ, zero, suc, ◌+◌, ◌<◌, ◌≤◌, Bool, true, false, not, ◌&&◌, ◌||◌, ◌==◌, nat_eq, if◌then◌else◌, List, [], ◌∷◌, ◌++◌, length, map, flat_map, find, bytes_eq, codes, Option, Some, None, is_some, option_map, option_and_then, unwrap_or, refl, sym, ap, ap₂, subst, ◌∙◌, arith, ◌⊎◌, inl, inr}
 use Rattle.std.specs.List.{list_any, last_or, starts_with}
+use Rattle.std.specs.Prelude.{replicate}
 use Rattle.std.proofs.lemmas.Bool.{cases_Bool, false≢true, and_parts}
 use Rattle.std.proofs.lemmas.List.{length-append, append-nil}
 use Rattle.std.proofs.lemmas.Option.{none-some, same_Some}
@@ -90,14 +91,14 @@ AreShort k (part ∷ parts) = (length part.0 ≤ k) × AreShort k parts
 
 -- Parts put in
 
-with-split : (before behind : List Part) (rule r : Rule) → with_parts (before ++ behind) rule ≡ Some r → (s : Rule) × (with_parts before rule ≡ Some s) × (with_parts behind s ≡ Some r)
+pub with-split : (before behind : List Part) (rule r : Rule) → with_parts (before ++ behind) rule ≡ Some r → (s : Rule) × (with_parts before rule ≡ Some s) × (with_parts behind s ≡ Some r)
 with-split [] behind rule r e = (rule, refl, e)
 with-split (part ∷ before) behind rule r e =
     let first = and_then_some (with_parts (before ++ behind)) (with_part part rule) r e in
     let rest = with-split before behind first.0 r first.2 in
     (rest.0, ap (option_and_then (with_parts before)) first.1 ∙ rest.1, rest.2)
 
-with-join : (before behind : List Part) (rule s : Rule) → with_parts before rule ≡ Some s → with_parts (before ++ behind) rule ≡ with_parts behind s
+pub with-join : (before behind : List Part) (rule s : Rule) → with_parts before rule ≡ Some s → with_parts (before ++ behind) rule ≡ with_parts behind s
 with-join [] behind rule s e = ap (with_parts behind) (same_Some rule s e)
 with-join (part ∷ before) behind rule s e =
     let first = and_then_some (with_parts before) (with_part part rule) s e in
@@ -185,7 +186,7 @@ not_true : (b : Bool) → not b ≡ true → b ≡ false
 not_true true e = sym e
 not_true false e = refl
 
-once-split : (a b : List Part) → is_each_once (a ++ b) ≡ true → (is_each_once a ≡ true) × Apart a b × (is_each_once b ≡ true)
+pub once-split : (a b : List Part) → is_each_once (a ++ b) ≡ true → (is_each_once a ≡ true) × Apart a b × (is_each_once b ≡ true)
 unfolding Apart
 once-split [] b e = (refl, tt, e)
 once-split (part ∷ a) b e =
@@ -264,13 +265,13 @@ find-right test (x ∷ a) b e =
     ]
 
 -- FREQ as a part behind the others
-abbrev freq_part : Freq → Part
+abbrev pub freq_part : Freq → Part
 freq_part f = (codes "FREQ", freq_word f)
 
-abbrev freq_text : Freq → List ℕ
+abbrev pub freq_text : Freq → List ℕ
 freq_text f = codes "FREQ=" ++ freq_word f
 
-freq_text_is : (f : Freq) → (part_of (freq_text f) ≡ Some (freq_part f)) × (pieces 59 (59 ∷ freq_text f) ≡ [] ∷ freq_text f ∷ []) × (without_last_empty (freq_text f ∷ []) ≡ freq_text f ∷ [])
+pub freq_text_is : (f : Freq) → (part_of (freq_text f) ≡ Some (freq_part f)) × (pieces 59 (59 ∷ freq_text f) ≡ [] ∷ freq_text f ∷ []) × (without_last_empty (freq_text f ∷ []) ≡ freq_text f ∷ [])
 freq_text_is Secondly = (refl, refl, refl)
 freq_text_is Minutely = (refl, refl, refl)
 freq_text_is Hourly = (refl, refl, refl)
@@ -339,13 +340,13 @@ record ArePartsOf (parts : List Part) (f : Freq) (r : Rule) : Type 0 where
   said : with_parts parts (every_time f) ≡ Some r
   allowed : is_allowed r ≡ true
 
-parts_make : (parts : List Part) (f : Freq) (r : Rule) → ArePartsOf parts f r → rule_of_parts parts ≡ Some r
+pub parts_make : (parts : List Part) (f : Freq) (r : Rule) → ArePartsOf parts f r → rule_of_parts parts ≡ Some r
 parts_make parts f r a =
     ap (λ b. if b then option_and_then (rule_of_freq parts) (freq_in parts) else None) a.once
     ∙ (ap (option_and_then (rule_of_freq parts)) a.freq
     ∙ (ap (option_and_then if_allowed) a.said ∙ ap (λ b. if b then Some r else None) a.allowed))
 
-parts_made : (parts : List Part) (r : Rule) → rule_of_parts parts ≡ Some r → (f : Freq) × ArePartsOf parts f r
+pub parts_made : (parts : List Part) (r : Rule) → rule_of_parts parts ≡ Some r → (f : Freq) × ArePartsOf parts f r
 parts_made parts r e =
     let test = if_some (is_each_once parts) (option_and_then (rule_of_freq parts) (freq_in parts)) r e in
     let freq = and_then_some (rule_of_freq parts) (freq_in parts) r test.1 in
@@ -501,3 +502,98 @@ BeginsOne-can_go_on front begins =
 -- So the trial is exact.
 pub trial_is_exact : FrontsOfRulesAreTried
 trial_is_exact front = (can_go_on-BeginsOne front, BeginsOne-can_go_on front)
+
+-- Parts that stand
+
+-- some parts are a rule, or become one with FREQ behind them
+abbrev pub Stand : List Part → Type 0
+Stand parts = ((r : Rule) × (rule_of_parts parts ≡ Some r)) ⊎ ((f : Freq) × (r : Rule) × (rule_of_parts (parts ++ (freq_part f ∷ [])) ≡ Some r))
+
+-- the ordinals of the parts in front are those of the rule: where BYDAY is behind them, they have none
+front_days : (parts more : List Part) (f : Freq) (s r : Rule) → Apart parts more → with_parts parts (every_time f) ≡ Some s → with_parts more s ≡ Some r → Implies (list_any is_ordinal s.by_day) (list_any is_ordinal r.by_day)
+front_days parts more f s r apart first second =
+    elim (cases_Bool (list_any (is_part_named (codes "BYDAY")) more)) [
+      | inl has ↦ (let none : s.by_day ≡ [] = days_of_others parts (every_time f) s (apart_lacks (codes "BYDAY") parts more apart has) first in
+          λ some. absurd (false≢true (sym (ap (list_any is_ordinal) none) ∙ some)))
+      | inr none ↦ (λ some. ap (list_any is_ordinal) (days_of_others more s r none second) ∙ some)
+    ]
+
+apart_from_none : (parts : List Part) → Apart parts []
+unfolding Apart
+apart_from_none [] = tt
+apart_from_none (part ∷ parts) = (refl, apart_from_none parts)
+
+-- The parts in front of a rule stand.
+pub front_stands : (parts more : List Part) (r : Rule) → rule_of_parts (parts ++ more) ≡ Some r → Stand parts
+front_stands parts more r e =
+    let made = parts_made (parts ++ more) r e in
+    let f = made.0 in
+    let once = once-split parts more made.1.once in
+    let first = with-split parts more (every_time f) r made.1.said in
+    let s = first.0 in
+    let lesser = lesser_by s r (parts_keep more s r first.2) (front_days parts more f s r once.1 first.1 first.2) in
+    let allowed = allowed_less s r lesser made.1.allowed in
+    elim (cases_Option (find (is_part_named (codes "FREQ")) parts)) [
+      | inr q ↦ (let here = find-left (is_part_named (codes "FREQ")) parts more q.0 q.1 in
+          let freq : freq_in parts ≡ Some f = ap (option_and_then (λ (part : Part). freq_of part.1)) (q.1 ∙ sym here) ∙ made.1.freq in
+          inl (s, parts_make parts f s (record { once = once.0; freq = freq; said = first.1; allowed = allowed })))
+      | inl none ↦ (let there = find-right (is_part_named (codes "FREQ")) parts (freq_part f ∷ []) none in
+          let apart = apart_from_none parts in
+          inr (f, s, parts_make (parts ++ (freq_part f ∷ [])) f s (record {
+            once = once-join parts (freq_part f ∷ []) once.0 (apart_more parts [] (freq_part f) apart there.0) refl;
+            freq = ap (option_and_then (λ (part : Part). freq_of part.1)) there.1 ∙ freq_of-word f;
+            said = with-join parts (freq_part f ∷ []) (every_time f) s first.1 ∙ ap (option_and_then (with_parts [])) (freq_says_nothing f s);
+            allowed = allowed;
+          })))
+    ]
+
+-- a text is none that is shorter
+longer_name : (n m : List ℕ) → length n < length m → bytes_eq m n ≡ false
+longer_name n m lt =
+    elim (cases_Bool (bytes_eq m n)) [
+      | inl same ↦ absurd (omega (arith, ap length (is_same_text m n same), lt))
+      | inr other ↦ other
+    ]
+
+-- a number that no name of some parts is longer than
+names_bound : List Part → ℕ
+names_bound [] = 0
+names_bound (part ∷ parts) = length part.0 + names_bound parts
+
+short_more : (k m : ℕ) (parts : List Part) → k ≤ m → AreShort k parts → AreShort m parts
+unfolding AreShort
+short_more k m [] le short = tt
+short_more k m (part ∷ parts) le short = (omega (arith, le, short.0), short_more k m parts le short.1)
+
+names_short_of : (parts : List Part) → AreShort (names_bound parts) parts
+unfolding AreShort names_bound
+names_short_of [] = tt
+names_short_of (part ∷ parts) = (omega arith, short_more (names_bound parts) (length part.0 + names_bound parts) parts (omega arith) (names_short_of parts))
+
+apart_long : (k : ℕ) (parts : List Part) (made : Part) → AreShort k parts → k < length made.0 → Apart parts (made ∷ [])
+unfolding Apart AreShort
+apart_long k [] made short long = tt
+apart_long k (part ∷ parts) made short long = (ap (λ b. b || false) (longer_name part.0 made.0 (omega (arith, short.0, long))), apart_long k parts made short.1 long)
+
+-- A part of one's own with a new name stands behind a rule.
+pub own_stands : (parts : List Part) (r : Rule) → rule_of_parts parts ≡ Some r → (name : List ℕ) × Stand (parts ++ ((codes "X-" ++ name, []) ∷ [])) × (name ≡ replicate (length name) 65)
+own_stands parts r e =
+    let made = parts_made parts r e in
+    let name = replicate (names_bound parts) 65 in
+    let own : Part = (codes "X-" ++ name, []) in
+    let size = length-replicate (names_bound parts) in
+    let apart = apart_long (names_bound parts) parts own (names_short_of parts) (omega (arith, size)) in
+    let found = find_some (is_part_named (codes "FREQ")) parts made.0 made.1.freq in
+    (name, inl (r, parts_make (parts ++ (own ∷ [])) made.0 r (record {
+      once = once-join parts (own ∷ []) made.1.once apart refl;
+      freq = ap (option_and_then (λ (part : Part). freq_of part.1)) (find-left (is_part_named (codes "FREQ")) parts (own ∷ []) found.0 found.1 ∙ sym found.1) ∙ made.1.freq;
+      said = with-join parts (own ∷ []) (every_time made.0) r made.1.said;
+      allowed = made.1.allowed;
+    })), ap (λ k. replicate k 65) (sym size))
+  where
+    length-replicate : (room : ℕ) → length (replicate {A = ℕ} room 65) ≡ room
+    length-replicate zero = refl
+    length-replicate (suc room) = ap suc (length-replicate room)
+
+    find_some : (test : Part → Bool) (parts : List Part) (f : Freq) → option_and_then (λ (part : Part). freq_of part.1) (find test parts) ≡ Some f → (q : Part) × (find test parts ≡ Some q)
+    find_some test parts f e = let q = and_then_some (λ (part : Part). freq_of part.1) (find test parts) f e in (q.0, q.1)
