@@ -165,7 +165,7 @@ names_short k (t ∷ fs) parts all e =
     subst (AreShort k) first.4 (name_short k t first.0 all.0 first.2, names_short k fs first.1 all.1 first.3)
 
 -- no part of the first has a name of the second
-Apart : List Part → List Part → Type 0
+pub Apart : List Part → List Part → Type 0
 Apart [] others = Unit {0}
 Apart (part ∷ parts) others = (list_any (is_part_named part.0) others ≡ false) × Apart parts others
 
@@ -334,11 +334,11 @@ unfolding rule_in_grammar
 by_pieces text ps e = ap rule_of_pieces e
 
 -- what makes parts a rule
-record ArePartsOf (parts : List Part) (f : Freq) (r : Rule) : Type 0 where
-  once : is_each_once parts ≡ true
-  freq : freq_in parts ≡ Some f
-  said : with_parts parts (every_time f) ≡ Some r
-  allowed : is_allowed r ≡ true
+pub record ArePartsOf (parts : List Part) (f : Freq) (r : Rule) : Type 0 where
+  pub once : is_each_once parts ≡ true
+  pub freq : freq_in parts ≡ Some f
+  pub said : with_parts parts (every_time f) ≡ Some r
+  pub allowed : is_allowed r ≡ true
 
 pub parts_make : (parts : List Part) (f : Freq) (r : Rule) → ArePartsOf parts f r → rule_of_parts parts ≡ Some r
 parts_make parts f r a =
