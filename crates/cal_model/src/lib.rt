@@ -10,6 +10,7 @@
 //! script prints. Used by: every crate above.
 #![tactic(auto)]
 
+pub mod change;
 pub mod filter;
 mod local_span;
 mod local_times;
@@ -26,11 +27,14 @@ pub mod row;
 pub mod rule;
 pub mod selection;
 pub mod store;
+pub mod stored;
+pub mod view;
 pub mod walk;
 pub mod wire;
 pub mod zone;
 mod zone_time;
 
+pub use change::Change;
 pub use filter::{
     Collation, CompFilter, Filter, ParamFilter, ParamTest, PropFilter, PropTest, TextMatch,
 };
@@ -48,6 +52,7 @@ pub use row::{Fixed, Range, Row, RowKind};
 pub use rule::{DayPart, Freq, Rule, Until};
 pub use selection::{CompPick, PropPick, Recur, Selection};
 pub use store::CalendarData;
+pub use stored::Stored;
 pub use wire::{WireFault, WireRequest};
 pub use zone::{Onset, ZonePart, ZoneTable};
 pub use zone_time::{exists, offset_at, to_utc};

@@ -539,12 +539,16 @@ front_stands parts more r e =
           inl (s, parts_make parts f s (record { once = once.0; freq = freq; said = first.1; allowed = allowed })))
       | inl none ↦ (let there = find-right (is_part_named (codes "FREQ")) parts (freq_part f ∷ []) none in
           let apart = apart_from_none parts in
-          inr (f, s, parts_make (parts ++ (freq_part f ∷ [])) f s (record {
-            once = once-join parts (freq_part f ∷ []) once.0 (apart_more parts [] (freq_part f) apart there.0) refl;
-            freq = ap (option_and_then (λ (part : Part). freq_of part.1)) there.1 ∙ freq_of-word f;
-            said = with-join parts (freq_part f ∷ []) (every_time f) s first.1 ∙ ap (option_and_then (with_parts [])) (freq_says_nothing f s);
-            allowed = allowed;
-          })))
+          inr (
+            f,
+            s,
+            parts_make (parts ++ (freq_part f ∷ [])) f s (record {
+              once = once-join parts (freq_part f ∷ []) once.0 (apart_more parts [] (freq_part f) apart there.0) refl;
+              freq = ap (option_and_then (λ (part : Part). freq_of part.1)) there.1 ∙ freq_of-word f;
+              said = with-join parts (freq_part f ∷ []) (every_time f) s first.1 ∙ ap (option_and_then (with_parts [])) (freq_says_nothing f s);
+              allowed = allowed;
+            }),
+          ))
     ]
 
 -- a text is none that is shorter
@@ -583,13 +587,19 @@ own_stands parts r e =
     let own : Part = (codes "X-" ++ name, []) in
     let size = length-replicate (names_bound parts) in
     let apart = apart_long (names_bound parts) parts own (names_short_of parts) (omega (arith, size)) in
-    let found = find_some (is_part_named (codes "FREQ")) parts made.0 made.1.freq in
-    (name, inl (r, parts_make (parts ++ (own ∷ [])) made.0 r (record {
-      once = once-join parts (own ∷ []) made.1.once apart refl;
-      freq = ap (option_and_then (λ (part : Part). freq_of part.1)) (find-left (is_part_named (codes "FREQ")) parts (own ∷ []) found.0 found.1 ∙ sym found.1) ∙ made.1.freq;
-      said = with-join parts (own ∷ []) (every_time made.0) r made.1.said;
-      allowed = made.1.allowed;
-    })), ap (λ k. replicate k 65) (sym size))
+    let found = find_some (is_part_named (codes "FREQ")) parts made.0 made.1.freq in (
+      name,
+      inl (
+        r,
+        parts_make (parts ++ (own ∷ [])) made.0 r (record {
+          once = once-join parts (own ∷ []) made.1.once apart refl;
+          freq = ap (option_and_then (λ (part : Part). freq_of part.1)) (find-left (is_part_named (codes "FREQ")) parts (own ∷ []) found.0 found.1 ∙ sym found.1) ∙ made.1.freq;
+          said = with-join parts (own ∷ []) (every_time made.0) r made.1.said;
+          allowed = made.1.allowed;
+        }),
+      ),
+      ap (λ k. replicate k 65) (sym size),
+    )
   where
     length-replicate : (room : ℕ) → length (replicate {A = ℕ} room 65) ≡ room
     length-replicate zero = refl

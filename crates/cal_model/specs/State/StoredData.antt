@@ -8,7 +8,7 @@ use Rattle.cal_model.specs.declared.store.CalendarData.{CalendarData}
 use Rattle.cal_model.specs.Objects.ObjectReading.{read_object}
 use Rattle.cal_model.specs.Replies.Etags.{etag_of}
 use Rattle.cal_model.specs.State.PropertyTexts.{as_settings}
-use Rattle.cal_model.specs.State.ServerState.{Calendar, Home, ServerState, home_at, own_zone}
+use Rattle.cal_model.specs.State.ServerState.{Calendar, Home, ServerState, home_at, calendar_at, own_zone}
 
 -- A calendar's data, its objects aside: its zone is read once and kept.
 abbrev pub data_of : ℕ → Calendar → CalendarData
@@ -27,6 +27,10 @@ data_at state home name = option_and_then (λ (h : Home). option_map (data_of ho
 abbrev pub next_calendar : ServerState → ℕ → List ℕ → Option (List ℕ × CalendarData)
 next_calendar state home name =
     option_and_then (λ (h : Home). option_map (λ (entry : List ℕ × Calendar). (entry.0, data_of home entry.1)) (next_above h.calendars name)) (home_at state home)
+
+-- the object with the least name above a name, and its octets
+abbrev pub next_object : ServerState → ℕ → List ℕ → List ℕ → Option (List ℕ × List ℕ)
+next_object state home calendar name = option_and_then (λ (c : Calendar). next_above c.objects name) (calendar_at state home calendar)
 
 -- an object as it is kept: its octets, and what follows from them
 pub record IsStored (octets : List ℕ) (object : Object) (etag : Etag) : Type 0 where
