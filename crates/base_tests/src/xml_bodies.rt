@@ -30,67 +30,113 @@ fn has_fault(rt: HostRuntime, body: &[u8], place: u64, why: Why) -> bool {
     }
 }
 
+/// Whether an element has this namespace and name.
+fn is_named(element: &Element, space: &[u8], name: &[u8]) -> bool {
+    element.space.as_slice() == space && element.name.as_slice() == name
+}
+
+/// Whether an element has one attribute at a place, with this namespace, name and value.
+fn has_attr(element: &Element, place: usize, space: &[u8], name: &[u8], value: &[u8]) -> bool {
+    match element.attrs.get(place) {
+        Some(attr) => {
+            attr.space.as_slice() == space
+                && attr.name.as_slice() == name
+                && attr.value.as_slice() == value
+        }
+        None => false,
+    }
+}
+
+const NAMED_REQUEST: &[u8] =
+    b"<?xml version=\"1.0\" encoding=\"utf-8\" ?>\n<D:propfind xmlns:D=\"DAV:\">\n<D:prop xmlns:R=\"http://ns.example.com/boxschema/\">\n<R:bigbox/>\n<R:author/>\n</D:prop>\n</D:propfind>";
+
+fn is_the_named_request(root: &Element) -> bool {
+    let Some(prop) = inner(root, 1) else {
+        return false;
+    };
+    let Some(author) = inner(prop, 3) else {
+        return false;
+    };
+    is_named(root, b"DAV:", b"propfind")
+        && root.attrs.is_empty()
+        && text(root, 0) == b"\n".as_slice()
+        && is_named(prop, b"DAV:", b"prop")
+        && is_named(author, b"http://ns.example.com/boxschema/", b"author")
+        && author.items.is_empty()
+}
+
 // RFC 4918, 9.1.3: a request for named properties, in two namespaces.
 #[test]
 fn names_have_their_namespaces(rt: HostRuntime) -> Result<(), Fail> {
-    let body =
-        b"<?xml version=\"1.0\" encoding=\"utf-8\" ?>\n<D:propfind xmlns:D=\"DAV:\">\n<D:prop xmlns:R=\"http://ns.example.com/boxschema/\">\n<R:bigbox/>\n<R:author/>\n</D:prop>\n</D:propfind>";
-    let root = read_body(rt.alloc(), body)?;
-    assert!(rt; root.space.as_slice() == b"DAV:".as_slice());
-    assert!(rt; root.name.as_slice() == b"propfind".as_slice());
-    assert!(rt; root.attrs.is_empty());
-    assert!(rt; text(&root, 0) == b"\n".as_slice());
-    let prop = inner(&root, 1)?;
-    let author = inner(prop, 3)?;
-    assert!(rt; prop.name.as_slice() == b"prop".as_slice());
-    assert!(rt; author.space.as_slice() == b"http://ns.example.com/boxschema/".as_slice());
-    assert!(rt; author.name.as_slice() == b"author".as_slice());
-    assert!(rt; author.items.is_empty());
+    let root = read_body(rt.alloc(), NAMED_REQUEST)?;
+    assert!(rt; is_the_named_request(&root));
     Ok(())
+}
+
+const BEERS: &[u8] =
+    b"<Beers xmlns='urn:beers'><table xmlns='' class='x'><th/></table><b xmlns:e='urn:e' e:c='y'/></Beers>";
+
+fn are_the_beers(root: &Element) -> bool {
+    let Some(table) = inner(root, 0) else {
+        return false;
+    };
+    let Some(head) = inner(table, 0) else {
+        return false;
+    };
+    let Some(other) = inner(root, 1) else {
+        return false;
+    };
+    is_named(root, b"urn:beers", b"Beers")
+        && is_named(table, b"", b"table")
+        && is_named(head, b"", b"th")
+        && has_attr(table, 0, b"", b"class", b"x")
+        && is_named(other, b"urn:beers", b"b")
+        && other.attrs.len() == 1
+        && has_attr(other, 0, b"urn:e", b"c", b"y")
 }
 
 // Namespaces in XML 1.0, 6.2: a default namespace is for elements, and can be undone.
 #[test]
 fn a_default_namespace_can_be_undone(rt: HostRuntime) -> Result<(), Fail> {
-    let body =
-        b"<Beers xmlns='urn:beers'><table xmlns='' class='x'><th/></table><b xmlns:e='urn:e' e:c='y'/></Beers>";
-    let root = read_body(rt.alloc(), body)?;
-    let table = inner(&root, 0)?;
-    let other = inner(&root, 1)?;
-    assert!(rt; root.space.as_slice() == b"urn:beers".as_slice());
-    assert!(rt; table.space.is_empty());
-    assert!(rt; inner(table, 0)?.space.is_empty());
-    assert!(rt; table.attrs.get(0)?.space.is_empty());
-    assert!(rt; other.space.as_slice() == b"urn:beers".as_slice());
-    assert!(rt; other.attrs.len() == 1);
-    assert!(rt; other.attrs.get(0)?.space.as_slice() == b"urn:e".as_slice());
-    assert!(rt; other.attrs.get(0)?.name.as_slice() == b"c".as_slice());
+    let root = read_body(rt.alloc(), BEERS)?;
+    assert!(rt; are_the_beers(&root));
     Ok(())
+}
+
+const GOOD: &[u8] =
+    b"<x xmlns:n1=\"http://www.w3.org\" xmlns=\"http://www.w3.org\"><good a=\"1\" n1:a=\"2\"/></x>";
+
+fn is_good(root: &Element) -> bool {
+    let Some(good) = inner(root, 0) else {
+        return false;
+    };
+    good.attrs.len() == 2
+        && has_attr(good, 0, b"", b"a", b"1")
+        && has_attr(good, 1, b"http://www.w3.org", b"a", b"2")
 }
 
 // Namespaces in XML 1.0, 6.3: the default namespace is not that of an attribute.
 #[test]
 fn the_default_is_none_of_an_attribute(rt: HostRuntime) -> Result<(), Fail> {
-    let body =
-        b"<x xmlns:n1=\"http://www.w3.org\" xmlns=\"http://www.w3.org\"><good a=\"1\" n1:a=\"2\"/></x>";
-    let root = read_body(rt.alloc(), body)?;
-    let good = inner(&root, 0)?;
-    assert!(rt; good.attrs.len() == 2);
-    assert!(rt; good.attrs.get(0)?.space.is_empty());
-    assert!(rt; good.attrs.get(1)?.space.as_slice() == b"http://www.w3.org".as_slice());
-    assert!(rt; good.attrs.get(1)?.value.as_slice() == b"2".as_slice());
+    let root = read_body(rt.alloc(), GOOD)?;
+    assert!(rt; is_good(&root));
     Ok(())
+}
+
+const PIECES: &[u8] =
+    b"\xEF\xBB\xBF<a b='&lt;&#xE4;\r\n'>1\r\n2\r3&#13;<![CDATA[<&>\r]]>&amp;<!-- c --><?p i?>&quot;</a>\n";
+
+fn is_one_text(root: &Element) -> bool {
+    root.items.len() == 1
+        && text(root, 0) == b"1\n2\n3\r<&>\n&\"".as_slice()
+        && has_attr(root, 0, b"", b"b", b"<\xC3\xA4\r\n")
 }
 
 // XML 1.0, 2.11, 2.7, 4.1 and 4.6: ends of lines, sections and references are one text.
 #[test]
 fn text_beside_text_is_one(rt: HostRuntime) -> Result<(), Fail> {
-    let body =
-        b"\xEF\xBB\xBF<a b='&lt;&#xE4;\r\n'>1\r\n2\r3&#13;<![CDATA[<&>\r]]>&amp;<!-- c --><?p i?>&quot;</a>\n";
-    let root = read_body(rt.alloc(), body)?;
-    assert!(rt; root.items.len() == 1);
-    assert!(rt; text(&root, 0) == b"1\n2\n3\r<&>\n&\"".as_slice());
-    assert!(rt; root.attrs.get(0)?.value.as_slice() == b"<\xC3\xA4\r\n".as_slice());
+    let root = read_body(rt.alloc(), PIECES)?;
+    assert!(rt; is_one_text(&root));
     Ok(())
 }
 
