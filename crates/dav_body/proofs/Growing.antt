@@ -1,5 +1,5 @@
 -- Lists that grow by what each of others gives.
-use Rattle.std.proofs.Common.{◌≡◌, ℕ, Bool, true, false, List, [], ◌∷◌, ◌++◌, map, Option, Some, None, refl, sym, ap, ◌∙◌, append_assoc, append_nil}
+use Rattle.std.proofs.Common.{◌≡◌, ℕ, Bool, true, false, List, [], ◌∷◌, ◌++◌, map, Option, Some, None, refl, sym, ap, ◌∙◌, append_assoc, append-nil}
 use Rattle.std.specs.Prelude.{filter, filter_map, not, ◌&&◌, ◌||◌, is_none, cond}
 use Rattle.std.specs.List.{list_any, cons_option}
 use Rattle.cal_base.specs.declared.element.Attr.{Attr}
@@ -29,7 +29,7 @@ declared_none done all attribute more is before = sym (ap (λ rest. done ++ rest
 
 module _ (scope : Scope) (done : List Attr) (attribute : WrittenAttribute) where
   pub attrs_declaration : is_declaration attribute.name ≡ true → done ≡ done ++ attrs_of scope (attribute ∷ [])
-  attrs_declaration is = sym (ap (λ b. done ++ filter_map (attribute_in scope) (cond (not b) (attribute ∷ []) [])) is ∙ append_nil done)
+  attrs_declaration is = sym (ap (λ b. done ++ filter_map (attribute_in scope) (cond (not b) (attribute ∷ []) [])) is ∙ append-nil done)
 
   no_declaration : is_declaration attribute.name ≡ false → attrs_of scope (attribute ∷ []) ≡ cons_option (attribute_in scope attribute) []
   no_declaration is = ap (λ b. filter_map (attribute_in scope) (cond (not b) (attribute ∷ []) [])) is
@@ -38,7 +38,7 @@ module _ (scope : Scope) (done : List Attr) (attribute : WrittenAttribute) where
   attrs_some attr is found = sym (ap (λ rest. done ++ rest) (no_declaration is ∙ ap (λ one. cons_option one []) (sym found)))
 
   pub attrs_none : is_declaration attribute.name ≡ false → None ≡ attribute_in scope attribute → done ≡ done ++ attrs_of scope (attribute ∷ [])
-  attrs_none is found = sym (ap (λ rest. done ++ rest) (no_declaration is ∙ ap (λ one. cons_option one []) (sym found)) ∙ append_nil done)
+  attrs_none is found = sym (ap (λ rest. done ++ rest) (no_declaration is ∙ ap (λ one. cons_option one []) (sym found)) ∙ append-nil done)
 
 attrs_cons : (scope : Scope) (attribute : WrittenAttribute) (more : List WrittenAttribute) → attrs_of scope (attribute ∷ more) ≡ attrs_of scope (attribute ∷ []) ++ attrs_of scope more
 attrs_cons scope attribute more =

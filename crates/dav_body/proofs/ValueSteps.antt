@@ -1,5 +1,5 @@
 -- Values and text, met piece by piece.
-use Rattle.std.proofs.Common.{◌≡◌, ℕ, Bool, true, false, List, [], ◌∷◌, ◌++◌, Option, Some, None, refl, sym, ap, ◌∙◌, append_assoc, append_nil, flat_map}
+use Rattle.std.proofs.Common.{◌≡◌, ℕ, Bool, true, false, List, [], ◌∷◌, ◌++◌, Option, Some, None, refl, sym, ap, ◌∙◌, append_assoc, append-nil, flat_map}
 use Rattle.std.specs.Prelude.{if◌then◌else◌, ◌==◌, unwrap_or}
 use Rattle.cal_base.specs.Texts.Octets.{line_feed, carriage_return}
 use Rattle.cal_base.specs.Xml.XmlMarkup.{Tag, Markup, opening, closing, character, section, reference, skipped, markups, markup_of, referenced}
