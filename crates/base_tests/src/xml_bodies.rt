@@ -1,16 +1,21 @@
 //! XML bodies. The examples are those of the recommendations, and the faults are placed by hand.
 
-use cal_base::{Element, Item};
+use cal_base::{Attr, Element, Item};
 use dav_body::{BodyFault, Why, read_body};
 use std::test::Fail;
 
 /// The element within an element at a place among its items.
-fn inner(element: &Element, place: usize) -> Option<&Element> {
+fn inner(element: &Element, place: usize) -> Result<&Element, &'static str> {
     match element.items.get(place) {
-        Some(Item::Element(inner)) => Some(inner),
-        Some(Item::Text(_)) => None,
-        None => None,
+        Some(Item::Element(inner)) => Ok(inner),
+        Some(Item::Text(_)) => Err("a text"),
+        None => Err("no item"),
     }
+}
+
+/// The attribute of an element at a place.
+fn attr(element: &Element, place: usize) -> Result<&Attr, &'static str> {
+    element.attrs.get(place).ok_or("no attribute")
 }
 
 /// The text within an element at a place among its items.
@@ -60,11 +65,11 @@ fn a_default_namespace_can_be_undone(rt: HostRuntime) -> Result<(), Fail> {
     assert!(rt; root.space.as_slice() == b"urn:beers".as_slice());
     assert!(rt; table.space.is_empty());
     assert!(rt; inner(table, 0)?.space.is_empty());
-    assert!(rt; table.attrs.get(0)?.space.is_empty());
+    assert!(rt; attr(table, 0)?.space.is_empty());
     assert!(rt; other.space.as_slice() == b"urn:beers".as_slice());
     assert!(rt; other.attrs.len() == 1);
-    assert!(rt; other.attrs.get(0)?.space.as_slice() == b"urn:e".as_slice());
-    assert!(rt; other.attrs.get(0)?.name.as_slice() == b"c".as_slice());
+    assert!(rt; attr(other, 0)?.space.as_slice() == b"urn:e".as_slice());
+    assert!(rt; attr(other, 0)?.name.as_slice() == b"c".as_slice());
     Ok(())
 }
 
@@ -76,9 +81,9 @@ fn the_default_is_none_of_an_attribute(rt: HostRuntime) -> Result<(), Fail> {
     let root = read_body(rt.alloc(), body)?;
     let good = inner(&root, 0)?;
     assert!(rt; good.attrs.len() == 2);
-    assert!(rt; good.attrs.get(0)?.space.is_empty());
-    assert!(rt; good.attrs.get(1)?.space.as_slice() == b"http://www.w3.org".as_slice());
-    assert!(rt; good.attrs.get(1)?.value.as_slice() == b"2".as_slice());
+    assert!(rt; attr(good, 0)?.space.is_empty());
+    assert!(rt; attr(good, 1)?.space.as_slice() == b"http://www.w3.org".as_slice());
+    assert!(rt; attr(good, 1)?.value.as_slice() == b"2".as_slice());
     Ok(())
 }
 
@@ -90,7 +95,7 @@ fn text_beside_text_is_one(rt: HostRuntime) -> Result<(), Fail> {
     let root = read_body(rt.alloc(), body)?;
     assert!(rt; root.items.len() == 1);
     assert!(rt; text(&root, 0) == b"1\n2\n3\r<&>\n&\"".as_slice());
-    assert!(rt; root.attrs.get(0)?.value.as_slice() == b"<\xC3\xA4\r\n".as_slice());
+    assert!(rt; attr(&root, 0)?.value.as_slice() == b"<\xC3\xA4\r\n".as_slice());
     Ok(())
 }
 
