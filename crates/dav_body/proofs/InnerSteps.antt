@@ -55,9 +55,8 @@ pub inner_bad : (place : ℕ) (text : List ℕ) (why : ReadWhy) → Some (why_to
 inner_bad place [] why is = absurd cc
 inner_bad place (octet ∷ text) why is = inner_told place octet text (Some (why_told why)) is
 
-pub inner_good : (place : ℕ) (text : List ℕ) → None ≡ octet_fault text → first_inner (place + 1) (drop 1 text) ≡ first_inner place text
-inner_good place [] is = refl
-inner_good place (octet ∷ text) is = ap (λ next. first_inner next text) (sym (suc-eq-add-one place)) ∙ sym (inner_told place octet text None is)
+pub inner_good : (place octet : ℕ) (text : List ℕ) → None ≡ octet_fault (octet ∷ text) → first_inner (place + 1) text ≡ first_inner place (octet ∷ text)
+inner_good place octet text is = ap (λ next. first_inner next text) (sym (suc-eq-add-one place)) ∙ sym (inner_told place octet text None is)
 
 -- What is cut
 

@@ -3,7 +3,7 @@ pub mod Bound
 pub mod Colons
 pub mod Comments
 pub mod Digits
-pub mod Endings
+pub mod EndingSteps
 pub mod FrontSteps
 pub mod Growing
 pub mod InnerSteps

@@ -1,3 +1,4 @@
+pub mod Endings
 pub mod Front
 pub mod Inner
 pub mod Keeping

@@ -148,7 +148,7 @@ fn declaration_fault(
 }
 
 /// Where the markup behind the mark and the declaration begins.
-#[tactic(auto, using(crate::proofs::FrontSteps::empty_faults, crate::proofs::FrontSteps::empty_elements, crate::proofs::FrontSteps::plain_faults, crate::proofs::FrontSteps::plain_elements, crate::proofs::FrontSteps::declared_stop, crate::proofs::FrontSteps::declared_whole_faults, crate::proofs::FrontSteps::declared_whole_elements))]
+#[tactic(auto, using(crate::proofs::FrontSteps::empty_faults, crate::proofs::FrontSteps::empty_elements, crate::proofs::FrontSteps::plain_faults, crate::proofs::FrontSteps::plain_elements, crate::proofs::FrontSteps::declared_stop))]
 pub fn front_size(alloc: Global, octets: &[u8]) -> Result<usize, BodyFault>
     ensures within { IfOk result (λ size. size ≤ length octets.now) }
     ensures faults { IfOk result (λ size. fault_with (length octets.now) nothing size (markups (drop size octets.now)) ≡ body_fault octets.now) }

@@ -1,7 +1,9 @@
 //! What a markup is by itself (XML 1.0, 2.4 to 2.7, 3.1 and 4.1).
-ghost use Rattle.std.specs.Prelude.{◌≡◌, ◌<◌, length, option_map, is_some, IfOk, ◌++◌, if◌then◌else◌};
+ghost use Rattle.std.specs.Prelude.{◌≡◌, ◌<◌, ℕ, List, map, length, option_map, is_some, IfOk, ◌++◌, if◌then◌else◌};
+ghost use Rattle.std.specs.Borrow.{Bor};
 ghost use Rattle.cal_base.specs.Xml.XmlMarkup.{skipped, comment_of, section_of, instruction_of, is_target, markup_of, is_one_markup, can_go_on};
 ghost use Rattle.dav_body.specs.Texts.{text_there};
+ghost use Rattle.dav_body.specs.Endings.{any_ends};
 ghost use Rattle.dav_body.specs.Shown.{shown, reference_name};
 
 use crate::characters::{is_plain_name, is_xml_text};
@@ -150,17 +152,25 @@ fn is_ended(alloc: Global, text: &[u8], ending: &[u8]) -> Result<bool, NoMemory>
     is_one_markup(alloc, longer.as_slice())
 }
 
-/// Whether a text behind a markup would make it whole. It is asked where a text is no markup, which
-/// ends the reading.
-#[tactic(auto, using(crate::proofs::Endings::ended_here, crate::proofs::Endings::ended_later))]
-pub fn can_go_on(alloc: Global, text: &[u8]) -> Result<bool, NoMemory>
+/// Whether a text with one of these endings behind it is one markup.
+#[tactic(auto, using(crate::proofs::EndingSteps::ended_here, crate::proofs::EndingSteps::ended_later))]
+fn is_ended_by_any(alloc: Global, text: &[u8], endings: &[&[u8]]) -> Result<bool, NoMemory>
     requires { 0 < length text.now }
-    ensures { IfOk result (λ can. can ≡ can_go_on text.now) }
+    ensures { IfOk result (λ is. is ≡ any_ends text.now (map (λ (ending : Bor (List ℕ)). ending.now) endings.now)) }
 {
-    'endings: for ending in ENDINGS {
+    'endings: for ending in endings {
         if is_ended(alloc, text, ending)? {
             return Ok(true);
         }
     }
     Ok(false)
+}
+
+/// Whether a text behind a markup would make it whole. It is asked where a text is no markup, which
+/// ends the reading.
+pub fn can_go_on(alloc: Global, text: &[u8]) -> Result<bool, NoMemory>
+    requires { 0 < length text.now }
+    ensures { IfOk result (λ can. can ≡ can_go_on text.now) }
+{
+    is_ended_by_any(alloc, text, &ENDINGS)
 }

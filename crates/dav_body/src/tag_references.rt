@@ -59,7 +59,6 @@ fn inner_fault(alloc: Global, text: &[u8]) -> Result<Option<Why>, NoMemory>
 }
 
 /// Why a text cannot stand in a tag, of its first octet.
-
 fn octet_fault(alloc: Global, text: &[u8]) -> Result<Option<Why>, NoMemory>
     requires { 0 < length text.now }
     ensures { IfOk result (λ why. option_map why_told why ≡ octet_fault text.now) }
@@ -79,12 +78,12 @@ fn first_inner(alloc: Global, place: u64, text: &[u8]) -> Result<Option<Fault>, 
 {
     let mut at = place;
     let mut rest = text;
-    'octets: while !rest.is_empty() {
+    'octets: while let Some((_, behind)) = rest.split_first() {
         if let Some(why) = octet_fault(alloc, rest)? {
             return Ok(Some(Fault { place: at, why }));
         }
         at += 1;
-        rest = &rest[1..];
+        rest = behind;
     }
     Ok(None)
 }
