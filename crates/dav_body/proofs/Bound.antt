@@ -1,5 +1,5 @@
 -- What a prefix stands for, looked up from the innermost element outwards.
-use Rattle.std.proofs.Common.{◌≡◌, ℕ, zero, suc, ◌+◌, List, [], ◌∷◌, ◌++◌, ◌<◌, ◌≤◌, length, map, drop, Option, Some, None, refl, sym, ap, ◌∙◌, arith}
+use Rattle.std.proofs.Common.{◌≡◌, ℕ, zero, suc, ◌+◌, List, [], ◌∷◌, ◌<◌, ◌≤◌, length, map, drop, Some, None, refl, sym, ap, ◌∙◌, arith}
 use Rattle.std.proofs.Math.Numerals.{suc-eq-add-one}
 use Rattle.std.specs.Option.{option_or}
 use Rattle.cal_base.specs.Xml.XmlMarkup.{Tag}

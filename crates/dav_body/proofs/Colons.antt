@@ -1,9 +1,9 @@
 -- Names with a prefix, by their first colon; attributes, by their quotes.
-use Rattle.std.proofs.Common.{◌≡◌, ℕ, ◌+◌, ◌<◌, Bool, true, false, List, [], ◌∷◌, ◌++◌, Option, Some, None, refl, sym, ap, ◌∙◌, drop, length, append_assoc, append-nil}
+use Rattle.std.proofs.Common.{◌≡◌, ℕ, Bool, true, false, List, [], ◌∷◌, ◌++◌, Option, Some, None, refl, sym, ap, ◌∙◌, drop, append_assoc}
 use Rattle.std.specs.Prelude.{◌==◌, ◌&&◌, option_map, option_and_then, if◌then◌else◌, cond}
 use Rattle.cal_base.specs.Texts.Octets.{colon}
 use Rattle.cal_base.specs.Lines.ContentLines.{pieces, onto_first}
-use Rattle.cal_base.specs.Xml.XmlNames.{QName, qname_of, qname_of_pieces, is_plain_name, are_blanks}
+use Rattle.cal_base.specs.Xml.XmlNames.{qname_of, qname_of_pieces, is_plain_name}
 use Rattle.cal_base.specs.Xml.XmlMarkup.{WrittenAttribute, is_quote, quoted_pieces, attribute_of, attributes_of}
 use Rattle.dav_body.specs.Splits.{first_split, is_octet, preceded}
 

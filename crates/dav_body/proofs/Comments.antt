@@ -1,7 +1,7 @@
 -- Comments, by the text between their start and the last two octets of their end.
-use Rattle.std.proofs.Common.{◌≡◌, ℕ, ◌+◌, ◌-◌, ◌<◌, ◌≤◌, suc, Bool, true, false, List, [], ◌∷◌, ◌++◌, Option, Some, None, refl, sym, ap, ◌∙◌, take, drop, length, arith, length-append}
-use Rattle.std.specs.Prelude.{option_and_then, if◌then◌else◌, codes, is_some, not, ◌&&◌, nat_le}
-use Rattle.cal_base.specs.Xml.XmlMarkup.{Markup, skipped, holds, inside, comment_of}
+use Rattle.std.proofs.Common.{◌≡◌, ℕ, ◌+◌, ◌-◌, ◌≤◌, suc, Bool, true, false, List, [], ◌∷◌, ◌++◌, Some, None, refl, sym, ap, ◌∙◌, take, drop, length, arith, length-append}
+use Rattle.std.specs.Prelude.{option_and_then, if◌then◌else◌, codes, is_some, not, nat_le}
+use Rattle.cal_base.specs.Xml.XmlMarkup.{skipped, holds, inside, comment_of}
 use borrow.Author.Tests.{leb-true}
 use Rattle.std.proofs.lemmas.List.{length-take, length-drop, drop-append-le, drop-take}
 use Rattle.cal_base.proofs.Xml.XmlNameLemmas.{both_true}

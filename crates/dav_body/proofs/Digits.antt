@@ -1,6 +1,6 @@
 -- Numbers of digits, as far as they can be those of characters.
-use Rattle.std.proofs.Common.{◌≡◌, ℕ, ◌+◌, ◌*◌, ◌<◌, ◌≤◌, suc, Bool, true, false, List, [], ◌∷◌, length, map, Option, Some, None, refl, sym, ap, ◌∙◌, arith, min, inl, inr, ◌⊎◌}
-use Rattle.std.specs.Prelude.{fold, option_map, cond}
+use Rattle.std.proofs.Common.{◌≡◌, ℕ, ◌+◌, ◌*◌, ◌<◌, ◌≤◌, List, [], ◌∷◌, length, map, Option, Some, None, refl, sym, ap, ◌∙◌, arith, inl, inr}
+use Rattle.std.specs.Prelude.{fold, option_map}
 use Rattle.dav_body.specs.Numbers.{capped, IsBase}
 use Rattle.cal_base.specs.Lines.ContentLines.{every}
 use Rattle.cal_base.specs.Xml.XmlMarkup.{digit_value, number_of_digits}

@@ -8,7 +8,7 @@ use Rattle.std.specs.Prelude.{cond, if◌then◌else◌, not, ◌&&◌, ◌==◌
 use Rattle.std.specs.List.{take_while}
 use Rattle.cal_base.specs.Lines.ComponentTrees.{or_else}
 use Rattle.cal_base.specs.Xml.XmlMarkup.{is_quote, markups, markup_of}
-use Rattle.cal_base.specs.Xml.XmlFaults.{Fault, fault_at, mark_size, is_declaration, quoted_text, assigned_text, encoding_name, declaration_fault, fault_behind, first_fault, body_fault}
+use Rattle.cal_base.specs.Xml.XmlFaults.{mark_size, is_declaration, quoted_text, encoding_name, declaration_fault, fault_behind, first_fault, body_fault}
 use Rattle.cal_base.specs.Xml.XmlBodies.{body_element, without_declaration, levels_before, outermost}
 use Rattle.dav_body.specs.declared.fault.Fault.{Fault as FaultAt}
 use Rattle.dav_body.specs.declared.fault.BodyFault.TheVariants.{At}

@@ -1,5 +1,5 @@
 -- Lists that grow by what each of others gives.
-use Rattle.std.proofs.Common.{◌≡◌, ℕ, Bool, true, false, List, [], ◌∷◌, ◌++◌, map, Option, Some, None, refl, sym, ap, ◌∙◌, append_assoc, append-nil}
+use Rattle.std.proofs.Common.{◌≡◌, ℕ, true, false, List, [], ◌∷◌, ◌++◌, Option, Some, None, refl, sym, ap, ◌∙◌, append_assoc, append-nil}
 use Rattle.std.specs.Prelude.{filter, filter_map, not, ◌&&◌, ◌||◌, is_none, cond}
 use Rattle.std.specs.List.{list_any, cons_option}
 use Rattle.cal_base.specs.declared.element.Attr.{Attr}

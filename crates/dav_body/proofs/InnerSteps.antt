@@ -1,10 +1,10 @@
 -- The references of a tag, one octet after another.
-use Rattle.std.proofs.Common.{◌≡◌, ℕ, suc, ◌+◌, Bool, true, false, List, [], ◌∷◌, take, drop, Option, Some, None, refl, sym, ap, ◌∙◌}
+use Rattle.std.proofs.Common.{◌≡◌, ℕ, suc, ◌+◌, true, false, List, [], ◌∷◌, take, Option, Some, None, refl, sym, ap, ◌∙◌}
 use Rattle.std.proofs.Math.Numerals.{suc-eq-add-one}
 use Rattle.std.specs.Prelude.{if◌then◌else◌, option_map, ◌==◌}
 use Rattle.cal_base.specs.Lines.ComponentTrees.{or_else}
 use Rattle.cal_base.specs.Xml.XmlMarkup.{Markup, opening, closing, character, section, reference, skipped, markup_size, markup_of}
-use Rattle.cal_base.specs.Xml.XmlFaults.{Why, Fault, cut_short, fault_at, reference_fault, inner_fault, first_inner, references_fault}
+use Rattle.cal_base.specs.Xml.XmlFaults.{Why, cut_short, fault_at, reference_fault, inner_fault, first_inner, references_fault}
 use Rattle.dav_body.specs.declared.fault.Fault.{Fault as FaultAt}
 use Rattle.dav_body.specs.declared.fault.Why.{Why as ReadWhy}
 use Rattle.dav_body.specs.Shown.{reference_name}

@@ -1,14 +1,14 @@
 -- One markup more: the faults and the element of what is to come.
-use Rattle.std.proofs.Common.{◌≡◌, ℕ, ◌+◌, Bool, true, false, List, [], ◌∷◌, ◌++◌, map, length, Option, Some, None, refl, sym, ap, ap₂, ◌∙◌, arith}
-use Rattle.std.specs.Prelude.{is_some, filter_map, if◌then◌else◌, not, ◌&&◌, ◌||◌, unwrap_or}
+use Rattle.std.proofs.Common.{◌≡◌, ℕ, ◌+◌, Bool, true, false, List, [], ◌∷◌, ◌++◌, length, Option, Some, None, refl, sym, ap, ap₂, ◌∙◌}
+use Rattle.std.specs.Prelude.{is_some, filter_map, if◌then◌else◌, unwrap_or}
 use Rattle.std.specs.List.{cons_option}
 use Rattle.cal_base.specs.declared.element.Element.{Element}
 use Rattle.cal_base.specs.Lines.ComponentTrees.{or_else}
 use Rattle.cal_base.specs.Xml.XmlNames.{QName, are_blanks, is_same_name}
-use Rattle.cal_base.specs.Xml.XmlMarkup.{Tag, Markup, opening, closing, character, section, reference, skipped, markups, markup_of, referenced}
-use Rattle.cal_base.specs.Xml.XmlFaults.{Why, syntax, entity, cut_short, is_within, reference_fault, Fault, fault_at, tag_fault, references_fault, no_markup_fault, body_fault, fault_behind, first_fault, is_declaration, declaration_fault, mark_size, markup_fault, tags_behind, rooted_behind}
-use Rattle.cal_base.specs.Xml.XmlBodies.{Part, said, with_part, levels_before, outermost, with_line_feeds, body_element, without_declaration}
-use Rattle.dav_body.specs.Reading.{OpenPart, whole, opened, with_child, finished, finished_behind}
+use Rattle.cal_base.specs.Xml.XmlMarkup.{Tag, Markup, opening, closing, character, section, reference, skipped, markup_of, referenced}
+use Rattle.cal_base.specs.Xml.XmlFaults.{Why, entity, cut_short, Fault, fault_at, tag_fault, references_fault, no_markup_fault, first_fault, markup_fault, tags_behind, rooted_behind}
+use Rattle.cal_base.specs.Xml.XmlBodies.{said, with_part, levels_before, with_line_feeds}
+use Rattle.dav_body.specs.Reading.{OpenPart, whole, opened, finished, finished_behind}
 use Rattle.dav_body.specs.Keeping.{Kept, nothing, inside, behind, ended, kept_around, part_tags, kept_tags, is_rooted, fault_with, element_with, IsMarkupStep, IsStep, IsStop}
 use Rattle.dav_body.proofs.OpenParts.{finished-said, outermost-said, behind-said, finished-tag, finished-empty_tag, finished-closing}
 

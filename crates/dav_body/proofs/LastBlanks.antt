@@ -1,7 +1,6 @@
 -- The blanks at the end of a text, one less.
 use Rattle.std.proofs.Common.{◌≡◌, ℕ, Bool, true, false, List, [], ◌∷◌, ◌++◌, refl, sym, ap, ◌∙◌}
 use Rattle.std.specs.Prelude.{◌&&◌}
-use Rattle.std.specs.List.{list_all}
 use Rattle.cal_base.specs.Xml.XmlNames.{is_blank, are_blanks}
 use Rattle.cal_base.specs.Xml.XmlMarkup.{without_last_blanks}
 

@@ -1,18 +1,12 @@
 -- What a map has at a name behind a write; what a prefix stands for in joined scopes.
-use Rattle.std.proofs.Common.{◌≡◌, ℕ, Bool, true, false, List, [], ◌∷◌, ◌++◌, Option, Some, None, refl, sym, ap, ◌∙◌, inl, inr}
+use Rattle.std.proofs.Common.{◌≡◌, ℕ, true, false, List, [], ◌∷◌, ◌++◌, Option, Some, None, refl, sym, ap, ◌∙◌, inl, inr}
 use Rattle.std.specs.Prelude.{cond, find, option_map}
 use Rattle.std.specs.Option.{option_or}
-use Rattle.std.specs.declared.cmp.Ordering.{Ordering}
-use Rattle.std.specs.declared.cmp.Ordering.TheVariants.{Less, Equal, Greater}
-use Rattle.std.specs.Ordering.{match_ordering, is_eq}
-use Rattle.std.specs.Map.{lookup}
-use Rattle.std.specs.BTreeMap.{insert_entry, is_at}
 use Rattle.std.specs.Str.{bytes_eq}
-use Rattle.std.proofs.lemmas.Map.Text.{is_eq-slice_cmp}
 use Rattle.std.proofs.lemmas.Slice.Eq.{bytes_eq-Decides}
 use Rattle.std.proofs.lemmas.Bool.{cases_Bool}
 use Rattle.cal_base.proofs.Lists.NameMapLemmas.{value_at_with}
-use Rattle.cal_base.specs.Lists.NameMap.{Named, name_order, value_at, with_value}
+use Rattle.cal_base.specs.Lists.NameMap.{Named, value_at, with_value}
 use Rattle.cal_base.specs.Xml.XmlScopes.{Scope, space_of}
 
 pub same_text : (one other : List ℕ) → bytes_eq one other ≡ true → one ≡ other

@@ -1,13 +1,13 @@
 -- References within an element, and text outside the root.
-use Rattle.std.proofs.Common.{◌≡◌, ℕ, Bool, true, false, List, [], ◌∷◌, ◌++◌, map, Some, None, refl, sym, ap, ◌∙◌, length, arith}
-use Rattle.std.specs.Prelude.{if◌then◌else◌, is_some, encode_utf8, option_map}
+use Rattle.std.proofs.Common.{◌≡◌, ℕ, Bool, true, false, List, [], ◌++◌, Some, None, refl, sym, ap}
+use Rattle.std.specs.Prelude.{if◌then◌else◌, is_some, encode_utf8}
 use Rattle.cal_base.specs.Xml.XmlNames.{are_blanks}
-use Rattle.cal_base.specs.Xml.XmlMarkup.{Tag, reference, character, referenced}
-use Rattle.cal_base.specs.Xml.XmlFaults.{syntax, entity, is_within, reference_fault, markup_fault}
+use Rattle.cal_base.specs.Xml.XmlMarkup.{reference, character, referenced}
+use Rattle.cal_base.specs.Xml.XmlFaults.{syntax, entity, markup_fault}
 use Rattle.dav_body.specs.declared.fault.Why.TheVariants.{Syntax, Entity}
 use Rattle.dav_body.specs.declared.fault.BodyFault.TheVariants.{At}
 use Rattle.dav_body.specs.Reading.{OpenPart}
-use Rattle.dav_body.specs.Keeping.{inside, kept_tags, part_tags, IsMarkupStep}
+use Rattle.dav_body.specs.Keeping.{inside, kept_tags, IsMarkupStep}
 use Rattle.dav_body.specs.Kept.{IsWhyOf}
 use Rattle.dav_body.proofs.KeptSteps.{step_reference}
 

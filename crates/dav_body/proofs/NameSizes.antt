@@ -1,8 +1,7 @@
 -- How many octets stand before the first blank.
-use Rattle.std.proofs.Common.{◌≡◌, ℕ, ◌+◌, ◌≤◌, suc, Bool, true, false, List, [], ◌∷◌, length, take, refl, sym, ap, ◌∙◌, arith}
+use Rattle.std.proofs.Common.{◌≡◌, ℕ, ◌+◌, true, false, List, [], ◌∷◌, length, refl, ap, ◌∙◌, arith}
 use Rattle.std.specs.Prelude.{not, cond}
-use Rattle.std.specs.List.{prefix_len, take_while}
-use Rattle.std.proofs.lemmas.List.{length-take}
+use Rattle.std.specs.List.{prefix_len}
 use Rattle.cal_base.specs.Xml.XmlNames.{is_blank}
 use Rattle.cal_base.specs.Xml.XmlMarkup.{is_not_blank}
 

@@ -1,12 +1,12 @@
 -- The element of a body, met from the front with the open elements: one markup more.
-use Rattle.std.proofs.Common.{◌≡◌, ℕ, List, [], ◌∷◌, ◌++◌, map, flat_map, Option, Some, None, refl, sym, ap, ◌∙◌, append_assoc}
+use Rattle.std.proofs.Common.{◌≡◌, ℕ, List, [], ◌∷◌, ◌++◌, map, flat_map, None, refl, sym, ap, ◌∙◌, append_assoc}
 use Rattle.std.specs.Prelude.{true, false, if◌then◌else◌}
 use Rattle.cal_base.specs.declared.element.Element.{Element}
 use Rattle.cal_base.specs.declared.element.Item.{Item}
 use Rattle.cal_base.specs.declared.element.Item.TheVariants.{Element as InnerElement}
 use Rattle.cal_base.specs.Xml.XmlMarkup.{Tag}
-use Rattle.cal_base.specs.Xml.XmlScopes.{Scope, declarations, outer_scope, scope_at}
-use Rattle.cal_base.specs.Xml.XmlBodies.{Part, said, held, Level, text_items, items_behind, with_part, with_opening, with_tag, outermost, first_element}
+use Rattle.cal_base.specs.Xml.XmlScopes.{declarations, outer_scope, scope_at}
+use Rattle.cal_base.specs.Xml.XmlBodies.{Part, said, held, Level, text_items, items_behind, with_part, with_opening, with_tag, outermost}
 use Rattle.dav_body.specs.Reading.{OpenPart, whole, scope_of, opened, with_child, finished, finished_behind}
 
 finished-nil : (around : List OpenPart) → finished around [] ≡ None

@@ -1,9 +1,9 @@
 -- What a markup is, by what stands within its ends.
-use Rattle.std.proofs.Common.{◌≡◌, ℕ, ◌+◌, ◌<◌, ◌≤◌, Bool, true, false, List, [], ◌∷◌, Option, Some, None, refl, sym, ap, ◌∙◌, arith, inl, inr}
+use Rattle.std.proofs.Common.{◌≡◌, ℕ, ◌<◌, ◌≤◌, Bool, true, false, List, Option, Some, None, refl, sym, ap, ◌∙◌, arith, inl, inr}
 use Rattle.std.specs.Prelude.{option_map, option_and_then, if◌then◌else◌, codes, nat_le, encode_utf8, ◌&&◌}
-use Rattle.std.proofs.lemmas.Bool.{cases_lt, lt-leb, le-leb}
-use Rattle.cal_base.specs.Xml.XmlNames.{QName, qname_of, is_xml_character}
-use Rattle.cal_base.specs.Xml.XmlMarkup.{Markup, closing, reference, ends, inside, without_last_blanks, closing_of, opening_of, tag_of, is_reference, reference_of, referenced_number, referenced, entity_octets, character_octets}
+use Rattle.std.proofs.lemmas.Bool.{cases_lt, lt-leb}
+use Rattle.cal_base.specs.Xml.XmlNames.{qname_of, is_xml_character}
+use Rattle.cal_base.specs.Xml.XmlMarkup.{closing, reference, ends, inside, without_last_blanks, closing_of, opening_of, tag_of, is_reference, reference_of, referenced_number, referenced, entity_octets, character_octets}
 use Rattle.dav_body.specs.Numbers.{capped}
 
 pub closing_within : (text within : List ℕ) → inside 2 (codes ">") text ≡ Some within → closing_of text ≡ option_map closing (qname_of (without_last_blanks within))

@@ -1,17 +1,17 @@
 -- Why a tag cannot stand, by what is found of it in turn.
-use Rattle.std.proofs.Common.{◌≡◌, ℕ, Bool, true, false, List, [], ◌∷◌, ◌++◌, map, length, Option, Some, None, refl, sym, ap, ap₂, ◌∙◌}
-use Rattle.std.specs.Prelude.{if◌then◌else◌, ◌||◌, nat_le, option_map}
+use Rattle.std.proofs.Common.{◌≡◌, ℕ, Bool, true, false, List, map, length, Option, Some, None, refl, sym, ap, ap₂, ◌∙◌}
+use Rattle.std.specs.Prelude.{if◌then◌else◌, ◌||◌, nat_le}
 use Rattle.std.specs.List.{list_any}
 use Rattle.std.proofs.lemmas.List.{length-map}
 use Rattle.cal_base.specs.declared.element.Attr.{Attr}
 use Rattle.cal_base.specs.Xml.XmlMarkup.{Tag}
-use Rattle.cal_base.specs.Xml.XmlScopes.{Scope, declarations, attributes_in, has_repeat, is_same_written, is_same_attribute, is_bad_binding, has_bad_attribute, has_undeclared_prefix, scope_at}
+use Rattle.cal_base.specs.Xml.XmlScopes.{Scope, declarations, attributes_in, has_repeat, is_same_written, is_same_attribute, is_bad_binding, has_bad_attribute, has_undeclared_prefix}
 use Rattle.cal_base.specs.Xml.XmlFaults.{Why, syntax, prefix, too_deep, greatest_depth, tag_fault}
 use Rattle.dav_body.specs.declared.fault.Why.{Why as ReadWhy}
 use Rattle.dav_body.specs.declared.fault.Why.TheVariants.{Syntax}
 use Rattle.dav_body.specs.declared.open_elements.OpenElement.{OpenElement}
 use Rattle.dav_body.specs.declared.resolve.Resolved.TheVariants.{Fault, Open}
-use Rattle.dav_body.specs.Reading.{OpenPart, opened, scope_of}
+use Rattle.dav_body.specs.Reading.{OpenPart, opened}
 use Rattle.dav_body.specs.OpenParts.{open_part}
 use Rattle.dav_body.specs.Keeping.{part_tags}
 use Rattle.dav_body.specs.Kept.{IsResolved}

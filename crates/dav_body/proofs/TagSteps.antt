@@ -9,7 +9,7 @@ use Rattle.dav_body.specs.declared.fault.Why.{Why}
 use Rattle.dav_body.specs.declared.fault.BodyFault.TheVariants.{At}
 use Rattle.dav_body.specs.declared.open_elements.OpenElement.{OpenElement}
 use Rattle.dav_body.specs.declared.resolve.Resolved.TheVariants.{Fault, Open}
-use Rattle.dav_body.specs.Reading.{OpenPart, whole, opened}
+use Rattle.dav_body.specs.Reading.{OpenPart, whole}
 use Rattle.dav_body.specs.Keeping.{Kept, inside, ended, kept_around, kept_tags, is_rooted, IsMarkupStep}
 use Rattle.dav_body.specs.Kept.{IsResolved, IsWhyOf}
 use Rattle.dav_body.specs.Told.{why_told}

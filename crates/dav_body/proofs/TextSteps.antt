@@ -1,5 +1,5 @@
 -- The definitions of where a markup ends and of what a text holds, one octet more.
-use Rattle.std.proofs.Common.{◌≡◌, ℕ, ◌+◌, ◌-◌, ◌<◌, ◌≤◌, suc, true, false, List, [], ◌∷◌, ◌++◌, length, drop, take, Option, Some, None, refl, sym, ap, ◌∙◌, arith}
+use Rattle.std.proofs.Common.{◌≡◌, ℕ, ◌<◌, suc, true, false, List, [], ◌∷◌, length, drop, take, Option, Some, None, refl, ap, ◌∙◌, arith}
 use Rattle.std.specs.Prelude.{◌||◌, ◌&&◌, ◌==◌, is_none}
 use Rattle.std.proofs.lemmas.Bool.{ne_eqb}
 use Rattle.cal_base.specs.Xml.XmlNames.{begins_with_blank}

@@ -1,10 +1,8 @@
 -- A text more, by what the functions below answer.
-use Rattle.std.proofs.Common.{◌≡◌, ℕ, List, ◌∷◌, Option, Some, None, refl, sym, ap, subst, ◌∙◌}
-use Rattle.std.specs.Prelude.{option_map}
+use Rattle.std.proofs.Common.{◌≡◌, ℕ, List, ◌∷◌, Some, None, sym, ap, ◌∙◌}
 use Rattle.cal_base.specs.Xml.XmlMarkup.{Markup, markup_of}
 use Rattle.cal_base.specs.Xml.XmlFaults.{references_fault, no_markup_fault, fault_at, markup_fault}
 use Rattle.dav_body.specs.declared.fault.Fault.{Fault}
-use Rattle.dav_body.specs.declared.fault.Why.{Why}
 use Rattle.dav_body.specs.declared.fault.BodyFault.{BodyFault}
 use Rattle.dav_body.specs.declared.fault.BodyFault.TheVariants.{At, NoMemory}
 use Rattle.dav_body.specs.Keeping.{Kept, kept_tags, is_rooted, fault_with, IsMarkupStep, IsStep}

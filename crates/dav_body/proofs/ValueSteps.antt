@@ -1,12 +1,12 @@
 -- Values and text, met piece by piece.
-use Rattle.std.proofs.Common.{◌≡◌, ℕ, Bool, true, false, List, [], ◌∷◌, ◌++◌, Option, Some, None, refl, sym, ap, ◌∙◌, append_assoc, append-nil, flat_map}
+use Rattle.std.proofs.Common.{◌≡◌, ℕ, true, false, List, [], ◌∷◌, ◌++◌, Option, Some, None, refl, sym, ap, ◌∙◌, append_assoc, flat_map}
 use Rattle.std.specs.Prelude.{if◌then◌else◌, ◌==◌, unwrap_or}
 use Rattle.cal_base.specs.Texts.Octets.{line_feed, carriage_return}
-use Rattle.cal_base.specs.Xml.XmlMarkup.{Tag, Markup, opening, closing, character, section, reference, skipped, markups, markup_of, referenced}
+use Rattle.cal_base.specs.Xml.XmlMarkup.{Markup, opening, closing, character, section, reference, skipped, markups, markup_of, referenced}
 use Rattle.cal_base.specs.Xml.XmlScopes.{piece_octets, value_octets}
 use Rattle.cal_base.specs.Xml.XmlBodies.{with_line_feeds}
 use Rattle.dav_body.specs.Shown.{reference_name}
-use Rattle.dav_body.specs.LineFeeds.{octet_shown, end_shown}
+use Rattle.dav_body.specs.LineFeeds.{octet_shown}
 
 -- what a piece stands for, by the markup that it is
 abbrev of_markup : List ℕ → Option Markup → List ℕ

@@ -2,7 +2,7 @@
 use Rattle.std.specs.Prelude.{◌≡◌, ℕ, ◌+◌, Bool, true, false, List, [], ◌∷◌, map, filter_map, length, Option, Some, None}
 use Rattle.cal_base.specs.declared.element.Element.{Element}
 use Rattle.cal_base.specs.Xml.XmlMarkup.{Tag, Markup, markup_of}
-use Rattle.cal_base.specs.Xml.XmlFaults.{Why, Fault, fault_at, references_fault, first_fault, markup_fault, tags_behind, rooted_behind}
+use Rattle.cal_base.specs.Xml.XmlFaults.{Fault, first_fault, markup_fault, tags_behind, rooted_behind}
 use Rattle.cal_base.specs.Xml.XmlBodies.{levels_before, outermost}
 use Rattle.dav_body.specs.Reading.{OpenPart, with_child, finished, finished_behind}
 

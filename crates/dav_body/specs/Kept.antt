@@ -9,7 +9,7 @@ use Rattle.dav_body.specs.declared.fault.BodyFault.TheVariants.{At, NoMemory}
 use Rattle.dav_body.specs.declared.open_elements.OpenElement.{OpenElement}
 use Rattle.dav_body.specs.declared.progress.Progress.{Progress}
 use Rattle.dav_body.specs.declared.progress.Progress.TheVariants.{Nothing, Within, Whole}
-use Rattle.dav_body.specs.Reading.{OpenPart, opened}
+use Rattle.dav_body.specs.Reading.{opened}
 use Rattle.dav_body.specs.Told.{why_told}
 use Rattle.dav_body.specs.OpenParts.{open_part}
 use Rattle.dav_body.specs.Keeping.{Kept, part_tags, nothing, inside, behind}

@@ -1,5 +1,5 @@
 -- An octet of text, with line feeds for the other ends of lines.
-use Rattle.std.specs.Prelude.{ℕ, ◌==◌, if◌then◌else◌, List, [], ◌∷◌, slice_get, Some, None}
+use Rattle.std.specs.Prelude.{ℕ, ◌==◌, if◌then◌else◌, List, [], ◌∷◌}
 use Rattle.cal_base.specs.Texts.Octets.{line_feed, carriage_return}
 
 -- the end of a line from a CR, given what stands behind it: the LF that follows speaks for both

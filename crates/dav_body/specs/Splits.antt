@@ -1,7 +1,6 @@
 -- Texts cut at the first octet of a kind, as the private functions cut them, and what their answers say of a text.
-use Rattle.std.specs.Prelude.{◌≡◌, ℕ, ◌<◌, Bool, true, false, ◌==◌, List, [], ◌∷◌, ◌++◌, length, Option, Some, None, option_map}
+use Rattle.std.specs.Prelude.{ℕ, Bool, true, false, ◌==◌, List, [], ◌∷◌, ◌++◌, Option, Some, None, option_map}
 use Rattle.std.specs.Borrow.{Bor}
-use Rattle.cal_base.specs.Xml.XmlMarkup.{is_quote}
 
 -- the text before the first octet that passes, and the text from it on
 abbrev pub first_split : (ℕ → Bool) → List ℕ → Option (List ℕ × List ℕ)

@@ -1,4 +1,4 @@
-use Rattle.std.proofs.Common.{◌≡◌, List, [], map, false, sym, subst}
+use Rattle.std.proofs.Common.{List, [], map, false, sym, subst}
 use Rattle.std.specs.Prelude.{IfErr}
 use Rattle.cal_base.specs.Xml.XmlMarkup.{opening}
 use Rattle.dav_body.specs.declared.markup.Markup.{Markup}

@@ -1,4 +1,4 @@
-use Rattle.std.proofs.Common.{◌≡◌, sym, subst, ◌∙◌}
+use Rattle.std.proofs.Common.{sym, subst, ◌∙◌}
 use Rattle.dav_body.specs.Kept.{IsResolved}
 use Rattle.dav_body.proofs.TagSteps.{opened_step, empty_step}
 use Rattle.dav_body.proofs.progress.opened.Goals as goal

@@ -1,5 +1,4 @@
 use Rattle.std.proofs.Common.{◌≡◌, take, drop}
-use Rattle.cal_base.specs.Xml.XmlMarkup.{is_quote}
 use Rattle.dav_body.specs.Splits.{first_split, before_first, is_octet}
 use Rattle.dav_body.proofs.splits.split_at_octet.Given as goal
 

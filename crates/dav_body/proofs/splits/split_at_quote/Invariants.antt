@@ -1,6 +1,6 @@
 use Rattle.std.proofs.Common.{◌≡◌, take, drop}
 use Rattle.cal_base.specs.Xml.XmlMarkup.{is_quote}
-use Rattle.dav_body.specs.Splits.{first_split, before_first, is_octet}
+use Rattle.dav_body.specs.Splits.{first_split, before_first}
 use Rattle.dav_body.proofs.splits.split_at_quote.Given as goal
 
 -- the octets so far, and what is found in the rest
