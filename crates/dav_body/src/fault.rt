@@ -25,9 +25,9 @@ pub enum Why {
 /// Why octets are no body.
 #[derive(Debug, Clone, Copy, PartialEq, Eq)]
 pub enum BodyFault {
-    /// The first fault: its place, and why it is one.
+    /// The first fault: the offset of the octet at which it stands, and why it is one.
     At { place: u64, why: Why },
-    /// There was no memory.
+    /// There was no memory, or none is given for so many copies of the body's namespaces.
     NoMemory,
 }
 
@@ -41,7 +41,7 @@ impl From<NoMemory> for BodyFault {
     }
 }
 
-/// A fault at its place.
+/// A fault at its place, an offset of an octet.
 #[derive(Debug, Clone, Copy, PartialEq, Eq)]
 pub struct Fault {
     pub place: u64,

@@ -72,7 +72,11 @@ fn finished(progress: Progress<'_>, end: u64) -> Result<Element, BodyFault>
     }
 }
 
-/// The element that the octets of a body spell.
+/// The element that the octets of a body spell, with its namespaces resolved (XML 1.0; Namespaces in
+/// XML 1.0; RFC 4918, 8.2).
+///
+/// Where they spell none, the first fault is answered. There is no memory for a body whose elements
+/// and attributes would copy more than 64 octets of namespaces for each of its octets.
 #[tactic(auto, using(crate::proofs::Answered::sized))]
 pub fn read_body(alloc: Global, octets: &[u8]) -> Result<Element, BodyFault>
     ensures body { IfOk result (λ element. IsBody octets.now element) }
