@@ -14,9 +14,8 @@ use Rattle.dav_body.specs.declared.fault.Fault.{Fault as FaultAt}
 use Rattle.dav_body.specs.declared.fault.BodyFault.TheVariants.{At}
 use Rattle.dav_body.specs.Front.{encoding_at}
 use Rattle.dav_body.specs.Keeping.{nothing, fault_with, element_with}
-use Rattle.dav_body.specs.Kept.{IsFaultOf}
 use Rattle.dav_body.specs.Splits.{first_split, is_octet}
-use Rattle.dav_body.specs.Told.{fault_told}
+use Rattle.dav_body.specs.Faults.{fault_told, IsFaultOf}
 
 -- Quoted text
 

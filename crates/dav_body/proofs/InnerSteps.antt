@@ -8,7 +8,7 @@ use Rattle.cal_base.specs.Xml.XmlFaults.{Why, cut_short, fault_at, reference_fau
 use Rattle.dav_body.specs.declared.fault.Fault.{Fault as FaultAt}
 use Rattle.dav_body.specs.declared.fault.Why.{Why as ReadWhy}
 use Rattle.dav_body.specs.Shown.{reference_name}
-use Rattle.dav_body.specs.Told.{why_told, fault_told}
+use Rattle.dav_body.specs.Faults.{why_told, fault_told}
 use Rattle.dav_body.specs.Inner.{reference_why, cut_fault, octet_fault, cut_markup_fault}
 
 -- of a text, by the markup that it begins with

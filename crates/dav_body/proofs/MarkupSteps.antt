@@ -8,7 +8,7 @@ use Rattle.dav_body.specs.declared.fault.Why.TheVariants.{Syntax, Entity}
 use Rattle.dav_body.specs.declared.fault.BodyFault.TheVariants.{At}
 use Rattle.dav_body.specs.Reading.{OpenPart}
 use Rattle.dav_body.specs.Keeping.{inside, kept_tags, IsMarkupStep}
-use Rattle.dav_body.specs.Kept.{IsWhyOf}
+use Rattle.dav_body.specs.Faults.{IsWhyOf}
 use Rattle.dav_body.proofs.KeptSteps.{step_reference}
 
 pub reference_step : (inner : OpenPart) (around : List OpenPart) (name : List ℕ) (code : ℕ) → Some (encode_utf8 code) ≡ referenced name → IsMarkupStep (inside inner around) (reference name) (inside (record inner { text = inner.text ++ encode_utf8 code }) around)

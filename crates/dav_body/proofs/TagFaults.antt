@@ -16,7 +16,7 @@ use Rattle.dav_body.specs.OpenParts.{open_part}
 use Rattle.dav_body.specs.Keeping.{part_tags}
 use Rattle.dav_body.specs.Kept.{IsResolved}
 use Rattle.dav_body.specs.Tags.{scope_within, scoped_fault}
-use Rattle.dav_body.specs.Told.{why_told}
+use Rattle.dav_body.specs.Faults.{why_told}
 use Rattle.dav_body.proofs.OpenParts.{scope_at-open}
 
 -- why a tag cannot stand under a scope, within so many

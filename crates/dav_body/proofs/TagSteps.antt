@@ -11,8 +11,8 @@ use Rattle.dav_body.specs.declared.open_elements.OpenElement.{OpenElement}
 use Rattle.dav_body.specs.declared.resolve.Resolved.TheVariants.{Fault, Open}
 use Rattle.dav_body.specs.Reading.{OpenPart, whole}
 use Rattle.dav_body.specs.Keeping.{Kept, inside, ended, kept_around, kept_tags, is_rooted, IsMarkupStep}
-use Rattle.dav_body.specs.Kept.{IsResolved, IsWhyOf}
-use Rattle.dav_body.specs.Told.{why_told}
+use Rattle.dav_body.specs.Kept.{IsResolved}
+use Rattle.dav_body.specs.Faults.{why_told, IsWhyOf}
 use Rattle.dav_body.specs.OpenParts.{open_part}
 use Rattle.dav_body.proofs.KeptSteps.{step_opening, step_empty, stop_opening, step_closing}
 

@@ -6,8 +6,7 @@ use Rattle.dav_body.specs.declared.fault.Fault.{Fault}
 use Rattle.dav_body.specs.declared.fault.BodyFault.{BodyFault}
 use Rattle.dav_body.specs.declared.fault.BodyFault.TheVariants.{At, NoMemory}
 use Rattle.dav_body.specs.Keeping.{Kept, kept_tags, is_rooted, fault_with, IsMarkupStep, IsStep}
-use Rattle.dav_body.specs.Kept.{IsFaultOf, IsWhyOf}
-use Rattle.dav_body.specs.Told.{fault_told, why_told}
+use Rattle.dav_body.specs.Faults.{fault_told, why_told, IsFaultOf, IsWhyOf}
 use Rattle.dav_body.proofs.KeptSteps.{step_of_markup, stop_of_markup, stop_of_reference, stop_of_no_markup}
 
 pub text_without_markup : (end place : ℕ) (before : Kept) (text : List ℕ) (fault : Fault) → None ≡ markup_of text → fault_told fault ≡ no_markup_fault end place text

@@ -1,16 +1,14 @@
--- What is kept, and the faults, as the definitions have them.
-use Rattle.std.specs.Prelude.{◌≡◌, ℕ, List, map, Option, Some, None}
+-- What is kept, as the definitions have it.
+use Rattle.std.specs.Prelude.{◌≡◌, List, map, Some, None}
 use Rattle.cal_base.specs.Xml.XmlFaults as definition
 use Rattle.cal_base.specs.Xml.XmlMarkup.{Tag}
 use Rattle.dav_body.specs.declared.resolve.Resolved.{Resolved}
 use Rattle.dav_body.specs.declared.resolve.Resolved.TheVariants.{Fault, Open}
-use Rattle.dav_body.specs.declared.fault.BodyFault.{BodyFault}
-use Rattle.dav_body.specs.declared.fault.BodyFault.TheVariants.{At, NoMemory}
 use Rattle.dav_body.specs.declared.open_elements.OpenElement.{OpenElement}
 use Rattle.dav_body.specs.declared.progress.Progress.{Progress}
 use Rattle.dav_body.specs.declared.progress.Progress.TheVariants.{Nothing, Within, Whole}
 use Rattle.dav_body.specs.Reading.{opened}
-use Rattle.dav_body.specs.Told.{why_told}
+use Rattle.dav_body.specs.Faults.{why_told}
 use Rattle.dav_body.specs.OpenParts.{open_part}
 use Rattle.dav_body.specs.Keeping.{Kept, part_tags, nothing, inside, behind}
 
@@ -18,16 +16,6 @@ abbrev pub kept_of : Progress → Kept
 kept_of Nothing = nothing
 kept_of (Within inner around) = inside (open_part inner) (map open_part around)
 kept_of (Whole element) = behind element
-
--- a fault as the definition has it, where there is one; want of memory says nothing
-abbrev pub IsFaultOf : Option definition.Fault → BodyFault → Type 0
-IsFaultOf found (At place why) = found ≡ Some (definition.fault_at place (why_told why))
-IsFaultOf found NoMemory = Unit {0}
-
--- why a markup cannot stand, at the place of the markup
-abbrev pub IsWhyOf : ℕ → Option definition.Why → BodyFault → Type 0
-IsWhyOf place found (At at why) = (at ≡ place) × (found ≡ Some (why_told why))
-IsWhyOf place found NoMemory = Unit {0}
 
 -- what a tag is within these: why it cannot stand, or the element that it opens
 abbrev pub IsResolved : List OpenElement → Tag → Resolved → Type 0

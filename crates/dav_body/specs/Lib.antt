@@ -1,4 +1,5 @@
 pub mod Endings
+pub mod Faults
 pub mod Front
 pub mod Inner
 pub mod Keeping
@@ -13,4 +14,3 @@ pub mod Shown
 pub mod Splits
 pub mod Tags
 pub mod Texts
-pub mod Told

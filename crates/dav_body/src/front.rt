@@ -6,9 +6,8 @@ ghost use Rattle.cal_base.specs.Xml.XmlFaults.{mark_size, is_declaration, quoted
 ghost use Rattle.cal_base.specs.Xml.XmlBodies.{body_element};
 ghost use Rattle.dav_body.specs.Front.{encoding_at, names_other};
 ghost use Rattle.dav_body.specs.Keeping.{nothing, fault_with, element_with};
-ghost use Rattle.dav_body.specs.Kept.{IsFaultOf};
 ghost use Rattle.dav_body.specs.Texts.{text_there};
-ghost use Rattle.dav_body.specs.Told.{fault_told};
+ghost use Rattle.dav_body.specs.Faults.{fault_told, IsFaultOf};
 
 use crate::blanks::{begins_with_blank, is_blank, without_first_blanks};
 use crate::characters::is_xml_text;

@@ -4,7 +4,8 @@ ghost use Rattle.cal_base.specs.Xml.XmlMarkup.{opening, closing, reference};
 ghost use Rattle.dav_body.specs.Reading.{whole};
 ghost use Rattle.cal_base.specs.Xml.XmlFaults.{markup_fault};
 ghost use Rattle.dav_body.specs.Keeping.{IsMarkupStep, nothing, behind, inside, ended, kept_around, kept_tags, is_rooted};
-ghost use Rattle.dav_body.specs.Kept.{kept_of, IsWhyOf};
+ghost use Rattle.dav_body.specs.Kept.{kept_of};
+ghost use Rattle.dav_body.specs.Faults.{IsWhyOf};
 ghost use Rattle.dav_body.specs.OpenParts.{open_part};
 ghost use Rattle.dav_body.specs.Shown.{shown};
 

@@ -5,7 +5,8 @@ ghost use Rattle.cal_base.specs.Xml.XmlFaults.{body_fault};
 ghost use Rattle.cal_base.specs.Xml.XmlBodies.{IsBody, body_element};
 ghost use Rattle.cal_base.specs.Xml.XmlSizes.{element_size};
 ghost use Rattle.dav_body.specs.Keeping.{IsStep, behind, fault_with, element_with};
-ghost use Rattle.dav_body.specs.Kept.{kept_of, IsFaultOf};
+ghost use Rattle.dav_body.specs.Kept.{kept_of};
+ghost use Rattle.dav_body.specs.Faults.{IsFaultOf};
 
 use crate::cut::first_markup;
 use crate::fault::{BodyFault, Why};

@@ -8,7 +8,7 @@ ghost use Rattle.dav_body.specs.OpenParts.{open_part};
 ghost use Rattle.dav_body.specs.Pairs.{pair_key, written_key, attribute_key};
 ghost use Rattle.dav_body.specs.Tags.{scope_within, attrs_of, is_undeclared, any_undeclared, scoped_fault};
 ghost use Rattle.dav_body.specs.Texts.{text_there};
-ghost use Rattle.dav_body.specs.Told.{why_told};
+ghost use Rattle.dav_body.specs.Faults.{why_told};
 
 use crate::attributes::WrittenAttribute;
 use crate::bindings::{declared, has_bad_binding, is_declaration};

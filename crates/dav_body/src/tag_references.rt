@@ -1,7 +1,7 @@
 //! References within a tag: each is a markup of its own, with its own place.
 ghost use Rattle.std.specs.Prelude.{◌≡◌, ◌+◌, ◌<◌, ◌≤◌, ◌^◌, length, option_map, IfOk};
 ghost use Rattle.cal_base.specs.Xml.XmlFaults.{inner_fault, first_inner, references_fault, no_markup_fault, reference_fault};
-ghost use Rattle.dav_body.specs.Told.{why_told, fault_told};
+ghost use Rattle.dav_body.specs.Faults.{why_told, fault_told};
 ghost use Rattle.dav_body.specs.Shown.{shown, reference_name};
 ghost use Rattle.dav_body.specs.Inner.{reference_why, cut_fault, octet_fault, cut_markup_fault};
 

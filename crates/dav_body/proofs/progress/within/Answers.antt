@@ -5,7 +5,7 @@ use Rattle.dav_body.specs.declared.markup.Markup.{Markup}
 use Rattle.dav_body.specs.declared.open_elements.OpenElement.{OpenElement}
 use Rattle.cal_base.specs.Xml.XmlFaults.{markup_fault}
 use Rattle.dav_body.specs.Keeping.{inside, kept_around, kept_tags, is_rooted}
-use Rattle.dav_body.specs.Kept.{IsWhyOf}
+use Rattle.dav_body.specs.Faults.{IsWhyOf}
 use Rattle.dav_body.specs.OpenParts.{open_part}
 use Rattle.dav_body.specs.Shown.{shown}
 use Rattle.dav_body.proofs.progress.within.Goals as goal

@@ -5,7 +5,8 @@ use Rattle.std.proofs.lemmas.List.{nil_from_length}
 use Rattle.cal_base.specs.Xml.XmlMarkup.{markups, markup_of}
 use Rattle.cal_base.specs.Xml.XmlFaults.{body_fault}
 use Rattle.dav_body.specs.Keeping.{fault_with, element_with}
-use Rattle.dav_body.specs.Kept.{kept_of, IsFaultOf}
+use Rattle.dav_body.specs.Kept.{kept_of}
+use Rattle.dav_body.specs.Faults.{IsFaultOf}
 use Rattle.dav_body.proofs.Answered.{err_moved}
 use Rattle.dav_body.proofs.read.read.Goals as goal
 

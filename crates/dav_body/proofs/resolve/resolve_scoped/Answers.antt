@@ -1,7 +1,7 @@
 -- What a tag is, by the fault that is found of it.
 use Rattle.std.proofs.Common.{sym, ap, ◌∙◌}
 use Rattle.std.specs.Prelude.{option_map}
-use Rattle.dav_body.specs.Told.{why_told}
+use Rattle.dav_body.specs.Faults.{why_told}
 use Rattle.dav_body.proofs.TagFaults.{resolved_fault, resolved_open}
 use Rattle.dav_body.proofs.resolve.resolve_scoped.Goals as goal
 
