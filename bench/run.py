@@ -170,12 +170,15 @@ def filled(front, part, end, size):
 def bodies():
     print(f"{'body':34} {'octets':>8} {'seconds':>8} {'ns/octet':>9} {'MiB':>6}  answer")
     for size in (131072, 262144, 524288, 1048576):
+        declared = b"".join(b" xmlns:p%d='u'" % n for n in range(size // 900))
+        deep = b"<q:a xmlns:q='u'>" + (b"<a%s>" % declared) * 30
         levels = b"".join(b"<a%s>" % b"".join(b" xmlns:p%d='u%d'" % (n, n) for n in range(size // 600)) for _ in range(32))
         texts = {
             "attributes of one tag": filled(b"<a", b" a#=''", b"/>", size),
             "declarations of one tag": filled(b"<a", b" xmlns:p#='u'", b"/>", size),
             "prefixed attributes": filled(b"<a xmlns:p='u'", b" p:a#=''", b"/>", size),
             "32 levels that redeclare": levels + b"</a>" * 32,
+            "a prefix 31 levels up": filled(deep, b"<q:b/>", b"</a>" * 30 + b"</q:a>", size),
             "character references": filled(b"<a>", b"&#65;", b"</a>", size),
             "references in a value": filled(b"<a b='", b"&#65;", b"'/>", size),
             "carriage returns": b"<a>" + b"\r" * (size - 7) + b"</a>",

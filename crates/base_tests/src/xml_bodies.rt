@@ -222,3 +222,35 @@ fn an_element_is_at_most_32_deep(rt: HostRuntime) -> Result<(), Fail> {
     assert!(rt; has_fault(rt, deeper.as_slice(), 96, Why::TooDeep));
     Ok(())
 }
+
+/// A body with a namespace of so many octets and so many elements in it.
+fn with_long_namespace(rt: HostRuntime, octets: usize, elements: usize) -> Result<Vec<u8>, Fail> {
+    let mut body = Vec::new(rt.alloc());
+    body.extend_from_slice(b"<a xmlns='")?;
+    let mut written = 0;
+    'written: while written < octets {
+        body.push(b'u')?;
+        written += 1;
+    }
+    body.extend_from_slice(b"'>")?;
+    let mut made = 0;
+    'made: while made < elements {
+        body.extend_from_slice(b"<b/>")?;
+        made += 1;
+    }
+    body.extend_from_slice(b"</a>")?;
+    Ok(body)
+}
+
+// At most 64 octets of namespaces are copied for each octet of the body.
+#[test]
+fn a_long_namespace_finds_no_memory(rt: HostRuntime) -> Result<(), Fail> {
+    let common = with_long_namespace(rt, 200, 1000)?;
+    assert!(rt; read_body(rt.alloc(), common.as_slice()).is_ok());
+    let long = with_long_namespace(rt, 1000, 1000)?;
+    match read_body(rt.alloc(), long.as_slice()) {
+        Ok(_) => assert!(rt; false),
+        Err(fault) => assert!(rt; fault == BodyFault::NoMemory),
+    }
+    Ok(())
+}
