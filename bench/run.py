@@ -1,8 +1,8 @@
 #!/usr/bin/env python3
 """Times the programs over generated input, and prints the figures. It needs Python 3, and Debian's package `time` for the memory.
 
-Build the programs once before: `rt run` in crates/caldav_server, lines_bench, values_bench, index_bench and turns_bench.
-Words name the parts that are to run (scripts, lines, values, index, turns); without a word all do.
+Build the programs once before: `rt run` in crates/caldav_server, lines_bench, values_bench, xml_bench, index_bench and turns_bench.
+Words name the parts that are to run (scripts, lines, values, bodies, index, turns); without a word all do.
 """
 import os, resource, subprocess, sys, tempfile, time
 
@@ -11,6 +11,7 @@ SERVER = os.path.join(TOP, "crates/caldav_server/out/caldav_server")
 LINES = os.path.join(TOP, "crates/lines_bench/out/lines_bench")
 INDEX = os.path.join(TOP, "crates/index_bench/out/index_bench")
 TURNS = os.path.join(TOP, "crates/turns_bench/out/turns_bench")
+BODIES = os.path.join(TOP, "crates/xml_bench/out/xml_bench")
 VALUES = os.path.join(TOP, "crates/values_bench/out/values_bench")
 USERS = b"user alice ba7816bf8f01cfea414140de5dae2223b00361a396177a9cb410ff61f20015ad\n"
 
@@ -157,8 +158,43 @@ def values():
         print(f"{f'RDATE of {count} moments':34} {len(text):8d} {best:8.4f} {best / len(text) * 1e9:9.1f}  {answer}")
 
 
+def filled(front, part, end, size):
+    """A body of about so many octets: a front, a part with its number over and over, and an end."""
+    parts, octets = [front], len(front) + len(end)
+    while octets < size:
+        parts.append(part.replace(b"#", b"%d" % len(parts)))
+        octets += len(parts[-1])
+    return b"".join(parts) + end
+
+
+def bodies():
+    print(f"{'body':34} {'octets':>8} {'seconds':>8} {'ns/octet':>9} {'MiB':>6}  answer")
+    for size in (131072, 262144, 524288, 1048576):
+        declared = b"".join(b" xmlns:p%d='u'" % n for n in range(size // 900))
+        deep = b"<q:a xmlns:q='u'>" + (b"<a%s>" % declared) * 30
+        levels = b"".join(b"<a%s>" % b"".join(b" xmlns:p%d='u%d'" % (n, n) for n in range(size // 600)) for _ in range(32))
+        texts = {
+            "attributes of one tag": filled(b"<a", b" a#=''", b"/>", size),
+            "declarations of one tag": filled(b"<a", b" xmlns:p#='u'", b"/>", size),
+            "prefixed attributes": filled(b"<a xmlns:p='u'", b" p:a#=''", b"/>", size),
+            "32 levels that redeclare": levels + b"</a>" * 32,
+            "a prefix 31 levels up": filled(deep, b"<q:b/>", b"</a>" * 30 + b"</q:a>", size),
+            "character references": filled(b"<a>", b"&#65;", b"</a>", size),
+            "references in a value": filled(b"<a b='", b"&#65;", b"'/>", size),
+            "carriage returns": b"<a>" + b"\r" * (size - 7) + b"</a>",
+            "a section": b"<a><![CDATA[" + b"x" * (size - 19) + b"]]></a>",
+            "empty elements": filled(b"<a>", b"<b/>", b"</a>", size),
+            "a tag that is cut": filled(b"<a", b" a#=''", b"", size),
+            "one long namespace, many elements": b"<a xmlns='" + b"u" * (size // 2) + b"'>" + b"<b/>" * (size // 8 - 5) + b"</a>",
+        }
+        for name, text in texts.items():
+            best, memory, output = min(run(BODIES, [], text) for _ in range(3))
+            print(f"{name:34} {len(text):8d} {best:8.4f} {best / len(text) * 1e9:9.1f} {memory:6.1f}  {output.decode().strip()}")
+
+
 PARTS = {
     "scripts": (scripts, SERVER), "lines": (lines, LINES), "values": (values, VALUES),
+    "bodies": (bodies, BODIES),
     "index": (index, INDEX), "turns": (turns, TURNS),
 }
 chosen = sys.argv[1:] or list(PARTS)

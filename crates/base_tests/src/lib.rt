@@ -27,3 +27,5 @@ mod streams;
 mod tcp;
 #[cfg(test)]
 mod values;
+#[cfg(test)]
+mod xml_bodies;

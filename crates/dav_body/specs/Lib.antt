@@ -1,0 +1,16 @@
+pub mod Endings
+pub mod Faults
+pub mod Front
+pub mod Inner
+pub mod Keeping
+pub mod Kept
+pub mod LineFeeds
+pub mod Numbers
+pub mod OpenParts
+pub mod Pairs
+pub mod Quotes
+pub mod Reading
+pub mod Shown
+pub mod Splits
+pub mod Tags
+pub mod Texts
