@@ -1,3 +1,5 @@
 pub mod CutLemmas
 pub mod SegmentLemmas
 pub mod PathLemmas
+pub mod ErrorLemmas
+pub mod ReadBack

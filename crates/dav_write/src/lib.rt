@@ -6,7 +6,10 @@
 #![tactic(auto)]
 
 mod paths;
+mod refusals;
+mod reserved_paths;
 mod targets;
 
 pub use paths::{append_path, write_path};
+pub use refusals::{error_body, need_privileges};
 pub use targets::read_path;
