@@ -3,3 +3,4 @@ pub mod SegmentLemmas
 pub mod PathLemmas
 pub mod ErrorLemmas
 pub mod ReadBack
+pub mod ElementLemmas

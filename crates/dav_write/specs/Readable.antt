@@ -46,12 +46,10 @@ IsReadable zero element = ⊥
 IsReadable (suc depth) element =
     HasTag element × ((parts : List Part) × (items_behind [] parts ≡ element.items) × AreParts (IsReadable depth) parts)
 
--- THE LAW: the canonical text of an element that some body spells is a body that spells that element
+-- an element that can stand in a body, whole
+unfoldable pub IsSpellable : Element → Type 0
+IsSpellable element = IsReadable greatest_depth element
+
+-- THE LAW: the canonical text of an element that can stand in a body is a body that spells that element
 abbrev pub WritingReads : Type 0
-WritingReads = (element : Element) → IsReadable greatest_depth element → IsBody (written_body element) element
-
-abbrev pub ReadingGives : Type 0
-ReadingGives = (octets : List ℕ) (element : Element) → length octets < 2 ^ 64 → IsBody octets element → IsReadable greatest_depth element
-
-abbrev pub RoundTrip : Type 0
-RoundTrip = (octets : List ℕ) (element : Element) → length octets < 2 ^ 64 → IsBody octets element → IsBody (written_body element) element
+WritingReads = (element : Element) → IsSpellable element → IsBody (written_body element) element

@@ -5,11 +5,14 @@
 //! what was given. Used by: the crates that read requests and those that build replies.
 #![tactic(auto)]
 
+mod elements;
 mod paths;
 mod refusals;
 mod reserved_paths;
+mod tags;
 mod targets;
 
+pub use elements::write_body;
 pub use paths::{append_path, write_path};
 pub use refusals::{error_body, need_privileges};
 pub use targets::read_path;

@@ -11,7 +11,7 @@ use Rattle.cal_base.specs.Xml.XmlFaults.{Fault, greatest_depth, fault_behind, fi
 use Rattle.cal_base.specs.Xml.XmlBodies.{Part, said, held, Level, with_part, levels_before, first_element, outermost, without_declaration, body_element, IsBody}
 use Rattle.cal_base.specs.Xml.CanonicalXml.{written_body, written_element, prefixes}
 use Rattle.cal_base.proofs.Xml.XmlMarkupLemmas.{markups-append}
-use Rattle.dav_write.specs.Readable.{IsReadable, WritingReads}
+use Rattle.dav_write.specs.Readable.{IsSpellable, WritingReads}
 use Rattle.dav_write.specs.Spelling.{IsMarkup, NoFault, levels_of}
 use Rattle.dav_write.proofs.ReadBack.Steps.{sound_step, levels_step}
 use Rattle.dav_write.proofs.ReadBack.Frame.{TextStep, TagStep, RootStep, SpellsElement, GrownOne, spells_root}
@@ -57,4 +57,5 @@ reads_body element s = record {
     g = s.grows (λ scope. []) [] refl
 
 pub writing_reads : TextStep → TagStep → RootStep → WritingReads
+unfolding IsSpellable
 writing_reads texts tags roots element readable = reads_body element (spells_root texts tags roots element readable [])
