@@ -11,8 +11,8 @@ use Rattle.cal_base.specs.declared.element.Attr.{Attr}
 use Rattle.cal_base.specs.declared.element.Element.{Element}
 use Rattle.cal_base.specs.declared.element.Item.{Item}
 use Rattle.cal_base.specs.declared.element.Item.TheVariants.{Element as Inner, Text}
-use Rattle.cal_base.specs.Xml.CanonicalXml.{text_octet, xml_text, attribute_text, attribute, element_with, known_prefix, declaration, named_element, written_attribute, written_attributes, written_element}
-use Rattle.cal_base.proofs.Xml.CanonicalXmlLemmas.{written_item, written_element-out, written_item-Text, written_item-Element}
+use Rattle.cal_base.specs.Xml.CanonicalXml.{text_octet, xml_text, attribute_text, attribute, element_with, known_prefix, declaration, named_element, written_attribute, written_attributes, written_element, prefixes, written_body}
+use Rattle.cal_base.proofs.Xml.CanonicalXmlLemmas.{written_element-out, written_item-Text, written_item-Element}
 use Rattle.dav_write.specs.ElementTexts.{element_name, own_declaration, tag_front, end_tag, value_text, own_prefix, known_attribute, own_attribute, item_text}
 
 -- Attributes
@@ -183,3 +183,8 @@ nothing_written answer these items same says none some = false≢true (sym none 
 
 pub something_written : (answer : Bool) (these items : List Item) → these ≡ items → (IsTrue answer → 0 < length (concat (map item_text these))) → answer ≡ true → 0 < length (concat (map item_text items))
 something_written answer these items same says some = subst (λ (xs : List Item). 0 < length (concat (map item_text xs))) same (says some)
+
+-- a whole body
+
+pub written_body-pieces : (element : Element) (mid new : List ℕ) → mid ≡ codes "<?xml version=\"1.0\" encoding=\"utf-8\"?>\n" → new ≡ mid ++ written_element element prefixes → new ≡ written_body element
+written_body-pieces element mid new first second = second ∙ ap (λ text. text ++ written_element element prefixes) first

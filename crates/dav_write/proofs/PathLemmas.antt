@@ -1,9 +1,9 @@
 -- A path written piece by piece, and read back.
-use Rattle.std.proofs.Common.{◌≡◌, ℕ, ◌<◌, List, [], ◌∷◌, ◌++◌, Result, Ok, Err, Some, IsTrue, sym, ap, ◌∙◌, append_assoc, length, refl}
+use Rattle.std.proofs.Common.{◌≡◌, ℕ, List, [], ◌++◌, Result, Ok, Err, Some, IsTrue, ap, ◌∙◌, append_assoc, length, refl}
 use Rattle.std.specs.Prelude.{codes, OnOk}
 use Rattle.percent_encoding.specs.Percent.{percent_encode_byte}
 use Rattle.cal_model.specs.declared.path.Path.{Path}
-use Rattle.cal_model.specs.declared.path.Path.TheVariants.{Principal, Home, Calendar, Object}
+use Rattle.cal_model.specs.declared.path.Path.TheVariants.{Calendar, Object}
 use Rattle.cal_model.specs.Replies.Hrefs.{segment, href}
 use Rattle.cal_model.specs.Paths.TargetPaths.{target_path, is_path}
 use Rattle.cal_model.specs.Paths.TargetPathLaws.{HasOctets}

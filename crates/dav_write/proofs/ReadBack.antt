@@ -1,4 +1,5 @@
 -- What is written of an element is read back as that element. `Law` is the whole.
+pub mod Spelling
 pub mod Lookups
 pub mod LastBlanks
 pub mod Characters
@@ -15,4 +16,12 @@ pub mod Prefixes
 pub mod TagScopes
 pub mod ElementTags
 pub mod Bodies
+pub mod Given
+pub mod SaidTexts
+pub mod Saids
+pub mod Pieces
+pub mod TagFacts
+pub mod TagShape
+pub mod ReferencedValues
+pub mod TagParts
 pub mod Law

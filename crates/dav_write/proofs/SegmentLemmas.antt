@@ -1,15 +1,14 @@
 -- The path of some segments, by how many there are.
-use Rattle.std.proofs.Common.{◌≡◌, ℕ, suc, ◌+◌, ◌-◌, ◌<◌, Bool, true, false, cond, not, ◌==◌, ◌&&◌, ◌||◌, List, [], ◌∷◌, length, take, map, Option, Some, None, refl, sym, ap, subst, ◌∙◌, arith, Result, Ok, Err}
+use Rattle.std.proofs.Common.{◌≡◌, ℕ, suc, ◌-◌, ◌<◌, Bool, true, false, cond, ◌==◌, ◌&&◌, List, [], ◌∷◌, length, take, map, Option, Some, None, refl, sym, ap, ◌∙◌, arith, Result, Ok, Err}
 use Rattle.std.specs.List.{list_any}
 use Rattle.std.specs.Prelude.{codes, IfOk}
 use Rattle.std.specs.Str.{bytes_eq}
-use Rattle.std.proofs.lemmas.Bool.{false≢true}
 use Rattle.percent_encoding.specs.Percent.{percent_decode}
 use Rattle.cal_base.specs.Lines.ContentLines.{pieces}
 use Rattle.cal_model.specs.declared.path.Path.{Path}
 use Rattle.cal_model.specs.declared.path.Path.TheVariants.{Root, Object}
 use Rattle.cal_model.specs.Words.Lists.{is_empty, last_or_else}
-use Rattle.cal_model.specs.Paths.TargetPaths.{slash, is_resource_name, path_of_names, path_of_segments, path_of_text, without_query, without_host, target_path}
+use Rattle.cal_model.specs.Paths.TargetPaths.{slash, is_resource_name, path_of_segments, path_of_text, without_query, without_host, target_path}
 use Rattle.dav_write.specs.Segments.{named_path}
 
 -- the path of segments that end so

@@ -1,5 +1,5 @@
 -- The text of an element in pieces, as they are written one after another.
-use Rattle.std.specs.Prelude.{ℕ, List, [], ◌++◌, Option, Some, None, codes, decimal}
+use Rattle.std.specs.Prelude.{ℕ, List, [], ◌++◌, Some, None, codes, decimal}
 use Rattle.cal_base.specs.declared.element.Attr.{Attr}
 use Rattle.cal_base.specs.declared.element.Item.{Item}
 use Rattle.cal_base.specs.declared.element.Item.TheFolds.{fold-Item}

@@ -2,5 +2,4 @@ pub mod Segments
 pub mod ShortPaths
 pub mod ErrorTexts
 pub mod Readable
-pub mod Spelling
 pub mod ElementTexts

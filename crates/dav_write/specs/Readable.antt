@@ -1,6 +1,5 @@
 -- What is known of each element that was read: enough for its canonical text to be read back as that element.
-use Rattle.std.specs.Prelude.{◌≡◌, ◌<◌, ◌^◌, ⊤, ℕ, zero, suc, Bool, true, false, ◌&&◌, ◌==◌, List, [], ◌∷◌, length, codes}
-use Rattle.std.specs.List.{list_all}
+use Rattle.std.specs.Prelude.{◌≡◌, ◌<◌, ◌^◌, ⊤, ℕ, zero, suc, true, false, ◌&&◌, ◌==◌, List, [], ◌∷◌, length, codes}
 use Rattle.std.specs.Str.{bytes_eq}
 use Rattle.cal_base.specs.declared.element.Attr.{Attr}
 use Rattle.cal_base.specs.declared.element.Element.{Element}
@@ -53,3 +52,11 @@ IsSpellable element = IsReadable greatest_depth element
 -- THE LAW: the canonical text of an element that can stand in a body is a body that spells that element
 abbrev pub WritingReads : Type 0
 WritingReads = (element : Element) → IsSpellable element → IsBody (written_body element) element
+
+-- an element that some octets spell can stand in a body. Octets in memory are fewer than that; `decimal`, which makes prefixes, knows numbers of up to 64 digits.
+abbrev pub ReadingGives : Type 0
+ReadingGives = (octets : List ℕ) (element : Element) → length octets < 2 ^ 64 → IsBody octets element → IsSpellable element
+
+-- so its canonical text is a body that spells it
+abbrev pub RoundTrip : Type 0
+RoundTrip = (octets : List ℕ) (element : Element) → length octets < 2 ^ 64 → IsBody octets element → IsBody (written_body element) element

@@ -1,5 +1,5 @@
 //! Elements as they are written.
-ghost use Rattle.std.specs.Prelude.{◌≡◌, ◌++◌, ◌<◌, ◌↔◌, [], ◌∷◌, IfOk, OnOk, IsTrue, length, map, take};
+ghost use Rattle.std.specs.Prelude.{◌≡◌, ◌++◌, ◌<◌, ◌↔◌, IfOk, OnOk, IsTrue, length, map, List, ℕ, ◌^◌};
 ghost use Rattle.std.specs.List.{concat};
 ghost use Rattle.cal_base.specs.Xml.CanonicalXml.{prefixes, written_element, written_body};
 ghost use Rattle.cal_base.specs.Xml.XmlBodies.{IsBody};
@@ -17,13 +17,14 @@ const XML_DECLARATION: &[u8] = b"<?xml version=\"1.0\" encoding=\"utf-8\"?>\n";
 const PREFIXES: &[u8] = b" xmlns:D=\"DAV:\" xmlns:C=\"urn:ietf:params:xml:ns:caldav\"";
 
 /// The one text of an element as a body (RFC 4918, 14; Namespaces in XML 1.0). Where the element can
-/// stand in a body, which each that was read can, this text is a body that spells it.
+/// stand in a body, this text is a body that spells it; so it is for each element that was read.
 ///
 /// The octets are written once, in time in proportion to their number. An element within another
 /// takes a frame of the stack; one that was read is at most 32 deep.
 pub fn write_body(alloc: Global, element: &Element) -> Result<Octets, NoMemory>
     ensures text { IfOk result (λ octets. octets ≡ written_body element.now) }
     ensures read_back { IfOk result (λ octets. IsSpellable element.now → IsBody octets element.now) }
+    ensures written_again { IfOk result (λ octets. (body : List ℕ) → length body < 2 ^ 64 → IsBody body element.now → IsBody octets element.now) }
 {
     let mut out = Octets::new(alloc);
     out.extend_from_slice(XML_DECLARATION)?;

@@ -1,15 +1,13 @@
 -- Parts that make the same items, and texts that spell them, one behind the other.
-use Rattle.std.proofs.Common.{◌≡◌, ℕ, ◌+◌, Bool, true, false, List, [], ◌∷◌, ◌++◌, map, length, Option, Some, None, refl, sym, ap, ◌∙◌, subst, append_assoc}
-use Rattle.std.specs.Prelude.{filter_map}
+use Rattle.std.proofs.Common.{◌≡◌, ℕ, true, List, [], ◌∷◌, ◌++◌, map, refl, sym, ap, ◌∙◌, subst, append_assoc}
 use Rattle.std.specs.List.{concat}
 use Rattle.cal_base.specs.declared.element.Item.{Item}
 use Rattle.cal_base.specs.declared.element.Item.TheVariants.{Element as Inner, Text}
 use Rattle.cal_base.specs.Xml.XmlMarkup.{Tag}
-use Rattle.cal_base.specs.Xml.XmlScopes.{Scope}
-use Rattle.cal_base.specs.Xml.XmlBodies.{Part, said, held, text_items, items_behind, Level}
+use Rattle.cal_base.specs.Xml.XmlBodies.{Part, said, held, text_items, items_behind}
 use Rattle.cal_base.specs.Xml.CanonicalXml.{xml_text, written_element}
 use Rattle.cal_base.proofs.Xml.CanonicalXmlLemmas.{written_item, written_item-Text, written_item-Element}
-use Rattle.dav_write.specs.Spelling.{NoFault, levels_of, scope_in, NoEnd, Alike, Grown, Spells, written_parts}
+use Rattle.dav_write.proofs.ReadBack.Spelling.{NoFault, levels_of, scope_in, NoEnd, Alike, Spells, written_parts}
 
 pub alike_join : (one other new old : List Part) → Alike one other → Alike new old → Alike (one ++ new) (other ++ old)
 alike_join one other new old a b text more =

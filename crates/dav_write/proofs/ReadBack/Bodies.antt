@@ -1,18 +1,17 @@
 -- A written body is read from its declaration on.
-use Rattle.std.proofs.Common.{◌≡◌, ℕ, ◌+◌, Bool, true, false, List, [], ◌∷◌, ◌++◌, length, Option, Some, None, refl, sym, ap, ◌∙◌, subst}
+use Rattle.std.proofs.Common.{◌≡◌, ℕ, false, List, [], ◌∷◌, ◌++◌, length, refl, sym, ap, ◌∙◌, subst}
 use Rattle.std.specs.Prelude.{codes, filter_map, drop}
 use Rattle.std.specs.Str.{is_utf8, chars}
 use lib.Utf8.{encode}
-use Rattle.cal_base.specs.Lines.ComponentTrees.{or_else}
 use Rattle.cal_base.specs.declared.element.Element.{Element}
-use Rattle.cal_base.specs.Xml.XmlMarkup.{Tag, Markup, character, markups, markup_of}
+use Rattle.cal_base.specs.Xml.XmlMarkup.{character, markups, markup_of}
 use Rattle.cal_base.specs.Xml.XmlScopes.{outer_scope}
-use Rattle.cal_base.specs.Xml.XmlFaults.{Fault, greatest_depth, fault_behind, first_fault, body_fault}
-use Rattle.cal_base.specs.Xml.XmlBodies.{Part, said, held, Level, with_part, levels_before, first_element, outermost, without_declaration, body_element, IsBody}
+use Rattle.cal_base.specs.Xml.XmlFaults.{fault_behind, first_fault}
+use Rattle.cal_base.specs.Xml.XmlBodies.{said, with_part, levels_before, first_element, outermost, without_declaration, IsBody}
 use Rattle.cal_base.specs.Xml.CanonicalXml.{written_body, written_element, prefixes}
 use Rattle.cal_base.proofs.Xml.XmlMarkupLemmas.{markups-append}
 use Rattle.dav_write.specs.Readable.{IsSpellable, WritingReads}
-use Rattle.dav_write.specs.Spelling.{IsMarkup, NoFault, levels_of}
+use Rattle.dav_write.proofs.ReadBack.Spelling.{IsMarkup, NoFault, levels_of}
 use Rattle.dav_write.proofs.ReadBack.Steps.{sound_step, levels_step}
 use Rattle.dav_write.proofs.ReadBack.Frame.{TextStep, TagStep, RootStep, SpellsElement, GrownOne, spells_root}
 

@@ -1,28 +1,27 @@
 -- The tags of an element's canonical text are read as the tags of that element.
-use Rattle.std.proofs.Common.{◌≡◌, ℕ, zero, suc, ◌+◌, ◌<◌, ◌≤◌, ◌^◌, Bool, true, false, List, [], ◌∷◌, ◌++◌, map, length, Option, Some, None, inl, inr, arith, refl, sym, ap, subst, ◌∙◌, append_assoc, append-nil}
-use Rattle.std.specs.Prelude.{⊤, not, ◌==◌, ◌&&◌, ◌||◌, nat_eq, nat_le, codes, decimal, filter_map, flat_map, if◌then◌else◌, ◌⊎◌, option_map, cond, unwrap_or, is_none}
+use Rattle.std.proofs.Common.{◌≡◌, ℕ, ◌<◌, ◌^◌, Bool, true, false, List, [], ◌∷◌, ◌++◌, map, length, Option, Some, None, inl, inr, arith, refl, sym, ap, subst, ◌∙◌, append_assoc, append-nil}
+use Rattle.std.specs.Prelude.{nat_le, codes, filter_map, flat_map, if◌then◌else◌, ◌⊎◌, cond, unwrap_or}
 use Rattle.std.specs.Option.{option_or}
-use Rattle.std.specs.List.{list_any, enumerate_from}
+use Rattle.std.specs.List.{list_any}
 use Rattle.std.specs.Str.{bytes_eq, is_utf8, chars}
 use lib.Utf8.{encode}
 use Rattle.std.proofs.lemmas.Bool.{leb-true, cases_Bool}
 use Rattle.cal_base.specs.declared.element.Attr.{Attr}
 use Rattle.cal_base.specs.declared.element.Element.{Element}
-use Rattle.cal_base.specs.Xml.XmlNames.{QName, is_plain_name, is_same_name, is_xml_text}
-use Rattle.cal_base.specs.Xml.XmlMarkup.{WrittenAttribute, Tag, opening, closing}
-use Rattle.cal_base.specs.Xml.XmlScopes.{Scope, outer_scope, declared_by, declarations, scope_at, space_of, attributes_in, has_repeat, is_same_written, is_same_attribute, is_bad_binding, has_bad_attribute, has_undeclared_prefix, attribute_space, is_no_declaration, xml_space}
+use Rattle.cal_base.specs.Xml.XmlNames.{QName, is_plain_name, is_xml_text}
+use Rattle.cal_base.specs.Xml.XmlMarkup.{Tag}
+use Rattle.cal_base.specs.Xml.XmlScopes.{Scope, outer_scope, declared_by, declarations, scope_at, space_of, attributes_in, has_repeat, is_same_attribute, is_bad_binding, has_bad_attribute, has_undeclared_prefix}
 use Rattle.cal_base.specs.Xml.XmlFaults.{Why, syntax, too_deep, tag_fault, greatest_depth, closes_innermost}
 use Rattle.cal_base.specs.Xml.XmlFaults as Faults
-use Rattle.cal_base.specs.Xml.CanonicalXml.{dav, caldav, attribute, declaration, known_prefix, written_attribute, written_attributes, prefixes, named_element, element_with}
-use Rattle.cal_base.proofs.Xml.XmlNameLemmas.{both_true, both_false}
-use Rattle.dav_write.proofs.ReadBack.Lookups.{same_text, text_same, space_of_cons, space_of_append}
-use Rattle.dav_write.specs.Readable.{IsSpace, IsAttr, AreAttrs, HasTag}
-use Rattle.dav_write.specs.Spelling.{HasKnown, scope_in, IsMarkup}
+use Rattle.cal_base.specs.Xml.CanonicalXml.{dav, caldav, attribute, declaration, written_attributes, prefixes, named_element, element_with}
+use Rattle.dav_write.proofs.ReadBack.Lookups.{text_same, space_of_cons, space_of_append}
+use Rattle.dav_write.specs.Readable.{IsSpace, HasTag}
+use Rattle.dav_write.proofs.ReadBack.Spelling.{HasKnown, scope_in}
 use Rattle.dav_write.proofs.ReadBack.NameTexts.{NameText, name_alone, name_with}
-use Rattle.dav_write.proofs.ReadBack.Tags.{Pair, ArePairs, pairs_text, pair_attribute}
+use Rattle.dav_write.proofs.ReadBack.Tags.{ArePairs, pairs_text}
 use Rattle.dav_write.proofs.ReadBack.TagMarkups.{tag_made, open_is, alone_is, close_is}
-use Rattle.dav_write.proofs.ReadBack.Entries.{Entry, binds, gives, prefixed, entry_pair, IsPrefix, IsBinding, IsGiven, AreEntries, AreSpaces, bindings, attrs_of, written_of, entries_pairs, declarations_of, attributes_of_entries, none_undeclared, none_bad, is_same_prefix, no_repeat}
-use Rattle.dav_write.proofs.ReadBack.Prefixes.{colon_after, prefixed_is, Known, Own, view, y_of, attr_entries, attrs_text, attrs_same, attrs_are, own_binding, plain_names}
+use Rattle.dav_write.proofs.ReadBack.Entries.{Entry, binds, prefixed, entry_pair, IsPrefix, AreEntries, AreSpaces, bindings, attrs_of, written_of, entries_pairs, declarations_of, attributes_of_entries, none_undeclared, none_bad, is_same_prefix, no_repeat}
+use Rattle.dav_write.proofs.ReadBack.Prefixes.{prefixed_is, Known, Own, view, y_of, attr_entries, attrs_text, attrs_same, attrs_are, own_binding, plain_names}
 use Rattle.dav_write.proofs.ReadBack.TagScopes.{bindings_join, past, Missing, missing_join, attrs_missing, NoneFrom, attrs_spaces, attrs_once, other_once}
 use Rattle.dav_write.proofs.ReadBack.Frame.{ReadsTag, TagStep, RootStep}
 

@@ -1,22 +1,22 @@
 -- The attributes of a tag, each a declaration or an attribute of the element: what the tag then names, and that it can stand.
-use Rattle.std.proofs.Common.{◌≡◌, ℕ, suc, ◌+◌, Bool, true, false, List, [], ◌∷◌, ◌++◌, map, length, Option, Some, None, inl, inr, arith, refl, sym, ap, subst, ◌∙◌}
-use Rattle.std.specs.Prelude.{⊤, not, ◌==◌, ◌&&◌, ◌||◌, nat_le, codes, filter, filter_map, flat_map, if◌then◌else◌, ◌⊎◌, option_map, is_none}
+use Rattle.std.proofs.Common.{◌≡◌, ℕ, Bool, true, false, List, [], ◌∷◌, ◌++◌, map, Some, inl, inr, refl, sym, ap, subst, ◌∙◌}
+use Rattle.std.specs.Prelude.{⊤, codes, filter, filter_map, option_map, is_none}
 use Rattle.std.specs.List.{list_any}
 use Rattle.std.specs.Str.{bytes_eq, is_utf8, chars}
 use lib.Utf8.{encode}
 use Rattle.std.proofs.lemmas.Option.{same_Some}
 use Rattle.std.proofs.lemmas.Bool.{cases_Bool}
 use Rattle.cal_base.specs.declared.element.Attr.{Attr}
-use Rattle.cal_base.specs.Xml.XmlNames.{QName, is_plain_name, is_xml_text, is_same_name}
-use Rattle.cal_base.specs.Xml.XmlMarkup.{WrittenAttribute, Tag}
-use Rattle.cal_base.specs.Xml.XmlScopes.{Scope, value_octets, is_declaration, declared_by, declarations, space_of, is_no_declaration, attribute_space, attribute_in, attributes_in, is_bad_binding, has_repeat, is_same_written, is_same_attribute, has_bad_attribute, has_undeclared_prefix}
+use Rattle.cal_base.specs.Xml.XmlNames.{is_plain_name, is_xml_text, is_same_name}
+use Rattle.cal_base.specs.Xml.XmlMarkup.{WrittenAttribute}
+use Rattle.cal_base.specs.Xml.XmlScopes.{Scope, value_octets, is_declaration, declared_by, is_no_declaration, attribute_space, attribute_in, is_bad_binding, has_repeat, is_same_written, is_same_attribute}
 use Rattle.cal_base.specs.Xml.CanonicalXml.{attribute_text}
 use Rattle.cal_base.proofs.Xml.XmlNameLemmas.{both_true, both_false}
 use Rattle.cal_base.proofs.Xml.XmlEscapeLemmas.{value_octets-attribute_text}
 use Rattle.dav_write.proofs.ReadBack.Lookups.{same_text, text_same}
 use Rattle.dav_write.proofs.ReadBack.Characters.{xml_text_utf8}
 use Rattle.dav_write.proofs.ReadBack.NameTexts.{NameText, name_alone, name_with}
-use Rattle.dav_write.proofs.ReadBack.Tags.{Pair, IsPair, ArePairs, pair_attribute}
+use Rattle.dav_write.proofs.ReadBack.Tags.{Pair, ArePairs, pair_attribute}
 
 pub data Entry : Type 0 where
   binds : List ℕ → List ℕ → Entry

@@ -1,23 +1,21 @@
 -- An element is spelled by its canonical text, given what its tag is read as.
-use Rattle.std.proofs.Common.{◌≡◌, ℕ, ◌+◌, ◌≤◌, ◌<◌, zero, suc, Bool, true, false, List, [], ◌∷◌, ◌++◌, map, length, Option, Some, None, refl, sym, ap, ◌∙◌, subst, append_assoc, arith}
-use Rattle.std.specs.Prelude.{codes, unwrap_or, filter_map, if◌then◌else◌}
+use Rattle.std.proofs.Common.{◌≡◌, ℕ, ◌+◌, ◌<◌, zero, suc, Bool, true, false, List, [], ◌∷◌, ◌++◌, map, length, None, refl, sym, ap, ◌∙◌, subst, append_assoc, arith}
+use Rattle.std.specs.Prelude.{codes, unwrap_or, if◌then◌else◌}
 use Rattle.std.specs.List.{concat}
 use Rattle.cal_base.specs.declared.element.Attr.{Attr}
 use Rattle.cal_base.specs.declared.element.Element.{Element}
 use Rattle.cal_base.specs.declared.element.Item.{Item}
-use Rattle.cal_base.specs.declared.element.Item.TheVariants.{Element as Inner, Text}
 use Rattle.cal_base.specs.Xml.XmlNames.{QName, is_xml_text}
-use Rattle.cal_base.specs.Xml.XmlMarkup.{Tag, Markup, opening, closing, begins, markups, markup_of}
+use Rattle.cal_base.specs.Xml.XmlMarkup.{Tag, opening, closing}
 use Rattle.cal_base.specs.Xml.XmlScopes.{Scope, declarations, space_of, attributes_in}
-use Rattle.cal_base.specs.Xml.XmlFaults.{Why, Fault, is_within, closes_innermost, tag_fault, greatest_depth, markup_fault, can_stand}
-use Rattle.std.proofs.lemmas.Bool.{lt-ltb}
-use Rattle.cal_base.specs.Xml.XmlBodies.{Part, said, held, text_items, items_behind, Level, with_part, with_tag, element_of_tag, levels_before}
+use Rattle.cal_base.specs.Xml.XmlFaults.{is_within, closes_innermost, tag_fault, greatest_depth, markup_fault}
+use Rattle.cal_base.specs.Xml.XmlBodies.{Part, said, held, items_behind, Level, with_tag, element_of_tag}
 use Rattle.cal_base.specs.Xml.CanonicalXml.{prefixes, xml_text, written_element, element_with, named_element}
 use Rattle.cal_base.proofs.Xml.CanonicalXmlLemmas.{written_item, written_element-out}
 use Rattle.dav_write.specs.Readable.{HasTag, AreParts, IsReadable}
-use Rattle.dav_write.specs.Spelling.{IsMarkup, NoFault, levels_of, scope_in, NoEnd, Alike, Grown, Spells, written_parts, HasKnown}
+use Rattle.dav_write.proofs.ReadBack.Spelling.{IsMarkup, NoFault, levels_of, scope_in, NoEnd, Grown, Spells, written_parts, HasKnown}
 use Rattle.dav_write.proofs.ReadBack.Steps.{sound_step, levels_step}
-use Rattle.dav_write.proofs.ReadBack.Alikes.{spells_join, spells_none, items_behind-written, alike_join}
+use Rattle.dav_write.proofs.ReadBack.Alikes.{spells_join, spells_none, items_behind-written}
 
 -- the texts of an element's tags, and what they are read as
 pub record ReadsTag (element : Element) (front : List ℕ) (around : List Tag) : Type 0 where

@@ -1,16 +1,16 @@
 -- The texts of names: of characters of XML, and without the octets that mark anything in a tag.
-use Rattle.std.specs.Prelude.{◌≡◌, ℕ, ◌<◌, ◌≤◌, ◌+◌, Bool, true, false, ◌&&◌, ◌||◌, ◌==◌, nat_eq, nat_lt, nat_le, List, [], ◌∷◌, ◌++◌, length, get_or, Option, Some, None, if◌then◌else◌, ◌⊎◌, codes}
+use Rattle.std.specs.Prelude.{◌≡◌, ℕ, ◌<◌, ◌≤◌, Bool, true, false, ◌&&◌, ◌||◌, ◌==◌, nat_lt, nat_le, List, [], ◌∷◌, ◌++◌, length, get_or, Some}
 use Rattle.std.specs.List.{list_any, list_all}
 use lib.Utf8.{encode}
 use Rattle.std.specs.Str.{chars, is_utf8, NoCharPasses, NonePass}
 use Rattle.std.proofs.Common.{inl, inr, arith, refl, sym, ap, subst, ◌∙◌}
-use Rattle.std.proofs.lemmas.Bool.{eqb-true, eqb-false, ltb-true, leb-true, le-leb, cases_Bool}
+use Rattle.std.proofs.lemmas.Bool.{eqb-true, ltb-true, leb-true, le-leb, cases_Bool}
 use Rattle.std.proofs.lemmas.List.{get_or_default}
 use Rattle.std.proofs.lemmas.List.Folds.{list_any_none}
 use Rattle.std.proofs.lemmas.Str.{NoCharPasses-byte, encodes-chars, IsUtf8-from_is_utf8}
 use Rattle.cal_base.specs.Texts.Octets.{colon}
 use Rattle.cal_base.specs.Lines.ContentLines.{pieces, onto_first}
-use Rattle.cal_base.specs.Xml.XmlNames.{QName, is_among, is_xml_character, is_xml_text, name_starts, name_followers, is_name_start, is_name_character, are_name_characters, is_plain_name, qname_of, qname_of_pieces, is_blank}
+use Rattle.cal_base.specs.Xml.XmlNames.{QName, is_among, is_xml_character, is_xml_text, name_starts, name_followers, is_name_start, is_name_character, are_name_characters, is_plain_name, qname_of, qname_of_pieces}
 use Rattle.cal_base.proofs.Xml.XmlNameLemmas.{both_true, both_false, is_one_of, qname_of-lacks}
 use Rattle.dav_write.proofs.ReadBack.Characters.{xml_text_append}
 

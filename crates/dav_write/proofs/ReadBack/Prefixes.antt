@@ -1,26 +1,25 @@
 -- The prefixes of canonical texts: those that each body knows, and those that a tag declares for itself.
-use Rattle.std.proofs.Common.{◌≡◌, ℕ, zero, suc, ◌+◌, ◌/◌, ◌%◌, ◌<◌, ◌≤◌, ◌^◌, Bool, true, false, List, [], ◌∷◌, ◌++◌, map, length, Option, Some, None, inl, inr, arith, refl, sym, ap, subst, ◌∙◌, append_assoc, append-nil}
+use Rattle.std.proofs.Common.{◌≡◌, ℕ, zero, suc, ◌+◌, ◌%◌, ◌<◌, ◌^◌, Bool, true, false, List, [], ◌∷◌, ◌++◌, map, length, Some, None, inl, inr, arith, refl, sym, ap, subst, ◌∙◌, append_assoc}
 use Rattle.std.specs.Prelude.{⊤, not, ◌==◌, ◌&&◌, ◌||◌, nat_eq, codes, decimal, flat_map, if◌then◌else◌, ◌⊎◌, option_map, cond}
 use Rattle.std.specs.Option.{option_or}
 use Rattle.std.specs.List.{list_any, list_all, enumerate_from}
 use Rattle.std.specs.Str.{bytes_eq, is_utf8, chars, IsAscii}
-use lib.Utf8.{encode, encodes}
+use lib.Utf8.{encode}
 use Rattle.std.proofs.lemmas.Bool.{eqb-true, cases_Bool}
 use Rattle.std.proofs.lemmas.Fmt.{decimal_injective, decimal_by_steps, IsAscii-decimal}
 use Rattle.std.proofs.lemmas.Str.{chars_from_encodes, encodes-IsAscii, IsUtf8-from_ascii, is_utf8-from_IsUtf8}
 use Rattle.std.proofs.lemmas.List.Folds.{list_all-append}
 use Rattle.cal_base.specs.declared.element.Attr.{Attr}
-use Rattle.cal_base.specs.Xml.XmlNames.{QName, is_plain_name, is_xml_text, is_among, name_followers, is_name_start, is_name_character, are_name_characters}
-use Rattle.cal_base.specs.Xml.XmlScopes.{Scope, is_declaration, space_of, attribute_space, is_bad_binding, has_repeat, is_same_attribute, xml_space, xmlns_space, outer_scope}
-use Rattle.cal_base.specs.Xml.CanonicalXml.{dav, caldav, attribute, declaration, known_prefix, written_attribute, prefixes}
-use Rattle.cal_base.proofs.Xml.XmlNameLemmas.{both_true, both_false}
-use Rattle.dav_write.proofs.ReadBack.Lookups.{same_text, text_same, space_of_cons, space_of_append}
+use Rattle.cal_base.specs.Xml.XmlNames.{is_plain_name, is_among, name_followers, is_name_start, is_name_character, are_name_characters}
+use Rattle.cal_base.specs.Xml.XmlScopes.{Scope, is_declaration, space_of, attribute_space, xml_space}
+use Rattle.cal_base.specs.Xml.CanonicalXml.{dav, caldav, attribute, declaration, known_prefix, written_attribute}
+use Rattle.dav_write.proofs.ReadBack.Lookups.{same_text}
 use Rattle.dav_write.specs.Readable.{IsSpace, IsAttr, AreAttrs}
-use Rattle.dav_write.specs.Spelling.{HasKnown}
+use Rattle.dav_write.proofs.ReadBack.Spelling.{HasKnown}
 use Rattle.dav_write.proofs.ReadBack.TextSteps.{differ}
 use Rattle.dav_write.proofs.ReadBack.NameTexts.{in_wider, or_other}
 use Rattle.dav_write.proofs.ReadBack.Tags.{pairs_text}
-use Rattle.dav_write.proofs.ReadBack.Entries.{Entry, binds, gives, prefixed, entry_pair, IsPrefix, IsBinding, IsGiven, AreEntries, AreSpaces, bindings, attrs_of, is_same_prefix}
+use Rattle.dav_write.proofs.ReadBack.Entries.{Entry, binds, gives, prefixed, entry_pair, IsPrefix, IsBinding, AreEntries, attrs_of}
 
 -- Known prefixes
 

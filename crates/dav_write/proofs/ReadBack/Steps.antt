@@ -1,11 +1,10 @@
 -- One markup before a text: its faults and its levels.
-use Rattle.std.proofs.Common.{◌≡◌, ℕ, ◌+◌, Bool, true, false, List, [], ◌∷◌, ◌++◌, length, Option, Some, None, refl, sym, ap, ◌∙◌, subst}
-use Rattle.std.specs.Prelude.{filter_map, if◌then◌else◌}
-use Rattle.cal_base.specs.Lines.ComponentTrees.{or_else}
-use Rattle.cal_base.specs.Xml.XmlMarkup.{Tag, Markup, opening, closing, character, section, reference, skipped, markups, markup_of}
-use Rattle.cal_base.specs.Xml.XmlFaults.{Why, Fault, fault_at, no_markup_fault, references_fault, markup_fault, tags_behind, rooted_behind, first_fault}
-use Rattle.cal_base.specs.Xml.XmlBodies.{Part, said, held, Level, with_part, levels_before}
-use Rattle.dav_write.specs.Spelling.{IsMarkup, NoFault, levels_of}
+use Rattle.std.proofs.Common.{◌≡◌, ℕ, ◌+◌, Bool, List, ◌∷◌, ◌++◌, length, Some, None, refl, ap, ◌∙◌}
+use Rattle.std.specs.Prelude.{filter_map}
+use Rattle.cal_base.specs.Xml.XmlMarkup.{Tag, Markup, markups, markup_of}
+use Rattle.cal_base.specs.Xml.XmlFaults.{references_fault, markup_fault, tags_behind, rooted_behind, first_fault}
+use Rattle.cal_base.specs.Xml.XmlBodies.{levels_before}
+use Rattle.dav_write.proofs.ReadBack.Spelling.{IsMarkup, NoFault, levels_of}
 
 faults_step : (end place : ℕ) (around : List Tag) (rooted : Bool) (text : List ℕ) (texts : List (List ℕ)) (markup : Markup) → markup_of text ≡ Some markup → markup_fault around rooted markup ≡ None → references_fault place text ≡ None
     → first_fault end (tags_behind around markup) (rooted_behind rooted markup) (place + length text) texts ≡ None → first_fault end around rooted place (text ∷ texts) ≡ None

@@ -1,18 +1,17 @@
 -- The tags of an element's canonical text are markups, whatever stands behind them.
-use Rattle.std.proofs.Common.{◌≡◌, ℕ, zero, suc, ◌+◌, ◌-◌, ◌<◌, ◌≤◌, Bool, true, false, List, [], ◌∷◌, ◌++◌, map, length, take, drop, Option, Some, None, inl, inr, arith, refl, sym, ap, subst, ◌∙◌, append_assoc, append-nil, length-append}
-use Rattle.std.specs.Prelude.{⊤, not, ◌==◌, ◌&&◌, ◌||◌, nat_eq, nat_le, codes, flat_map, if◌then◌else◌, ◌⊎◌, option_map, option_and_then, is_some}
-use Rattle.std.specs.List.{list_any}
+use Rattle.std.proofs.Common.{◌≡◌, ℕ, suc, ◌+◌, Bool, true, false, List, [], ◌∷◌, ◌++◌, map, length, Option, Some, None, inl, inr, arith, refl, sym, ap, subst, ◌∙◌, append_assoc, length-append}
+use Rattle.std.specs.Prelude.{not, ◌==◌, ◌&&◌, nat_eq, codes, if◌then◌else◌, option_map, option_and_then, is_some}
 use Rattle.std.specs.Str.{is_utf8, chars}
 use lib.Utf8.{encode}
-use Rattle.std.proofs.lemmas.Bool.{eqb-true, eqb-false, cases_Bool}
+use Rattle.std.proofs.lemmas.Bool.{eqb-false, cases_Bool}
 use Rattle.cal_base.specs.Lines.ComponentTrees.{or_else}
 use Rattle.cal_base.specs.Xml.XmlNames.{QName, qname_of, is_xml_text}
-use Rattle.cal_base.specs.Xml.XmlMarkup.{WrittenAttribute, Tag, Markup, opening, closing, begins, ends, inside, tag_size, quote_after, markup_size, markups, markup_of, opening_of, closing_of, tag_of, is_one_markup, without_last_blanks}
-use Rattle.cal_base.specs.Xml.XmlFaults.{Why, Fault, fault_at, inner_fault, first_inner, references_fault}
-use Rattle.cal_base.specs.Xml.CanonicalXml.{value_octet, text_octet, attribute_text, attribute}
+use Rattle.cal_base.specs.Xml.XmlMarkup.{Tag, Markup, opening, closing, begins, ends, inside, tag_size, markup_size, markup_of, opening_of, tag_of, is_one_markup, without_last_blanks}
+use Rattle.cal_base.specs.Xml.XmlFaults.{Fault, fault_at, inner_fault, first_inner, references_fault}
+use Rattle.cal_base.specs.Xml.CanonicalXml.{value_octet, attribute_text, attribute}
 use Rattle.cal_base.proofs.Xml.XmlNameLemmas.{qname_of-nil}
 use Rattle.cal_base.proofs.Xml.XmlTagLemmas.{pick, skip, markups-marked}
-use Rattle.dav_write.specs.Spelling.{IsMarkup}
+use Rattle.dav_write.proofs.ReadBack.Spelling.{IsMarkup}
 use Rattle.dav_write.proofs.ReadBack.Characters.{xml_text_append}
 use Rattle.dav_write.proofs.ReadBack.ValueTexts.{value_text_fine}
 use Rattle.dav_write.proofs.ReadBack.NameTexts.{NameText}

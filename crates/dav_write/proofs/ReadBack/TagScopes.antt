@@ -1,18 +1,15 @@
 -- What the prefixes of a canonical tag stand for, and that none is declared twice.
-use Rattle.std.proofs.Common.{◌≡◌, ℕ, zero, suc, ◌+◌, ◌<◌, ◌≤◌, ◌^◌, Bool, true, false, List, [], ◌∷◌, ◌++◌, map, length, Option, Some, None, inl, inr, arith, refl, sym, ap, subst, ◌∙◌, append_assoc, append-nil}
-use Rattle.std.specs.Prelude.{⊤, not, ◌==◌, ◌&&◌, ◌||◌, nat_eq, codes, decimal, flat_map, if◌then◌else◌, ◌⊎◌, option_map, cond}
+use Rattle.std.proofs.Common.{◌≡◌, ℕ, ◌+◌, ◌<◌, ◌≤◌, ◌^◌, Bool, false, List, [], ◌∷◌, ◌++◌, length, Option, Some, None, inl, inr, arith, refl, sym, ap, ◌∙◌, append_assoc}
+use Rattle.std.specs.Prelude.{◌⊎◌, cond}
 use Rattle.std.specs.Option.{option_or}
 use Rattle.std.specs.List.{list_any}
 use Rattle.std.specs.Str.{bytes_eq}
-use Rattle.std.proofs.lemmas.Bool.{cases_Bool}
 use Rattle.cal_base.specs.declared.element.Attr.{Attr}
-use Rattle.cal_base.specs.Xml.XmlScopes.{Scope, is_declaration, space_of, attribute_space, has_repeat, xml_space}
-use Rattle.cal_base.specs.Xml.CanonicalXml.{dav, caldav}
-use Rattle.cal_base.proofs.Xml.XmlNameLemmas.{both_true, both_false}
-use Rattle.dav_write.proofs.ReadBack.Lookups.{same_text, text_same, space_of_cons, space_of_append}
-use Rattle.dav_write.specs.Spelling.{HasKnown}
+use Rattle.cal_base.specs.Xml.XmlScopes.{Scope, space_of, attribute_space, has_repeat}
+use Rattle.dav_write.proofs.ReadBack.Lookups.{text_same, space_of_cons, space_of_append}
+use Rattle.dav_write.proofs.ReadBack.Spelling.{HasKnown}
 use Rattle.dav_write.proofs.ReadBack.TextSteps.{differ}
-use Rattle.dav_write.proofs.ReadBack.Entries.{Entry, binds, gives, AreEntries, AreSpaces, bindings, is_same_prefix}
+use Rattle.dav_write.proofs.ReadBack.Entries.{Entry, binds, gives, AreSpaces, bindings, is_same_prefix}
 use Rattle.dav_write.proofs.ReadBack.Prefixes.{Known, Own, view, y_of, y_apart, attr_entry, attr_entries}
 
 pub bindings_join : (entries more : List Entry) → bindings (entries ++ more) ≡ bindings entries ++ bindings more

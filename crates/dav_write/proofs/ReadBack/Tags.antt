@@ -1,17 +1,17 @@
 -- The text of a tag, of its name and its attributes, is read as that tag.
-use Rattle.std.proofs.Common.{◌≡◌, ℕ, zero, suc, ◌+◌, ◌-◌, ◌<◌, ◌≤◌, Bool, true, false, List, [], ◌∷◌, ◌++◌, map, length, take, drop, Option, Some, None, inl, inr, arith, refl, sym, ap, subst, ◌∙◌, append_assoc, append-nil}
-use Rattle.std.specs.Prelude.{⊤, not, ◌==◌, ◌&&◌, ◌||◌, nat_eq, nat_le, codes, flat_map, if◌then◌else◌, ◌⊎◌, option_map, option_and_then}
-use Rattle.std.specs.List.{list_any, list_all, take_while, prefix_len}
+use Rattle.std.proofs.Common.{◌≡◌, ℕ, ◌+◌, ◌-◌, Bool, true, false, List, [], ◌∷◌, ◌++◌, map, length, take, drop, Some, None, inl, inr, arith, refl, sym, ap, subst, ◌∙◌, append_assoc, append-nil}
+use Rattle.std.specs.Prelude.{⊤, ◌==◌, nat_eq, nat_le, codes, if◌then◌else◌, option_map, option_and_then}
+use Rattle.std.specs.List.{list_any, take_while, prefix_len}
 use Rattle.std.proofs.lemmas.List.{length-append, take_at, drop_at}
 use Rattle.std.proofs.lemmas.Bool.{eqb-true, eqb-false, le-leb, cases_Bool}
 use Rattle.std.specs.Cmp.Lexicographic.{pointwise}
 use Rattle.std.proofs.lemmas.Slice.Eq.{ends_is}
 use Rattle.std.proofs.lemmas.Bool.Decides.{Decides-eqb}
 use Rattle.cal_base.specs.Lines.ContentLines.{onto_first}
-use Rattle.cal_base.specs.Xml.XmlNames.{QName, qname_of, is_blank, are_blanks, begins_with_blank, is_xml_text}
-use Rattle.cal_base.specs.Xml.XmlMarkup.{WrittenAttribute, Tag, Markup, opening, closing, begins, ends, inside, holds, is_quote, quoted_pieces, without_last_blanks, without_first_blanks, attribute_name, attribute_of, attributes_of, is_not_blank, tag_of, tag_of_parts}
+use Rattle.cal_base.specs.Xml.XmlNames.{QName, qname_of, is_blank, is_xml_text}
+use Rattle.cal_base.specs.Xml.XmlMarkup.{WrittenAttribute, opening, ends, inside, holds, is_quote, quoted_pieces, without_last_blanks, without_first_blanks, attribute_name, attribute_of, attributes_of, is_not_blank, tag_of, tag_of_parts}
 use Rattle.cal_base.specs.Xml.CanonicalXml.{value_octet, text_octet, attribute_text, attribute}
-use Rattle.cal_base.proofs.Xml.XmlNameLemmas.{both_true, both_false, is_one_of, qname_of-nil}
+use Rattle.cal_base.proofs.Xml.XmlNameLemmas.{both_false, is_one_of, qname_of-nil}
 use Rattle.dav_write.proofs.ReadBack.LastBlanks.{no_last_blank}
 use Rattle.dav_write.proofs.ReadBack.NameTexts.{NameText, name_marks, tag_marks}
 

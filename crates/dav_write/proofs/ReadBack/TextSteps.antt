@@ -1,21 +1,21 @@
 -- The canonical text of text is read as that text, character by character.
-use Rattle.std.proofs.Common.{◌≡◌, ℕ, suc, ◌+◌, ◌/◌, ◌≤◌, ◌<◌, Bool, true, false, List, [], ◌∷◌, ◌++◌, length, Option, Some, None, inl, inr, arith, refl, sym, ap, subst, ◌∙◌, append_assoc}
+use Rattle.std.proofs.Common.{◌≡◌, ℕ, ◌+◌, ◌/◌, ◌≤◌, ◌<◌, true, false, List, [], ◌∷◌, ◌++◌, Option, Some, None, inl, inr, arith, refl, sym, ap, subst, ◌∙◌, append_assoc}
 use Rattle.std.specs.Prelude.{not, ◌==◌, ◌&&◌, nat_eq, nat_lt, codes, flat_map, filter_map, if◌then◌else◌, ◌⊎◌, unwrap_or}
 use Rattle.std.specs.List.{list_any}
 use Rattle.std.specs.Str.{continuation_len, is_utf8, chars}
 use lib.Utf8.{encode, encodes, next}
-use Rattle.std.proofs.lemmas.Bool.{eqb-true, eqb-false, ltb-true, ltb-false, cases_Bool}
-use Rattle.cal_base.specs.Texts.Octets.{line_feed, carriage_return}
+use Rattle.std.proofs.lemmas.Bool.{eqb-true, eqb-false, ltb-true, cases_Bool}
+use Rattle.cal_base.specs.Texts.Octets.{carriage_return}
 use Rattle.cal_base.specs.Xml.XmlNames.{is_xml_text}
-use Rattle.cal_base.specs.Xml.XmlMarkup.{Tag, begins, markup_size, markups, markup_of, Markup, opening, closing, character, section, reference, skipped, referenced}
+use Rattle.cal_base.specs.Xml.XmlMarkup.{Tag, begins, markup_size, markup_of, character, reference, referenced}
 use Rattle.cal_base.specs.Xml.XmlFaults.{Why, Fault, is_within, reference_fault, references_fault, markup_fault, can_stand}
-use Rattle.cal_base.specs.Xml.XmlBodies.{Part, said, held, items_behind, Level, with_part, with_line_feeds, levels_before}
+use Rattle.cal_base.specs.Xml.XmlBodies.{Part, said, items_behind, Level, with_part, with_line_feeds}
 use Rattle.cal_base.specs.Xml.CanonicalXml.{text_octet, xml_text}
 use Rattle.cal_base.proofs.Xml.XmlMarkupLemmas.{markups-append}
 use Rattle.cal_base.proofs.Xml.XmlNameLemmas.{both_false}
-use Rattle.cal_base.proofs.Xml.XmlTagLemmas.{pick, skip, markups-marked}
+use Rattle.cal_base.proofs.Xml.XmlTagLemmas.{skip, markups-marked}
 use Rattle.cal_base.proofs.Xml.XmlEscapeLemmas.{Plain, markups-character}
-use Rattle.dav_write.specs.Spelling.{IsMarkup, NoFault, levels_of, scope_in, NoEnd, Alike, Grown, Spells}
+use Rattle.dav_write.proofs.ReadBack.Spelling.{IsMarkup, levels_of, scope_in, NoEnd, Alike, Grown, Spells}
 use Rattle.dav_write.proofs.ReadBack.Characters.{AreCharacters, characters_of, characters_same, one_text, behind_one}
 use Rattle.dav_write.proofs.ReadBack.Alikes.{spells_join, xml_text-append}
 use Rattle.dav_write.proofs.ReadBack.Steps.{sound_step, levels_step}

@@ -1,4 +1,4 @@
-use Rattle.std.proofs.Common.{true, refl, sym, ◌∙◌, arith, ◌<◌, length}
+use Rattle.std.proofs.Common.{refl, sym, ◌∙◌, arith}
 use Rattle.std.proofs.lemmas.Bool.{false≢true}
 use Rattle.dav_write.proofs.ElementLemmas.{some_written, none_more}
 use Rattle.dav_write.proofs.elements.has_content.Goals as goal

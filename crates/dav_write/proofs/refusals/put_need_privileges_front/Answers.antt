@@ -1,4 +1,4 @@
-use Rattle.std.proofs.Common.{◌++◌, codes}
+use Rattle.std.proofs.Common.{codes}
 use Rattle.cal_base.specs.Xml.CanonicalXml.{attribute_text}
 use Rattle.dav_write.specs.ErrorTexts.{error_front, need_privileges_front}
 use Rattle.dav_write.proofs.ErrorLemmas.{then_more}

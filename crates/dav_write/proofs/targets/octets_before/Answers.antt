@@ -1,4 +1,4 @@
-use Rattle.std.proofs.Common.{sym, ◌==◌, arith, true, ◌≡◌, get_or}
+use Rattle.std.proofs.Common.{sym, ◌==◌, arith}
 use Rattle.std.proofs.lemmas.Bool.Decides.{nat_tests}
 use Rattle.std.proofs.lemmas.List.Sums.{position_or_len_is}
 use Rattle.dav_write.proofs.targets.octets_before.Goals as goal

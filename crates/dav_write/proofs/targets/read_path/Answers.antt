@@ -1,4 +1,4 @@
-use Rattle.std.proofs.Common.{◌==◌, true, false, ◌≡◌, sym, ap, ◌∙◌, arith}
+use Rattle.std.proofs.Common.{sym, ap, ◌∙◌, arith}
 use Rattle.std.proofs.lemmas.Bool.Decides.{nat_tests}
 use Rattle.cal_model.specs.Paths.TargetPaths.{path_of_text}
 use Rattle.dav_write.proofs.SegmentLemmas.{target_of_text, text_without_slash, read_text, text_is, no_octets}

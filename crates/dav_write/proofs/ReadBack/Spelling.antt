@@ -1,7 +1,5 @@
 -- A text in a body, read as one markup or as parts of an element. What follows it is any text.
 use Rattle.std.specs.Prelude.{◌≡◌, ℕ, Bool, true, false, List, [], ◌∷◌, ◌++◌, filter_map, Option, Some, None, codes}
-use Rattle.cal_base.specs.declared.element.Element.{Element}
-use Rattle.cal_base.specs.declared.element.Item.{Item}
 use Rattle.cal_base.specs.Xml.XmlMarkup.{Tag, Markup, begins, markups, markup_of}
 use Rattle.cal_base.specs.Xml.XmlScopes.{Scope, declarations, outer_scope, space_of, xml_space}
 use Rattle.cal_base.specs.Xml.XmlFaults.{Fault, references_fault, first_fault}
