@@ -1,0 +1,6 @@
+pub mod CutLemmas
+pub mod SegmentLemmas
+pub mod PathLemmas
+pub mod ErrorLemmas
+pub mod ReadBack
+pub mod ElementLemmas

@@ -1,0 +1,5 @@
+pub mod Segments
+pub mod ShortPaths
+pub mod ErrorTexts
+pub mod Readable
+pub mod ElementTexts
