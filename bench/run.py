@@ -162,7 +162,7 @@ def filled(front, part, end, size):
     """A body of about so many octets: a front, a part with its number over and over, and an end."""
     parts, octets = [front], len(front) + len(end)
     while octets < size:
-        parts.append(part.replace(b"#", b"%d" % len(parts)))
+        parts.append(part.replace(b"$", b"%d" % len(parts)))
         octets += len(parts[-1])
     return b"".join(parts) + end
 
@@ -174,9 +174,9 @@ def bodies():
         deep = b"<q:a xmlns:q='u'>" + (b"<a%s>" % declared) * 30
         levels = b"".join(b"<a%s>" % b"".join(b" xmlns:p%d='u%d'" % (n, n) for n in range(size // 600)) for _ in range(32))
         texts = {
-            "attributes of one tag": filled(b"<a", b" a#=''", b"/>", size),
-            "declarations of one tag": filled(b"<a", b" xmlns:p#='u'", b"/>", size),
-            "prefixed attributes": filled(b"<a xmlns:p='u'", b" p:a#=''", b"/>", size),
+            "attributes of one tag": filled(b"<a", b" a$=''", b"/>", size),
+            "declarations of one tag": filled(b"<a", b" xmlns:p$='u'", b"/>", size),
+            "prefixed attributes": filled(b"<a xmlns:p='u'", b" p:a$=''", b"/>", size),
             "32 levels that redeclare": levels + b"</a>" * 32,
             "a prefix 31 levels up": filled(deep, b"<q:b/>", b"</a>" * 30 + b"</q:a>", size),
             "character references": filled(b"<a>", b"&#65;", b"</a>", size),
@@ -184,11 +184,11 @@ def bodies():
             "carriage returns": b"<a>" + b"\r" * (size - 7) + b"</a>",
             "a section": b"<a><![CDATA[" + b"x" * (size - 19) + b"]]></a>",
             "empty elements": filled(b"<a>", b"<b/>", b"</a>", size),
-            "a tag that is cut": filled(b"<a", b" a#=''", b"", size),
+            "a tag that is cut": filled(b"<a", b" a$=''", b"", size),
             "one long namespace, many elements": b"<a xmlns='" + b"u" * (size // 2) + b"'>" + b"<b/>" * (size // 8 - 5) + b"</a>",
         }
         for name, text in texts.items():
-            best, memory, output = min(run(BODIES, [], text) for _ in range(3))
+            best, memory, output = min(processor_run(BODIES, [], text) for _ in range(3))
             print(f"{name:34} {len(text):8d} {best:8.4f} {best / len(text) * 1e9:9.1f} {memory:6.1f}  {output.decode().strip()}")
 
 
