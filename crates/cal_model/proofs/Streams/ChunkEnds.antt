@@ -86,7 +86,7 @@ some_mapped : (o : Option ℕ) → option_map suc o ≡ None → o ≡ None
 some_mapped None e = refl
 some_mapped (Some n) e = none_some (suc n) (sym e)
 
-no_feed : (octets : List ℕ) → line_size octets ≡ None → first_line_text octets ≡ octets
+pub no_feed : (octets : List ℕ) → line_size octets ≡ None → first_line_text octets ≡ octets
 unfolding first_line_text
 no_feed [] e = refl
 no_feed (c ∷ octets) e =
@@ -100,7 +100,7 @@ no_feed_front : (octets more : List ℕ) → line_size (octets ++ more) ≡ None
 no_feed_front octets more e = ⊎_elim (λ none. none) (λ found. none_some found.0 (sym e ∙ (line_size-append octets more found.0 found.1).0)) (option_cases (line_size octets))
 
 -- but a line has one
-line_feeds : (text : List ℕ) → (n : ℕ) × (line_size (text ++ 10 ∷ []) ≡ Some n)
+pub line_feeds : (text : List ℕ) → (n : ℕ) × (line_size (text ++ 10 ∷ []) ≡ Some n)
 line_feeds [] = (1, line_size_here 10 [] refl)
 line_feeds (c ∷ text) =
     ⊎_elim

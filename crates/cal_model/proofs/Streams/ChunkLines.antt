@@ -22,7 +22,7 @@ use Rattle.cal_model.proofs.Streams.HeadLaws.{cut_none}
 
 -- CRLF at the end
 
-break_back : (text : List ℕ) → before_break (text ++ 13 ∷ 10 ∷ []) ≡ Some text
+pub break_back : (text : List ℕ) → before_break (text ++ 13 ∷ 10 ∷ []) ≡ Some text
 break_back [] = refl
 break_back (a ∷ []) = refl
 break_back (a ∷ b ∷ text) = next a b text (break_back (b ∷ text))
@@ -31,7 +31,7 @@ break_back (a ∷ b ∷ text) = next a b text (break_back (b ∷ text))
     next a b [] h = ap (option_map (λ t. a ∷ t)) h
     next a b (c ∷ text) h = ap (option_map (λ t. a ∷ t)) h
 
-break_is : (line text : List ℕ) → before_break line ≡ Some text → line ≡ text ++ 13 ∷ 10 ∷ []
+pub break_is : (line text : List ℕ) → before_break line ≡ Some text → line ≡ text ++ 13 ∷ 10 ∷ []
 break_is [] text e = none_some text e
 break_is (a ∷ []) text e = none_some text e
 break_is (a ∷ b ∷ []) text e =
@@ -122,10 +122,10 @@ fits ds v e most = ⊎_elim (λ yes. ap (λ b. cond b (number_of_digits 16 ds) N
 sized_text : (text : List ℕ) (ds : List ℕ) (v : ℕ) → list_all is_extension_byte text ≡ true → before_extension text ≡ ds → size_of ds ≡ Some v → text_size text ≡ Some v
 sized_text text ds v all before size = ap (λ b. cond b (size_of (before_extension text)) None) all ∙ ap size_of before ∙ size
 
-before_cut : (text : List ℕ) (parts : List ℕ × List ℕ) → cut_at semicolon text ≡ Some parts → before_extension text ≡ parts.0
+pub before_cut : (text : List ℕ) (parts : List ℕ × List ℕ) → cut_at semicolon text ≡ Some parts → before_extension text ≡ parts.0
 before_cut text parts h = rw (h, before_extension) refl
 
-before_none : (text : List ℕ) → cut_at semicolon text ≡ None → before_extension text ≡ text
+pub before_none : (text : List ℕ) → cut_at semicolon text ≡ None → before_extension text ≡ text
 before_none text h = rw (h, before_extension) refl
 
 -- digits and perhaps more
@@ -146,7 +146,7 @@ front_passes : (test : ℕ → Bool) (a b : List ℕ) → list_all test (a ++ b)
 front_passes test a b h = (both (list_all test a) (list_all test b) (sym (list_all-append test a b) ∙ h)).0
 
 -- where a text ends within a longer one
-split_at : (a b ds : List ℕ) (c : ℕ) (x : List ℕ) → a ++ b ≡ ds ++ c ∷ x → ((h : List ℕ) × (ds ≡ a ++ h)) ⊎ ((y : List ℕ) × (a ≡ ds ++ c ∷ y) × (x ≡ y ++ b))
+pub split_at : (a b ds : List ℕ) (c : ℕ) (x : List ℕ) → a ++ b ≡ ds ++ c ∷ x → ((h : List ℕ) × (ds ≡ a ++ h)) ⊎ ((y : List ℕ) × (a ≡ ds ++ c ∷ y) × (x ≡ y ++ b))
 split_at [] b ds c x e = inl (ds, refl)
 split_at (p ∷ a) b [] c x e = inr (a, ap (λ l. l ++ a) (ap (take 1) e), sym (ap (drop 1) e))
 split_at (p ∷ a) b (q ∷ ds) c x e =
@@ -166,7 +166,7 @@ digits_front (c ∷ a) h v some e most =
     let l = length-append (c ∷ a) h in
     (number.0, digits_text (c ∷ a) number.0 number.1 (omega arith))
 
-text_front : (line : WrittenLine) (size : ℕ) → IsLineOf line size → (a b : List ℕ) → 1 ≤ length a → a ++ b ≡ text_of line → (w : ℕ) × (text_size a ≡ Some w)
+pub text_front : (line : WrittenLine) (size : ℕ) → IsLineOf line size → (a b : List ℕ) → 1 ≤ length a → a ++ b ≡ text_of line → (w : ℕ) × (text_size a ≡ Some w)
 text_front line size is a b some e = by line.extension is.extension e
   where
     by : (x : Option (List ℕ)) → IsExtension x → a ++ b ≡ line.digits ++ print_extension x → (w : ℕ) × (text_size a ≡ Some w)
@@ -184,7 +184,7 @@ text_front line size is a b some e = by line.extension is.extension e
         (split_at a b line.digits 59 x e)
 
 -- the whole text
-whole_text : (line : WrittenLine) (size : ℕ) → IsLineOf line size → text_size (text_of line) ≡ Some size
+pub whole_text : (line : WrittenLine) (size : ℕ) → IsLineOf line size → text_size (text_of line) ≡ Some size
 whole_text line size is = by line.extension is.extension
   where
     by : (x : Option (List ℕ)) → IsExtension x → text_size (line.digits ++ print_extension x) ≡ Some size
@@ -193,7 +193,7 @@ whole_text line size is = by line.extension is.extension
 
 -- Lines
 
-line_sized : (text : List ℕ) (size : ℕ) → length (text ++ 13 ∷ 10 ∷ []) ≤ chunk_line_limit → text_size text ≡ Some size → chunk_size (text ++ 13 ∷ 10 ∷ []) ≡ Some size
+pub line_sized : (text : List ℕ) (size : ℕ) → length (text ++ 13 ∷ 10 ∷ []) ≤ chunk_line_limit → text_size text ≡ Some size → chunk_size (text ++ 13 ∷ 10 ∷ []) ≡ Some size
 unfolding chunk_size
 line_sized text size short e =
     ⊎_elim
@@ -207,15 +207,15 @@ chunk_size_of line size is = line_sized (text_of line) size is.within (whole_tex
 there_is : (o : Option ℕ) (n : ℕ) → o ≡ Some n → is_some o ≡ true
 there_is o n h = rw h refl
 
-begins_empty : begins_chunk_line [] ≡ true
+pub begins_empty : begins_chunk_line [] ≡ true
 unfolding chunk_size cut_at
 begins_empty = refl
 
-begins_text : (a : List ℕ) (w : ℕ) → text_size a ≡ Some w → length (a ++ 13 ∷ 10 ∷ []) ≤ chunk_line_limit → begins_chunk_line a ≡ true
+pub begins_text : (a : List ℕ) (w : ℕ) → text_size a ≡ Some w → length (a ++ 13 ∷ 10 ∷ []) ≤ chunk_line_limit → begins_chunk_line a ≡ true
 begins_text a w e short =
     right_or (is_some (chunk_size (a ++ codes "0\r\n"))) _ (left_or (is_some (chunk_size (a ++ codes "\r\n"))) _ (there_is (chunk_size (a ++ codes "\r\n")) w (line_sized a w short e)))
 
-begins_return : (text : List ℕ) (w : ℕ) → chunk_size (text ++ 13 ∷ 10 ∷ []) ≡ Some w → begins_chunk_line (text ++ 13 ∷ []) ≡ true
+pub begins_return : (text : List ℕ) (w : ℕ) → chunk_size (text ++ 13 ∷ 10 ∷ []) ≡ Some w → begins_chunk_line (text ++ 13 ∷ []) ≡ true
 begins_return text w e =
     right_or (is_some (chunk_size ((text ++ 13 ∷ []) ++ codes "0\r\n"))) _ (right_or (is_some (chunk_size ((text ++ 13 ∷ []) ++ codes "\r\n"))) _
     (left_or (is_some (chunk_size ((text ++ 13 ∷ []) ++ codes "\n"))) _ (there_is (chunk_size ((text ++ 13 ∷ []) ++ codes "\n")) w (ap chunk_size (append_assoc text (13 ∷ []) (10 ∷ [])) ∙ e))))

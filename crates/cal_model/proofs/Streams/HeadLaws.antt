@@ -130,7 +130,7 @@ no_return_end [] free = (refl, refl)
 no_return_end (c ∷ []) free = (rw free.0 refl, rw free.0 refl)
 no_return_end (c ∷ d ∷ text) free = let more = no_return_end (d ∷ text) free.1 in (ap (λ l. c ∷ l) more.0, more.1)
 
-return_end : (text : List ℕ) → (without_return (text ++ 13 ∷ []) ≡ text) × (end_of (text ++ 13 ∷ []) ≡ crlf)
+pub return_end : (text : List ℕ) → (without_return (text ++ 13 ∷ []) ≡ text) × (end_of (text ++ 13 ∷ []) ≡ crlf)
 return_end [] = (refl, refl)
 return_end (c ∷ []) = (refl, refl)
 return_end (c ∷ d ∷ text) = let more = return_end (d ∷ text) in (ap (λ l. c ∷ l) more.0, more.1)
@@ -153,7 +153,7 @@ line_is (c ∷ d ∷ line) = ap (λ l. c ∷ l) (line_is (d ∷ line))
 
 -- Fields
 
-cut_here : (s c : ℕ) (text : List ℕ) → (c == s) ≡ true → cut_at s (c ∷ text) ≡ Some ([], text)
+pub cut_here : (s c : ℕ) (text : List ℕ) → (c == s) ≡ true → cut_at s (c ∷ text) ≡ Some ([], text)
 unfolding cut_at
 cut_here s c text h = rw (h, cut_at) refl
 
