@@ -1,0 +1,12 @@
+pub mod LineTexts
+pub mod DigitLemmas
+pub mod Places
+pub mod Searching
+pub mod BodySteps
+pub mod Reading
+pub mod LineSteps
+pub mod TrailerSteps
+pub mod HeadPlaces
+pub mod Beginning
+pub mod WireLaws
+pub mod IdleFronts

@@ -1,0 +1,46 @@
+-- Where a wire stands.
+use Rattle.std.proofs.Common.{◌≡◌, ◌⊎◌, ℕ, ◌+◌, ◌≤◌, List, [], ◌∷◌, ◌++◌, length, drop, length-drop, refl, sym, ap, ◌∙◌, inl, inr, ⊎_elim, arith, append_assoc, append-nil}
+use Rattle.std.proofs.lemmas.List.{drop-drop, drop-append-le}
+use Rattle.cal_model.specs.Streams.StreamRequests.{Front, request, front, idle, cut}
+use Rattle.http_wire.specs.declared.stage.Stage.{Stage}
+use Rattle.http_wire.specs.declared.stage.Stage.TheVariants.{Head, Body}
+use Rattle.cal_model.specs.declared.wire.WireRequest.{WireRequest}
+use Rattle.http_wire.specs.declared.part.Part.{Part}
+use Rattle.http_wire.specs.declared.wire.Wire.{Wire}
+use Rattle.http_wire.specs.declared.wire.Next.{Next}
+use Rattle.http_wire.specs.declared.wire.Next.TheVariants.{Request, Need, Fault, NoMemory}
+use Rattle.http_wire.specs.WireStates.{front_of}
+use Rattle.http_wire.specs.Wires.{wire_front, Stands, Leads, AnswersAreRead, PiecesAreTaken}
+
+pub head_stands : (stage : Stage) (at n new_at : ℕ) (octets new_octets : List ℕ) → stage ≡ Head → new_at ≡ at + n → new_octets ≡ octets → (more : List ℕ) → front (drop n (drop at octets) ++ more) ≡ front_of stage (drop new_at new_octets ++ more)
+head_stands stage at n new_at octets new_octets is place same more =
+    ap (λ l. front (l ++ more)) (drop-drop n at octets) ∙ ap (λ k. front (drop k octets ++ more)) (sym place) ∙ ap (λ l. front (drop new_at l ++ more)) (sym same)
+    ∙ ap (λ s. front_of s (drop new_at new_octets ++ more)) (sym is)
+
+pub leads_from : (answer : Next) (f g : List ℕ → Front) (wire : Wire) → ((more : List ℕ) → g more ≡ f more) → Leads answer f wire → Leads answer g wire
+leads_from (Request r) f g wire same h = (h.0, λ more. same more ∙ h.1 more, h.2)
+leads_from Need f g wire same h = (⊎_elim (λ a. inl (same [] ∙ a)) (λ b. inr (same [] ∙ b)) h.0, λ more. same more ∙ h.1 more)
+leads_from (Fault why) f g wire same h = (λ more. same more ∙ h.0 more, h.1)
+leads_from NoMemory f g wire same h = λ more. same more ∙ h more
+
+pub head_begins : (stage : Stage) (at n new_at : ℕ) (octets new_octets unread : List ℕ) (r : WireRequest) (part : Part) → stage ≡ Head → unread ≡ drop at octets → new_at ≡ at + n → new_octets ≡ octets
+    → ((more : List ℕ) → front (unread ++ more) ≡ front_of (Body r part) (drop n unread ++ more)) → (more : List ℕ) → front_of stage (drop at octets ++ more) ≡ front_of (Body r part) (drop new_at new_octets ++ more)
+head_begins stage at n new_at octets new_octets unread r part is there place same h more =
+    ap (λ s. front_of s (drop at octets ++ more)) is
+    ∙ ap (λ l. front (l ++ more)) (sym there)
+    ∙ h more
+    ∙ ap (λ l. front_of (Body r part) (drop n l ++ more)) there
+    ∙ ap (λ l. front_of (Body r part) (l ++ more)) (drop-drop n at octets)
+    ∙ ap (λ k. front_of (Body r part) (drop k octets ++ more)) (sym place)
+    ∙ ap (λ l. front_of (Body r part) (drop new_at l ++ more)) (sym same)
+
+pub answers_are_read : AnswersAreRead
+answers_are_read (Request r) octets old new h s = (h.0, ap front (sym (append-nil octets)) ∙ s [] ∙ h.1 [] ∙ ap (request r) (append-nil h.0), h.2)
+answers_are_read Need octets old new h s =
+    let here = ap front (sym (append-nil octets)) ∙ s [] in
+    (⊎_elim (λ a. inl (here ∙ a)) (λ b. inr (here ∙ b)) h.0, λ more. s more ∙ h.1 more)
+answers_are_read (Fault why) octets old new h s = (ap front (sym (append-nil octets)) ∙ s [] ∙ h.0 [], λ more. s more ∙ h.0 more ∙ sym (h.1 more))
+answers_are_read NoMemory octets old new h s = λ more. s more ∙ h more
+
+pub pieces_are_taken : PiecesAreTaken
+pieces_are_taken octets piece old new t s = λ more. ap front (append_assoc octets piece more) ∙ s (piece ++ more) ∙ t more
