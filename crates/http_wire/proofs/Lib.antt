@@ -1,3 +1,4 @@
+pub mod FieldSteps
 pub mod LineTexts
 pub mod DigitLemmas
 pub mod Places
