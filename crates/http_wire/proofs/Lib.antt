@@ -1,3 +1,5 @@
+pub mod HeadBlocks
+pub mod Framings
 pub mod FieldSteps
 pub mod LineTexts
 pub mod DigitLemmas

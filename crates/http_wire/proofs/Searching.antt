@@ -64,3 +64,18 @@ left_found octets (b ∷ more) n some left found =
 pub left_nothing : (octets rest : List ℕ) → length rest ≡ 0 → Left octets rest → None ≡ head_end octets
 left_nothing octets [] none left = sym (left ∙ ap (option_map (λ n. (length octets - 0) + n)) head_end_nil)
 left_nothing octets (b ∷ more) none left = absurd (omega (arith, none))
+
+-- behind the empty lines no other stands
+pub without_empty_lines-twice : (xs : List ℕ) → without_empty_lines (without_empty_lines xs) ≡ without_empty_lines xs
+unfolding without_empty_lines
+without_empty_lines-twice [] = refl
+without_empty_lines-twice (b ∷ []) = ⊎_elim (λ feed. rw feed refl) (λ other. rw other (rw other refl)) (bool_cases (b == line_feed))
+without_empty_lines-twice (b ∷ c ∷ xs) =
+    ⊎_elim
+    (λ feed. ap without_empty_lines (skips_lf b c xs feed) ∙ without_empty_lines-twice (c ∷ xs) ∙ sym (skips_lf b c xs feed))
+    (λ other.
+    ⊎_elim
+    (λ both. ap without_empty_lines (skips_crlf b c xs other both) ∙ without_empty_lines-twice xs ∙ sym (skips_crlf b c xs other both))
+    (λ none. ap without_empty_lines (skips_none b c xs other none))
+    (bool_cases ((b == carriage_return) && (c == line_feed))))
+    (bool_cases (b == line_feed))

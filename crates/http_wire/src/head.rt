@@ -1,13 +1,14 @@
 //! The head of a request (RFC 9112, 3 and 5).
-ghost use Rattle.std.specs.Prelude.{◌≡◌, ◌≤◌, ◌+◌, ◌==◌, ◌&&◌, nat_lt, count_by, length, IfSome, IsNone};
+ghost use Rattle.std.specs.Prelude.{◌≡◌, ◌≤◌, ◌+◌, ◌==◌, ◌&&◌, nat_eq, codes, count_by, length, slice_index, is_some, IfSome, IsNone};
+ghost use Rattle.std.specs.List.{starts_with};
 ghost use Rattle.std.specs.Char.{is_ascii_digit};
 ghost use Rattle.httparse.specs.Spans.{IsRequestWithin};
 ghost use Rattle.cal_base.specs.Lines.ContentLines.{without_return};
-ghost use Rattle.cal_model.specs.Streams.Heads.{without_empty_lines};
+ghost use Rattle.cal_model.specs.Streams.Heads.{version_of, without_empty_lines};
 ghost use Rattle.cal_model.specs.Streams.HeadFields.{first_line, names_other_version};
 ghost use Rattle.http_wire.specs.HeadReading.{BlockReads, HeadReads, IsHeadAt, IsNoHead};
 
-use crate::cuts::{before_feed, before_last};
+use crate::cuts::{before_feed, before_last, behind};
 use crate::fields::Fields;
 use crate::framing::framing;
 use crate::part::Part;
@@ -112,11 +113,33 @@ fn before_return(line: &[u8]) -> &[u8]
 fn names_other_version(line: &[u8]) -> bool
     ensures { result ≡ names_other_version line.now }
 {
-    match line {
-        [.., b'H', b'T', b'T', b'P', b'/', b'1', b'.', b'0' | b'1'] => false,
-        [.., b'H', b'T', b'T', b'P', b'/', major, b'.', minor] => {
-            major.is_ascii_digit() && minor.is_ascii_digit()
-        }
-        _ => false,
+    let word = behind(line, line.len().saturating_sub(8));
+    names_version(word) && !is_known(word)
+}
+
+/// Whether a word is `HTTP/`, a digit, `.` and a digit, and perhaps more.
+fn names_version(word: &[u8]) -> bool
+    ensures { result ≡ (starts_with nat_eq word.now (codes "HTTP/") && is_ascii_digit (slice_index word.now 5) && (slice_index word.now 6 == 46) && is_ascii_digit (slice_index word.now 7)) }
+{
+    word.starts_with(b"HTTP/")
+        && octet_at(word, 5).is_ascii_digit()
+        && octet_at(word, 6) == b'.'
+        && octet_at(word, 7).is_ascii_digit()
+}
+
+/// The octet at a place, or 0 behind the end.
+fn octet_at(word: &[u8], place: usize) -> u8
+    ensures { result ≡ slice_index word.now place }
+{
+    match word.get(place) {
+        Some(octet) => *octet,
+        None => 0,
     }
+}
+
+/// Whether a version is one of the two that are served.
+fn is_known(version: &[u8]) -> bool
+    ensures { result ≡ is_some (version_of version.now) }
+{
+    version == b"HTTP/1.0".as_slice() || version == b"HTTP/1.1".as_slice()
 }

@@ -1,6 +1,7 @@
 //! The request that a head is.
-ghost use Rattle.std.specs.Prelude.{◌≡◌, codes, slice_get, option_map, IfOk};
-ghost use Rattle.cal_model.specs.Streams.HeadFields.{joined};
+ghost use Rattle.std.specs.Prelude.{◌≡◌, ◌==◌, ◌||◌, codes, slice_get, IfOk};
+ghost use Rattle.std.specs.List.{list_any};
+ghost use Rattle.cal_model.specs.Streams.HeadFields.{joined, names_close};
 ghost use Rattle.http_wire.specs.FieldTexts.{coding_among, values_of};
 ghost use Rattle.http_wire.specs.HeadReading.{RequestReads};
 
@@ -27,7 +28,7 @@ pub(crate) fn request_of(alloc: Global, line: Line<'_>, fields: Fields<'_>) -> R
     Ok(WireRequest {
         method,
         target,
-        close: line.minor == 0 || fields.asks_close(),
+        close: closes(line, fields),
         authorization,
         media,
         coding,
@@ -36,6 +37,14 @@ pub(crate) fn request_of(alloc: Global, line: Line<'_>, fields: Fields<'_>) -> R
         if_none,
         body: Octets::new(alloc),
     })
+}
+
+/// Whether the connection closes after the reply: version 1.0, or a field that asks for it (RFC 9112,
+/// 9.3).
+fn closes(line: Line<'_>, fields: Fields<'_>) -> bool
+    ensures { result ≡ ((line.entry.minor == 0) || list_any names_close (values_of (codes "connection") fields.entry)) }
+{
+    line.minor == 0 || fields.asks_close()
 }
 
 fn line_texts(alloc: Global, line: Line<'_>) -> Result<(Octets, Octets), NoMemory>

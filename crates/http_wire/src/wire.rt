@@ -46,11 +46,11 @@ pub struct Wire {
 impl Wire {
     ghost use Rattle.std.specs.Prelude.{ℕ, List, [], ◌++◌, OnOk, OnErr};
     ghost use Rattle.http_wire.specs.WireStates.{front_of};
-    ghost use Rattle.http_wire.specs.Wires.{wire_front, Leads, Takes};
+    ghost use Rattle.http_wire.specs.Wires.{Leads, NextIs, Stands};
 
     /// The wire of a stream of which nothing came yet.
     pub fn new(alloc: Global) -> Wire
-        ensures { (more : List ℕ) → wire_front result more ≡ front_of Stage.Head more }
+        ensures { Stands [] result }
     {
         Wire {
             octets: Octets::new(alloc),
@@ -63,8 +63,8 @@ impl Wire {
 
     /// Takes the next piece of the stream. Without memory the wire stands where it stood.
     pub fn feed(&mut self, alloc: Global, piece: &[u8]) -> Result<(), NoMemory>
-        ensures ok { OnOk result (Takes self.old piece.now self.new) }
-        ensures err { OnErr result (Takes self.old [] self.new) }
+        ensures ok { OnOk result ((octets : List ℕ) → Stands octets self.old → Stands (octets ++ piece.now) self.new) }
+        ensures err { OnErr result ((octets : List ℕ) → Stands octets self.old → Stands octets self.new) }
     {
         if let Stage::Failed(_) = self.stage {
             return Ok(());
@@ -88,7 +88,7 @@ impl Wire {
 
     /// The next request.
     pub fn next(&mut self, alloc: Global) -> Next
-        ensures { Leads result (wire_front self.old) self.new }
+        ensures { (octets : List ℕ) → Stands octets self.old → NextIs result octets self.new }
     {
         match mem::replace(&mut self.stage, Stage::Head) {
             Stage::Failed(why) => {
@@ -148,7 +148,7 @@ impl Wire {
     /// Whether nothing but empty lines, fewer octets than a head may have, stands behind the last
     /// request.
     pub fn idle(&self) -> bool
-        ensures { IsTrue result ↔ (wire_front self.now [] ≡ idle) }
+        ensures { (octets : List ℕ) → Stands octets self.now → (IsTrue result ↔ (front octets ≡ idle)) }
     {
         match &self.stage {
             Stage::Head => is_idle(behind(self.octets.as_slice(), self.at), self.begun),

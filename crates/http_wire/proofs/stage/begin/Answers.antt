@@ -2,7 +2,13 @@ use Rattle.std.proofs.Common.{rules, arith, sym, ap, ◌∙◌, ◌≡◌, take,
 use Rattle.cal_model.specs.Streams.Heads.{without_empty_lines}
 use Rattle.cal_model.specs.Streams.HeadFields.{read_head}
 use Rattle.http_wire.proofs.Beginning.{long_fault, over_fault, bad_fault, nothing_yet, body_begins}
+use Rattle.http_wire.proofs.Searching.{without_empty_lines-twice}
 use Rattle.http_wire.proofs.stage.begin.Goals as goal
+
+pub read_head-requires : goal.read_head-requires
+read_head-requires c =
+    let block : c.front.result.now ≡ without_empty_lines (take c.in-Ends.end c.args.unread.now) = c.front.ensures ∙ ap (take _) c.behind.ensures ∙ sym c.in-Ends.ensures.3 in
+    ap without_empty_lines block ∙ without_empty_lines-twice (take c.in-Ends.end c.args.unread.now) ∙ sym block
 
 pub returns-then-unread-ge-HEAD_LIMIT : goal.returns-then-unread-ge-HEAD_LIMIT
 returns-then-unread-ge-HEAD_LIMIT c = λ more. long_fault c.args.unread.now more c.in-Open.ensures.4 c.if-unread-ge-HEAD_LIMIT.true
