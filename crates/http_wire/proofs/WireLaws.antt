@@ -1,9 +1,11 @@
 -- Where a wire stands.
 use Rattle.std.proofs.Common.{◌≡◌, ◌⊎◌, ℕ, ◌+◌, ◌≤◌, List, [], ◌∷◌, ◌++◌, length, drop, length-drop, refl, sym, ap, ◌∙◌, inl, inr, ⊎_elim, arith, append_assoc, append-nil}
-use Rattle.std.proofs.lemmas.List.{drop-drop, drop-append-le}
-use Rattle.cal_model.specs.Streams.StreamRequests.{Front, request, front, idle, cut}
+use Rattle.std.specs.Prelude.{Bool, ◌↔◌, IsTrue}
+use Rattle.std.proofs.lemmas.List.{drop-drop}
+use Rattle.cal_model.specs.Streams.StreamRequests.{Front, request, fault, front, idle, cut}
 use Rattle.http_wire.specs.declared.stage.Stage.{Stage}
-use Rattle.http_wire.specs.declared.stage.Stage.TheVariants.{Head, Body}
+use Rattle.http_wire.specs.declared.stage.Stage.TheVariants.{Head, Body, Failed}
+use Rattle.cal_model.specs.declared.wire.WireFault.{WireFault}
 use Rattle.cal_model.specs.declared.wire.WireRequest.{WireRequest}
 use Rattle.http_wire.specs.declared.part.Part.{Part}
 use Rattle.http_wire.specs.declared.wire.Wire.{Wire}
@@ -44,3 +46,27 @@ answers_are_read NoMemory octets old new h s = λ more. s more ∙ h more
 
 pub pieces_are_taken : PiecesAreTaken
 pieces_are_taken octets piece old new t s = λ more. ap front (append_assoc octets piece more) ∙ s (piece ++ more) ∙ t more
+
+pub idle_reads : (octets : List ℕ) (wire : Wire) (answer : Bool) → Stands octets wire → (IsTrue answer ↔ (wire_front wire [] ≡ idle)) → (IsTrue answer ↔ (front octets ≡ idle))
+idle_reads octets wire answer s h =
+    let here = ap front (sym (append-nil octets)) ∙ s [] in
+    (λ t. here ∙ h.0 t, λ e. h.1 (sym here ∙ e))
+
+-- The answers in front of a head, and at a fault
+
+pub faults : (octets : List ℕ) (wire : Wire) (why : WireFault) → Stands octets wire → ((more : List ℕ) → wire_front wire more ≡ fault why) → (front octets ≡ fault why) × ((more : List ℕ) → front (octets ++ more) ≡ fault why)
+faults octets wire why s h = (ap front (sym (append-nil octets)) ∙ s [] ∙ h [], λ more. s more ∙ h more)
+
+pub stays_failed : (octets : List ℕ) (wire : Wire) (why : WireFault) → Stands octets wire → Failed why ≡ wire.stage → (front octets ≡ fault why) × ((more : List ℕ) → front (octets ++ more) ≡ fault why)
+stays_failed octets wire why s is = faults octets wire why s (λ more. ap (λ stage. front_of stage (drop wire.at wire.octets ++ more)) (sym is))
+
+pub head_front : (wire : Wire) (unread more : List ℕ) → Head ≡ wire.stage → unread ≡ drop wire.at wire.octets → wire_front wire more ≡ front (unread ++ more)
+head_front wire unread more is there = ap (λ stage. front_of stage (drop wire.at wire.octets ++ more)) (sym is) ∙ ap (λ l. front (l ++ more)) (sym there)
+
+pub head_faults : (octets unread : List ℕ) (wire : Wire) (why : WireFault) → Stands octets wire → Head ≡ wire.stage → unread ≡ drop wire.at wire.octets → ((more : List ℕ) → front (unread ++ more) ≡ fault why) → (front octets ≡ fault why) × ((more : List ℕ) → front (octets ++ more) ≡ fault why)
+head_faults octets unread wire why s is there h = faults octets wire why s (λ more. head_front wire unread more is there ∙ h more)
+
+pub head_needs : (octets unread : List ℕ) (wire : Wire) → Stands octets wire → Head ≡ wire.stage → unread ≡ drop wire.at wire.octets → (front unread ≡ idle) ⊎ (front unread ≡ cut) → (front octets ≡ idle) ⊎ (front octets ≡ cut)
+head_needs octets unread wire s is there h =
+    let here = ap front (sym (append-nil octets)) ∙ s [] ∙ head_front wire unread [] is there ∙ ap front (append-nil unread) in
+    ⊎_elim (λ a. inl (here ∙ a)) (λ b. inr (here ∙ b)) h
