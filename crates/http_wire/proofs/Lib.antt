@@ -1,3 +1,4 @@
+pub mod Appends
 pub mod HeadBlocks
 pub mod Framings
 pub mod FieldSteps

@@ -12,7 +12,7 @@ use Rattle.http_wire.specs.declared.wire.Wire.{Wire}
 use Rattle.http_wire.specs.declared.wire.Next.{Next}
 use Rattle.http_wire.specs.declared.wire.Next.TheVariants.{Request, Need, Fault, NoMemory}
 use Rattle.http_wire.specs.WireStates.{front_of}
-use Rattle.http_wire.specs.Wires.{wire_front, Stands, Leads, AnswersAreRead, PiecesAreTaken}
+use Rattle.http_wire.specs.Wires.{wire_front, Stands, Leads, NextIs}
 
 pub head_stands : (stage : Stage) (at n new_at : ℕ) (octets new_octets : List ℕ) → stage ≡ Head → new_at ≡ at + n → new_octets ≡ octets → (more : List ℕ) → front (drop n (drop at octets) ++ more) ≡ front_of stage (drop new_at new_octets ++ more)
 head_stands stage at n new_at octets new_octets is place same more =
@@ -36,16 +36,13 @@ head_begins stage at n new_at octets new_octets unread r part is there place sam
     ∙ ap (λ k. front_of (Body r part) (drop k octets ++ more)) (sym place)
     ∙ ap (λ l. front_of (Body r part) (drop new_at l ++ more)) (sym same)
 
-pub answers_are_read : AnswersAreRead
+pub answers_are_read : (answer : Next) (octets : List ℕ) (old new : Wire) → Leads answer (wire_front old) new → Stands octets old → NextIs answer octets new
 answers_are_read (Request r) octets old new h s = (h.0, ap front (sym (append-nil octets)) ∙ s [] ∙ h.1 [] ∙ ap (request r) (append-nil h.0), h.2)
 answers_are_read Need octets old new h s =
     let here = ap front (sym (append-nil octets)) ∙ s [] in
     (⊎_elim (λ a. inl (here ∙ a)) (λ b. inr (here ∙ b)) h.0, λ more. s more ∙ h.1 more)
 answers_are_read (Fault why) octets old new h s = (ap front (sym (append-nil octets)) ∙ s [] ∙ h.0 [], λ more. s more ∙ h.0 more ∙ sym (h.1 more))
 answers_are_read NoMemory octets old new h s = λ more. s more ∙ h more
-
-pub pieces_are_taken : PiecesAreTaken
-pieces_are_taken octets piece old new t s = λ more. ap front (append_assoc octets piece more) ∙ s (piece ++ more) ∙ t more
 
 pub idle_reads : (octets : List ℕ) (wire : Wire) (answer : Bool) → Stands octets wire → (IsTrue answer ↔ (wire_front wire [] ≡ idle)) → (IsTrue answer ↔ (front octets ≡ idle))
 idle_reads octets wire answer s h =

@@ -1,4 +1,6 @@
 -- What a wire says of its stream.
+-- Given: a wire, and the octets of its stream behind the last request that it gave. Gives: what its next answer says of them, and which octets are left behind it.
+-- A wire lets octets go that it does not need any more, so no octets of its own are those that are left: it stands in front of them where it goes on as they do, whatever follows.
 use Rattle.std.specs.Prelude.{◌≡◌, ◌⊎◌, ℕ, List, [], ◌++◌, drop}
 use Rattle.cal_model.specs.Streams.StreamRequests.{Front, request, fault, idle, cut, front, Begins}
 use Rattle.http_wire.specs.declared.wire.Wire.{Wire}
@@ -14,27 +16,17 @@ wire_front wire more = front_of wire.stage (drop wire.at wire.octets ++ more)
 abbrev pub Stands : List ℕ → Wire → Type 0
 Stands octets wire = (more : List ℕ) → front (octets ++ more) ≡ wire_front wire more
 
--- an answer to what stands at the front, whatever follows, and the wire that it leaves
-abbrev pub Leads : Next → (List ℕ → Front) → Wire → Type 0
-Leads (Request r) stands wire =
-    (rest : List ℕ) × ((more : List ℕ) → stands more ≡ request r (rest ++ more)) × Stands rest wire
-Leads Need stands wire = ((stands [] ≡ idle) ⊎ (stands [] ≡ cut)) × ((more : List ℕ) → stands more ≡ wire_front wire more)
-Leads (Fault why) stands wire = ((more : List ℕ) → stands more ≡ fault why) × ((more : List ℕ) → wire_front wire more ≡ fault why)
-Leads NoMemory stands wire = (more : List ℕ) → stands more ≡ wire_front wire more
-
--- a wire with this piece behind what came
-abbrev pub Takes : Wire → List ℕ → Wire → Type 0
-Takes wire piece next = (more : List ℕ) → wire_front wire (piece ++ more) ≡ wire_front next more
-
--- an answer where these octets are what is left of the stream, and the wire that it leaves
+-- The answer where these octets are what is left of the stream, and the wire that it leaves: the request at their front and what is left behind it; that no request is whole yet; or the fault, which each later answer gives again, since nothing that follows mends it. Without memory nothing is lost.
 abbrev pub NextIs : Next → List ℕ → Wire → Type 0
 NextIs (Request r) octets wire = (rest : List ℕ) × Begins octets r rest × Stands rest wire
 NextIs Need octets wire = ((front octets ≡ idle) ⊎ (front octets ≡ cut)) × Stands octets wire
 NextIs (Fault why) octets wire = (front octets ≡ fault why) × Stands octets wire
 NextIs NoMemory octets wire = Stands octets wire
 
-abbrev pub AnswersAreRead : Type 0
-AnswersAreRead = (answer : Next) (octets : List ℕ) (old new : Wire) → Leads answer (wire_front old) new → Stands octets old → NextIs answer octets new
-
-abbrev pub PiecesAreTaken : Type 0
-PiecesAreTaken = (octets piece : List ℕ) (old new : Wire) → Takes old piece new → Stands octets old → Stands (octets ++ piece) new
+-- the same of a wire alone, by what stands at its front, whatever follows
+abbrev pub Leads : Next → (List ℕ → Front) → Wire → Type 0
+Leads (Request r) stands wire =
+    (rest : List ℕ) × ((more : List ℕ) → stands more ≡ request r (rest ++ more)) × Stands rest wire
+Leads Need stands wire = ((stands [] ≡ idle) ⊎ (stands [] ≡ cut)) × ((more : List ℕ) → stands more ≡ wire_front wire more)
+Leads (Fault why) stands wire = ((more : List ℕ) → stands more ≡ fault why) × ((more : List ℕ) → wire_front wire more ≡ fault why)
+Leads NoMemory stands wire = (more : List ℕ) → stands more ≡ wire_front wire more

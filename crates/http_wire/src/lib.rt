@@ -13,11 +13,14 @@ mod head;
 mod head_search;
 mod laws;
 mod part;
+mod reason;
 mod request;
+mod response;
 mod search;
 mod stage;
 mod wire;
 
 pub use cal_model::{WireFault, WireRequest};
+pub use response::write_response;
 pub use wire::{Next, Wire};
 
