@@ -1,5 +1,5 @@
 -- How a head is begun.
-use Rattle.std.proofs.Common.{◌≡◌, ◌⊎◌, inl, inr, ℕ, suc, ◌+◌, ◌-◌, ◌≤◌, ◌<◌, Bool, true, false, cond, ◌==◌, List, [], ◌∷◌, ◌++◌, length, take, drop, Option, Some, None, Ok, Err, refl, sym, ap, subst, ◌∙◌, arith, ⊎_elim, length-append}
+use Rattle.std.proofs.Common.{◌≡◌, ◌⊎◌, inl, inr, ℕ, ◌≤◌, ◌<◌, true, false, List, [], ◌++◌, length, take, drop, Some, None, Ok, Err, refl, sym, ap, ◌∙◌, arith, ⊎_elim}
 use Rattle.std.specs.Prelude.{nat_le}
 use Rattle.std.proofs.lemmas.Bool.Decides.{nat_tests}
 use Rattle.std.proofs.lemmas.List.{take-append-le, drop-append-le}
@@ -12,15 +12,14 @@ use Rattle.cal_model.specs.Streams.WireLimits.{head_limit}
 use Rattle.cal_model.specs.Streams.Heads.{without_empty_lines, head_size}
 use Rattle.cal_model.specs.Streams.HeadFields.{read_head, Framing, sized, chunked, framing_of, wire_request}
 use Rattle.cal_model.specs.Streams.Chunks.{Chunked, whole, unfinished, faulty, with_front, chunked_body}
-use Rattle.cal_model.specs.Streams.StreamRequests.{Front, request, fault, idle, cut, with_length, with_chunks, with_body, with_head, without_head, at_head, front}
+use Rattle.cal_model.specs.Streams.StreamRequests.{fault, idle, cut, with_length, with_chunks, with_body, with_head, without_head, at_head, front}
 use Rattle.cal_model.proofs.Streams.StreamFronts.{bool_cases}
 use Rattle.cal_model.proofs.Streams.StreamHeads.{head_size-append}
 use Rattle.cal_model.proofs.Streams.FrontLaws.{faults_stay}
-use Rattle.cal_model.proofs.Streams.ChunkFronts.{le_cases}
 use Rattle.http_wire.specs.declared.part.Part.{Part}
 use Rattle.http_wire.specs.BodyParts.{sized_reads, reads}
 use Rattle.http_wire.specs.HeadReading.{first_part}
-use Rattle.http_wire.specs.WireStates.{with_chunked, with_octets}
+use Rattle.http_wire.specs.WireStates.{with_chunked}
 
 pub front_some : (o : List ℕ) (n : ℕ) → head_size o ≡ Some n → front o ≡ at_head n o
 unfolding front

@@ -1,17 +1,14 @@
 -- The steps of reading a body.
 use Rattle.std.proofs.Common.{◌≡◌, ℕ, zero, suc, ◌+◌, ◌-◌, ◌≤◌, ◌<◌, Bool, true, false, ◌==◌, ◌&&◌, List, [], ◌∷◌, ◌++◌, length, take, drop, Option, Some, None, refl, sym, ap, ◌∙◌, arith, ⊎_elim, append_assoc, append-nil, length-append}
-use Rattle.std.specs.Prelude.{option_map, nat_le, slice_index, codes}
+use Rattle.std.specs.Prelude.{nat_le, slice_index}
 use Rattle.std.proofs.lemmas.Bool.Decides.{nat_tests}
-use Rattle.std.proofs.lemmas.List.{take-append-le, drop-append-le, take_all, drop_all, take-append-drop}
+use Rattle.std.proofs.lemmas.List.{take-append-le, drop-append-le, drop_all, take-append-drop}
 use Rattle.cal_base.specs.Texts.Octets.{line_feed, carriage_return}
-use Rattle.cal_model.specs.declared.wire.WireFault.{WireFault}
 use Rattle.cal_model.specs.declared.wire.WireFault.TheVariants.{BadChunk}
-use Rattle.cal_model.specs.Streams.WireLimits.{head_limit}
-use Rattle.cal_model.specs.Streams.Heads.{head_end}
 use Rattle.cal_model.specs.Streams.Chunks.{Chunked, whole, unfinished, faulty, with_front, behind_data, chunks_behind}
-use Rattle.cal_model.proofs.Streams.StreamFronts.{bool_cases, option_cases, none_some}
+use Rattle.cal_model.proofs.Streams.StreamFronts.{bool_cases}
 use Rattle.cal_model.proofs.Streams.ChunkFronts.{le_cases}
-use Rattle.http_wire.specs.BodyParts.{sized_reads, data_reads, trailer_reads}
+use Rattle.http_wire.specs.BodyParts.{sized_reads, data_reads}
 
 pub with_front_twice : (a b : List ℕ) (c : Chunked) → with_front a (with_front b c) ≡ with_front (a ++ b) c
 with_front_twice a b (whole body rest) = ap (λ l. whole l rest) (sym (append_assoc a b body))

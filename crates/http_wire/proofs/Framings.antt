@@ -1,5 +1,5 @@
 -- What the fields of a head say of its body, and its request, by the values under each name.
-use Rattle.std.proofs.Common.{◌≡◌, ℕ, ◌+◌, ◌≤◌, ◌<◌, Bool, true, false, cond, ◌==◌, ◌||◌, ◌&&◌, not, List, [], ◌∷◌, length, map, Option, Some, None, Result, Ok, Err, refl, sym, ap, ◌∙◌, arith, ⊎_elim}
+use Rattle.std.proofs.Common.{◌≡◌, ℕ, ◌≤◌, Bool, true, false, cond, ◌==◌, ◌||◌, ◌&&◌, not, List, [], ◌∷◌, length, map, Option, Some, None, Result, Ok, Err, refl, sym, ap, ◌∙◌, arith, ⊎_elim}
 use Rattle.std.specs.Prelude.{bytes_eq, codes, filter, nat_lt, is_some, slice_get, option_and_then, unwrap_or}
 use Rattle.std.specs.List.{list_any}
 use Rattle.std.specs.Str.{str_eq_ignore_ascii_case}
@@ -10,15 +10,15 @@ use Rattle.cal_model.specs.declared.wire.WireFault.{WireFault}
 use Rattle.cal_model.specs.declared.wire.WireFault.TheVariants.{BadHead, BodyTooLong}
 use Rattle.cal_model.specs.Words.Lists.{is_empty}
 use Rattle.cal_model.specs.Streams.WireLimits.{body_limit}
-use Rattle.cal_model.specs.Streams.HeadFields.{values, value_of, Framing, sized, chunked, framing_of, length_of, single_fields, is_repeated, is_contradictory, is_too_long, wire_request}
-use Rattle.cal_model.proofs.Streams.StreamFronts.{bool_cases, option_cases}
+use Rattle.cal_model.specs.Streams.HeadFields.{values, Framing, sized, chunked, framing_of, length_of, single_fields, is_repeated, is_too_long, wire_request}
+use Rattle.cal_model.proofs.Streams.StreamFronts.{bool_cases}
 use Rattle.cal_model.specs.declared.wire.WireRequest.{WireRequest}
 use Rattle.cal_model.specs.Streams.HeadFields.{names_close, joined}
 use Rattle.http_wire.specs.declared.fields.Fields.{Fields}
 use Rattle.http_wire.specs.declared.request.Line.{Line as RequestLine}
 use Rattle.http_wire.specs.declared.part.Part.TheVariants.{Sized, Line}
 use Rattle.http_wire.specs.FieldTexts.{values_named, shown_fields, values_of, is_several, coding_among}
-use Rattle.http_wire.specs.HeadReading.{judged, framed, sized_part, first_part, FramingReads, IsHeadOf}
+use Rattle.http_wire.specs.HeadReading.{judged, framed, first_part, FramingReads, IsHeadOf}
 
 -- the values under a name are those of the fields, by their names and values
 values_are : (name : List ℕ) (fields : List Field) → map field_value (filter (λ (field : Field). str_eq_ignore_ascii_case field.name name) fields) ≡ values_named name (map name_and_value fields)

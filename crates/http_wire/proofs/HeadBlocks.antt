@@ -1,5 +1,5 @@
 -- Which blocks are heads, by what the library finds in them.
-use Rattle.std.proofs.Common.{◌≡◌, ◌≢◌, ℕ, ◌+◌, ◌-◌, ◌≤◌, ◌<◌, Bool, true, false, cond, ◌==◌, List, [], ◌∷◌, ◌++◌, length, length-drop, drop, Option, Some, None, Result, Ok, Err, refl, sym, ap, ◌∙◌, arith, ⊎_elim, append_assoc, append-nil, length-append}
+use Rattle.std.proofs.Common.{◌≡◌, ◌≢◌, ℕ, ◌+◌, ◌≤◌, ◌<◌, true, false, cond, ◌==◌, List, [], ◌∷◌, ◌++◌, length, length-drop, Option, Some, None, Result, Err, refl, sym, ap, ◌∙◌, arith, ⊎_elim, append_assoc, append-nil}
 use Rattle.std.specs.Prelude.{count_by, nat_lt}
 use Rattle.std.specs.List.{flat_map}
 use Rattle.std.proofs.lemmas.Bool.Decides.{nat_tests}
@@ -15,7 +15,7 @@ use Rattle.cal_model.specs.declared.wire.WireFault.{WireFault}
 use Rattle.cal_model.specs.declared.wire.WireFault.TheVariants.{BadHead, HeadTooLong, Version}
 use Rattle.cal_model.specs.Streams.WireLimits.{field_limit}
 use Rattle.cal_model.specs.Streams.Heads.{without_empty_lines, head_of}
-use Rattle.cal_model.specs.Streams.HeadFields.{field_lines, first_line, names_other_version, is_contradictory, is_too_long, framing_of, read_head}
+use Rattle.cal_model.specs.Streams.HeadFields.{field_lines, first_line, names_other_version, read_head}
 use Rattle.cal_model.proofs.Streams.StreamFronts.{bool_cases, option_cases, skips_lf, skips_crlf}
 use Rattle.cal_model.proofs.Streams.StreamHeads.{without_empty_lines-within}
 use Rattle.cal_model.proofs.Streams.HeadLaws.{heads_are_the_grammar, length-pieces, return_end}

@@ -1,11 +1,10 @@
 -- The search for the end of a head.
-use Rattle.std.proofs.Common.{◌≡◌, ℕ, zero, suc, ◌+◌, ◌-◌, ◌≤◌, ◌<◌, Bool, true, false, ◌==◌, ◌&&◌, List, [], ◌∷◌, ◌++◌, length, take, drop, length-drop, Option, Some, None, refl, sym, ap, subst, ◌∙◌, arith, ⊎_elim, append_assoc, append-nil, length-append}
+use Rattle.std.proofs.Common.{◌≡◌, ℕ, suc, ◌+◌, ◌-◌, ◌≤◌, true, ◌==◌, ◌&&◌, List, [], ◌∷◌, ◌++◌, length, take, drop, length-drop, Option, Some, None, refl, sym, ap, ◌∙◌, arith, ⊎_elim, append-nil}
 use Rattle.std.specs.Prelude.{option_map}
-use Rattle.std.proofs.lemmas.Option.{same_Some}
-use Rattle.std.proofs.lemmas.List.{drop-drop, drop-append-le}
+use Rattle.std.proofs.lemmas.List.{drop-drop}
 use Rattle.cal_base.specs.Texts.Octets.{line_feed, carriage_return}
 use Rattle.cal_model.specs.Streams.Heads.{head_end, without_empty_lines, head_size}
-use Rattle.cal_model.proofs.Streams.StreamFronts.{bool_cases, option_cases, none_some, suc_some, head_end_nil, head_end_short, skips_lf, skips_crlf, skips_none}
+use Rattle.cal_model.proofs.Streams.StreamFronts.{bool_cases, none_some, head_end_nil, head_end_short, skips_lf, skips_crlf, skips_none}
 use Rattle.cal_model.proofs.Streams.StreamHeads.{without_empty_lines-within}
 use Rattle.cal_model.proofs.Streams.ChunkFronts.{head_end-least}
 use Rattle.cal_model.proofs.Streams.ChunkSteps.{head_end-resume}

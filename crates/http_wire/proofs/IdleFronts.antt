@@ -1,5 +1,5 @@
 -- Where nothing but empty lines stands.
-use Rattle.std.proofs.Common.{◌≡◌, ◌⊎◌, inl, inr, ℕ, ◌+◌, ◌-◌, ◌≤◌, ◌<◌, Bool, true, false, cond, ◌==◌, List, [], ◌∷◌, ◌++◌, length, take, drop, Option, Some, None, Result, Ok, Err, refl, sym, ap, ◌∙◌, arith, ⊎_elim, append-nil}
+use Rattle.std.proofs.Common.{◌≡◌, ℕ, ◌<◌, false, cond, ◌==◌, List, [], ◌∷◌, length, take, drop, Result, Ok, Err, refl, sym, ap, ◌∙◌, arith, ⊎_elim, append-nil}
 use Rattle.std.specs.Prelude.{nat_le}
 use Rattle.std.proofs.lemmas.Bool.Decides.{nat_tests}
 use Rattle.httparse.specs.Grammar.{RequestHead}
@@ -9,7 +9,7 @@ use Rattle.cal_model.specs.Streams.WireLimits.{head_limit}
 use Rattle.cal_model.specs.Streams.Heads.{head_end, without_empty_lines, head_size}
 use Rattle.cal_model.specs.Streams.HeadFields.{read_head, Framing, sized, chunked, framing_of}
 use Rattle.cal_model.specs.Streams.Chunks.{Chunked, whole, unfinished, faulty, chunked_body}
-use Rattle.cal_model.specs.Streams.StreamRequests.{Front, idle, cut, with_length, with_chunks, with_body, with_head, without_head, at_head, front}
+use Rattle.cal_model.specs.Streams.StreamRequests.{idle, cut, with_length, with_chunks, with_body, with_head, at_head, front}
 use Rattle.cal_model.proofs.Streams.StreamFronts.{bool_cases, option_cases, head_end_nil}
 use Rattle.cal_model.proofs.Streams.ChunkFronts.{le_cases}
 use Rattle.http_wire.specs.HeadSearch.{Skipped}

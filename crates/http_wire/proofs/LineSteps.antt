@@ -1,20 +1,17 @@
 -- The steps at a chunk line, and in a trailer.
-use Rattle.std.proofs.Common.{◌≡◌, ℕ, zero, suc, ◌+◌, ◌-◌, ◌≤◌, ◌<◌, Bool, true, false, cond, ◌==◌, List, [], ◌∷◌, ◌++◌, length, take, drop, length-drop, Option, Some, None, refl, sym, ap, subst, ◌∙◌, arith, ⊎_elim, append_assoc, append-nil, length-append}
-use Rattle.std.specs.Prelude.{option_map, nat_le, nat_lt, codes}
+use Rattle.std.proofs.Common.{◌≡◌, ℕ, suc, ◌+◌, ◌-◌, ◌≤◌, ◌<◌, true, false, cond, ◌==◌, List, [], ◌∷◌, ◌++◌, length, drop, Option, Some, None, refl, sym, ap, subst, ◌∙◌, arith, ⊎_elim, append_assoc, length-append}
+use Rattle.std.specs.Prelude.{option_map, nat_le, nat_lt}
 use Rattle.std.proofs.lemmas.Bool.Decides.{nat_tests}
-use Rattle.std.proofs.lemmas.Option.{same_Some}
-use Rattle.std.proofs.lemmas.List.{drop_at, drop-drop, drop-append-le, drop_all}
+use Rattle.std.proofs.lemmas.List.{drop_at, drop-drop, drop-append-le}
 use Rattle.cal_model.specs.declared.wire.WireFault.TheVariants.{BodyTooLong, BadChunk}
 use Rattle.cal_model.specs.Streams.WireLimits.{head_limit, body_limit}
 use Rattle.cal_model.specs.Streams.Heads.{head_end}
-use Rattle.cal_model.specs.Streams.Chunks.{Chunked, whole, unfinished, faulty, with_front, begins_trailer, trailer_size, behind_last, behind_data, behind_line, chunks_behind}
+use Rattle.cal_model.specs.Streams.Chunks.{Chunked, whole, unfinished, faulty, with_front, begins_trailer, trailer_size, behind_last, behind_line, chunks_behind}
 use Rattle.cal_model.specs.Streams.ChunkGrammar.{WrittenLine, line_text, IsLineOf}
-use Rattle.cal_model.proofs.Streams.StreamFronts.{bool_cases, option_cases, none_some, suc_some, head_end-append, head_end-within}
-use Rattle.cal_model.proofs.Streams.FrontLaws.{head_end-front}
-use Rattle.cal_model.proofs.Streams.ChunkFronts.{le_cases, trailer_as_head, trailer_ends, trailer_goes_on, begins_within, begins_none, head_end-sooner}
+use Rattle.cal_model.proofs.Streams.ChunkFronts.{le_cases, trailer_as_head, trailer_ends, trailer_goes_on, begins_within, begins_none}
 use Rattle.cal_model.proofs.Streams.ChunkLines.{text_of}
 use Rattle.cal_model.proofs.Streams.ChunkBodies.{begun, line_some, at_written, skipped}
-use Rattle.cal_model.proofs.Streams.ChunkSteps.{chunk_over, head_end-resume}
+use Rattle.cal_model.proofs.Streams.ChunkSteps.{chunk_over}
 use Rattle.http_wire.specs.BodyParts.{data_reads, trailer_reads}
 
 -- The line of a chunk that has octets

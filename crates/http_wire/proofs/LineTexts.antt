@@ -1,10 +1,9 @@
 -- What the octets at a chunk line are, by those of them that a line can have.
-use Rattle.std.proofs.Common.{◌≡◌, ◌≢◌, ◌⊎◌, inl, inr, ℕ, suc, ◌+◌, ◌-◌, ◌≤◌, ◌<◌, Bool, true, false, cond, ◌==◌, ◌&&◌, List, [], ◌∷◌, ◌++◌, length, take, drop, Option, Some, None, refl, sym, ap, subst, ◌∙◌, arith, ⊎_elim, append_assoc, append-nil, length-append}
+use Rattle.std.proofs.Common.{◌≡◌, ◌≢◌, ℕ, suc, ◌-◌, ◌≤◌, ◌<◌, Bool, true, false, cond, ◌==◌, ◌&&◌, List, [], ◌∷◌, ◌++◌, length, take, drop, Option, Some, None, refl, sym, ap, ◌∙◌, arith, ⊎_elim, append_assoc, length-append}
 use Rattle.std.specs.Prelude.{nat_le, is_some, option_map, option_and_then, MatchOption}
 use Rattle.std.specs.List.{list_all}
 use Rattle.std.proofs.lemmas.Bool.{false≢true}
 use Rattle.std.proofs.lemmas.Bool.Decides.{nat_tests}
-use Rattle.std.proofs.lemmas.Option.{same_Some}
 use Rattle.std.specs.Borrow.{Bor}
 use Rattle.std.proofs.Math.Seq.{take-append_seam}
 use Rattle.std.proofs.lemmas.List.{take_all, take-append-le, take-append-drop, length-take, length-take-le}
@@ -14,9 +13,9 @@ use Rattle.cal_base.specs.Texts.Octets.{line_feed}
 use Rattle.cal_model.specs.declared.wire.WireFault.TheVariants.{BadChunk}
 use Rattle.cal_model.specs.Streams.WireLimits.{chunk_line_limit}
 use Rattle.cal_model.specs.Streams.Chunks.{Chunked, unfinished, faulty, before_break, before_extension, begins_chunk_line, chunk_size, size_of, text_size, is_broken, line_size, first_line_text, chunks_behind}
-use Rattle.cal_model.specs.Streams.ChunkGrammar.{WrittenLine, line_text, IsLineOf}
+use Rattle.cal_model.specs.Streams.ChunkGrammar.{WrittenLine, line_text}
 use Rattle.cal_model.proofs.Streams.StreamFronts.{bool_cases, option_cases, none_some}
-use Rattle.cal_model.proofs.Streams.ChunkFronts.{le_cases, line_size-append, line_text_here, line_text_later, line_size_here, line_size_later, at_line_none, at_chunk_broken, at_chunk_none, at_chunk_some}
+use Rattle.cal_model.proofs.Streams.ChunkFronts.{line_size-append, line_text_later, line_size_here, line_size_later, at_line_none, at_chunk_broken, at_chunk_none, at_chunk_some}
 use Rattle.cal_model.proofs.Streams.ChunkLines.{text_of, break_back, break_is, split_at, text_front, whole_text, line_sized, begins_empty, begins_text, begins_return, lines_are_the_grammar}
 use Rattle.cal_model.proofs.Streams.ChunkBodies.{begun, nothing_there}
 use Rattle.cal_model.proofs.Streams.ChunkEnds.{no_feed, line_feeds}

@@ -1,14 +1,14 @@
 -- The steps in a trailer.
-use Rattle.std.proofs.Common.{◌≡◌, ℕ, zero, suc, ◌+◌, ◌-◌, ◌≤◌, ◌<◌, Bool, true, false, cond, ◌==◌, ◌&&◌, List, [], ◌∷◌, ◌++◌, length, take, drop, length-drop, Option, Some, None, refl, sym, ap, subst, ◌∙◌, arith, ⊎_elim, append_assoc, append-nil, length-append}
+use Rattle.std.proofs.Common.{◌≡◌, ℕ, suc, ◌+◌, ◌-◌, ◌≤◌, ◌<◌, Bool, true, false, cond, ◌==◌, List, [], ◌∷◌, ◌++◌, length, drop, length-drop, Option, Some, None, refl, sym, ap, ◌∙◌, arith, ⊎_elim, append_assoc, append-nil}
 use Rattle.std.specs.Prelude.{option_map, nat_le}
 use Rattle.std.proofs.lemmas.Bool.Decides.{nat_tests}
 use Rattle.std.proofs.lemmas.Option.{same_Some}
 use Rattle.std.proofs.lemmas.List.{drop-drop, drop-append-le}
 use Rattle.cal_model.specs.declared.wire.WireFault.TheVariants.{BadChunk}
 use Rattle.cal_model.specs.Streams.WireLimits.{head_limit}
-use Rattle.cal_model.specs.Streams.Heads.{empty_line, ends_here, head_end}
+use Rattle.cal_model.specs.Streams.Heads.{empty_line, head_end}
 use Rattle.cal_model.specs.Streams.Chunks.{Chunked, whole, unfinished, faulty, with_front}
-use Rattle.cal_model.proofs.Streams.StreamFronts.{bool_cases, option_cases, none_some, suc_some, head_end-append, head_end_found, head_end_later, head_end_nil}
+use Rattle.cal_model.proofs.Streams.StreamFronts.{bool_cases, option_cases, none_some, head_end-append, head_end_found, head_end_later}
 use Rattle.cal_model.proofs.Streams.ChunkFronts.{le_cases, head_end-sooner}
 use Rattle.cal_model.proofs.Streams.ChunkSteps.{head_end-resume}
 use Rattle.http_wire.specs.BodyParts.{trailer_reads, closing}

@@ -1,5 +1,5 @@
 -- Where a wire stands.
-use Rattle.std.proofs.Common.{◌≡◌, ◌⊎◌, ℕ, ◌+◌, ◌≤◌, List, [], ◌∷◌, ◌++◌, length, drop, length-drop, refl, sym, ap, ◌∙◌, inl, inr, ⊎_elim, arith, append_assoc, append-nil}
+use Rattle.std.proofs.Common.{◌≡◌, ◌⊎◌, ℕ, ◌+◌, List, [], ◌++◌, drop, sym, ap, ◌∙◌, inl, inr, ⊎_elim, append-nil}
 use Rattle.std.specs.Prelude.{Bool, ◌↔◌, IsTrue}
 use Rattle.std.proofs.lemmas.List.{drop-drop}
 use Rattle.cal_model.specs.Streams.StreamRequests.{Front, request, fault, front, idle, cut}

@@ -1,6 +1,5 @@
 -- What is still to be read of a body: for each part that can stand next, the body that some octets then give.
-use Rattle.std.specs.Prelude.{◌≡◌, ℕ, zero, ◌+◌, ◌-◌, ◌≤◌, ◌<◌, ◌==◌, ◌||◌, ◌&&◌, nat_le, if◌then◌else◌, List, [], ◌∷◌, ◌++◌, length, take, drop, codes, Some, None}
-use Rattle.cal_model.specs.declared.wire.WireFault.{WireFault}
+use Rattle.std.specs.Prelude.{◌≡◌, ℕ, ◌+◌, ◌≤◌, ◌<◌, ◌==◌, ◌||◌, ◌&&◌, nat_le, if◌then◌else◌, List, [], ◌∷◌, ◌++◌, length, take, drop, codes, Some, None}
 use Rattle.cal_model.specs.declared.wire.WireFault.TheVariants.{BadChunk}
 use Rattle.cal_model.specs.Streams.WireLimits.{head_limit}
 use Rattle.cal_model.specs.Streams.Heads.{head_end}

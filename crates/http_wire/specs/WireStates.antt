@@ -1,10 +1,8 @@
 -- What stands at the front of a stream, as a state of the reading sees it.
-use Rattle.std.specs.Prelude.{◌≡◌, ◌⊎◌, ℕ, ◌+◌, ◌-◌, ◌≤◌, List, [], ◌++◌, length, take, drop}
-use Rattle.cal_model.specs.declared.wire.WireFault.{WireFault}
+use Rattle.std.specs.Prelude.{◌≡◌, ◌⊎◌, ℕ, ◌≤◌, List, ◌++◌, length, drop}
 use Rattle.cal_model.specs.declared.wire.WireRequest.{WireRequest}
 use Rattle.cal_model.specs.Streams.Chunks.{Chunked, whole, unfinished, faulty}
 use Rattle.cal_model.specs.Streams.StreamRequests.{Front, request, fault, idle, cut, front}
-use Rattle.http_wire.specs.declared.part.Part.{Part}
 use Rattle.http_wire.specs.declared.stage.Stage.{Stage}
 use Rattle.http_wire.specs.declared.stage.Stage.TheVariants.{Head, Body, Failed}
 use Rattle.http_wire.specs.declared.stage.Gone.{Gone}

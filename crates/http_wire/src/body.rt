@@ -4,13 +4,11 @@ ghost use Rattle.http_wire.specs.BodyParts.{StepReads, Progressed, closing};
 
 use crate::chunk_line::{ChunkLine, read_chunk_line};
 use crate::cuts::{behind, front};
+use crate::limits::BODY_LIMIT;
 use crate::part::Part;
 use crate::search::head_end;
 use cal_base::Octets;
 use cal_model::WireFault;
-
-/// The most octets of a body.
-const BODY_LIMIT: usize = 1_048_576;
 
 /// The most octets of a trailer, and the line feed in front of it.
 const TRAILER_LIMIT: usize = 16_385;
@@ -134,7 +132,10 @@ fn trailer_step(seen: usize, body: &Octets, octets: &[u8]) -> Step
             let done = octets.len().saturating_sub(2);
             let tail = behind(octets, done);
             let n = tail.len() + to_end(tail);
-            if seen > TRAILER_LIMIT || done > TRAILER_LIMIT - seen || n > TRAILER_LIMIT - seen - done {
+            if seen > TRAILER_LIMIT
+                || done > TRAILER_LIMIT - seen
+                || n > TRAILER_LIMIT - seen - done
+            {
                 return Step::Fault(WireFault::BadChunk);
             }
             Step::Need(Part::Trailer { seen: seen + done }, done)
@@ -149,13 +150,7 @@ fn to_end(tail: &[u8]) -> usize
 {
     match tail {
         [] => 2,
-        [b] => {
-            if *b == b'\n' {
-                1
-            } else {
-                2
-            }
-        }
+        [b] => { if *b == b'\n' { 1 } else { 2 } }
         [b, c, ..] => {
             if *c == b'\n' || (*b == b'\n' && *c == b'\r') {
                 1

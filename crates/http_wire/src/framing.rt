@@ -10,11 +10,9 @@ ghost use Rattle.http_wire.specs.Parts.{text_there};
 
 use crate::digits::number;
 use crate::fields::Fields;
+use crate::limits::BODY_LIMIT;
 use crate::part::Part;
 use cal_model::WireFault;
-
-/// The most octets of a body.
-const BODY_LIMIT: usize = 1_048_576;
 
 /// What stands first in the body, or why the fields of the head are refused.
 pub(crate) fn framing(fields: Fields<'_>) -> Result<Part, WireFault>

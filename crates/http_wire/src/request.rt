@@ -19,7 +19,11 @@ pub(crate) struct Line<'b> {
 }
 
 /// The request of a head, with no body.
-pub(crate) fn request_of(alloc: Global, line: Line<'_>, fields: Fields<'_>) -> Result<WireRequest, NoMemory>
+pub(crate) fn request_of(
+    alloc: Global,
+    line: Line<'_>,
+    fields: Fields<'_>,
+) -> Result<WireRequest, NoMemory>
     ensures { IfOk result (RequestReads line.entry fields.entry) }
 {
     let (method, target) = line_texts(alloc, line)?;

@@ -165,12 +165,7 @@ fn push_content_fields(out: &mut Octets, reply: &Reply, close: bool) -> Result<(
 }
 
 /// Puts the fields of a reply at the end, in their order.
-fn push_fields(
-    out: &mut Octets,
-    reply: &Reply,
-    moment: i64,
-    close: bool,
-) -> Result<(), NoMemory>
+fn push_fields(out: &mut Octets, reply: &Reply, moment: i64, close: bool) -> Result<(), NoMemory>
     requires { IsMoment moment }
     ensures { OnOk result (out.new ≡ out.old ++ fields reply.now moment close) }
 {

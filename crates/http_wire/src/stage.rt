@@ -7,12 +7,10 @@ use crate::body::{Progress, read_on};
 use crate::cuts::{behind, front};
 use crate::head::{HeadRead, read_head};
 use crate::head_search::{Found, search_head};
+use crate::limits::HEAD_LIMIT;
 use crate::part::Part;
 use cal_model::{WireFault, WireRequest};
 use std::alloc::Global;
-
-/// The most octets of a head, with the empty lines before it.
-const HEAD_LIMIT: usize = 16_384;
 
 /// Where the reading stands.
 #[derive(Drop)]

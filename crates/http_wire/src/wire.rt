@@ -1,9 +1,10 @@
-//! The wire.
+//! The reading of a stream.
 ghost use Rattle.std.specs.Prelude.{◌≡◌, ◌≤◌, ◌+◌, ◌↔◌, IsTrue, drop, length};
 ghost use Rattle.cal_model.specs.Streams.StreamRequests.{front, idle};
 ghost use Rattle.http_wire.specs.HeadSearch.{Skipped, Looked};
 
 use crate::cuts::behind;
+use crate::limits::HEAD_LIMIT;
 use crate::part::Part;
 use crate::search::behind_empty_lines;
 use crate::stage::{Begun, Gone, Stage, begin, go_on};
@@ -12,20 +13,21 @@ use cal_model::{WireFault, WireRequest};
 use std::alloc::Global;
 use std::mem;
 
-/// The most octets of a head, with the empty lines before it.
-const HEAD_LIMIT: usize = 16_384;
-
-/// What the next request is.
+/// What stands next on a stream.
 #[derive(Drop)]
 pub enum Next {
+    /// A whole request. It is let go of: behind it the next one stands.
     Request(WireRequest),
-    /// No whole request stands next, and no fault shows.
+    /// No whole request, and no fault: the stream is at its end, or more of it has to be fed.
     Need,
+    /// No request: here the stream goes wrong, and nothing behind it is read. It comes as soon as what
+    /// was fed shows it, and each later call gives it again.
     Fault(WireFault),
+    /// Memory was wanting. Nothing is lost, and the call can be made again.
     NoMemory,
 }
 
-/// The octets of a stream, of which requests are made.
+/// The reading of a stream: it is fed pieces and gives requests, whatever the pieces are.
 #[derive(Drop)]
 pub struct Wire {
     /// What was fed and is not let go yet.
@@ -86,7 +88,7 @@ impl Wire {
         self.at = 0;
     }
 
-    /// The next request.
+    /// What stands next on the stream, by all that was fed.
     pub fn next(&mut self, alloc: Global) -> Next
         ensures { (octets : List ℕ) → Stands octets self.old → NextIs result octets self.new }
     {
@@ -145,8 +147,8 @@ impl Wire {
         }
     }
 
-    /// Whether nothing but empty lines, fewer octets than a head may have, stands behind the last
-    /// request.
+    /// Whether nothing but empty lines stands behind the last request, fewer than 16,384 octets in
+    /// all: a stream that ends there lacks nothing.
     pub fn idle(&self) -> bool
         ensures { (octets : List ℕ) → Stands octets self.now → (IsTrue result ↔ (front octets ≡ idle)) }
     {

@@ -1,7 +1,5 @@
-use Rattle.std.proofs.Common.{length, arith, ap, ◌∙◌, rules, sym}
-use Rattle.std.specs.Prelude.{drop, ◌++◌, ◌-◌}
+use Rattle.std.proofs.Common.{arith, ap}
 use Rattle.cal_model.specs.Streams.Chunks.{with_front}
-use Rattle.http_wire.specs.BodyParts.{sized_reads}
 use Rattle.http_wire.proofs.BodySteps.{sized_goes_on, sized_cut}
 use Rattle.http_wire.proofs.body.sized_step.Goals as goal
 

@@ -1,8 +1,6 @@
-use Rattle.std.proofs.Common.{◌≡◌, ◌+◌, ◌<◌, ◌≤◌, ◌++◌, [], ◌∷◌, Some, length, drop, rules, sym, ap, ◌∙◌, arith, length-drop, subst}
-use Rattle.std.proofs.lemmas.Grind.{common_steps}
+use Rattle.std.proofs.Common.{◌≡◌, ◌+◌, ◌<◌, ◌≤◌, ◌++◌, [], ◌∷◌, Some, length, sym, ap, arith}
 use Rattle.cal_model.specs.Streams.Heads.{head_end}
 use Rattle.cal_model.specs.Streams.Chunks.{with_front}
-use Rattle.http_wire.specs.BodyParts.{closing}
 use Rattle.http_wire.proofs.TrailerSteps.{trailer_found, trailer_late, trailer_cut, trailer_over, closes_all, goes_on_all}
 use Rattle.http_wire.proofs.body.trailer_step.Goals as goal
 use Rattle.http_wire.proofs.body.trailer_step.Goals.{then-n-gt-TRAILER_LIMIT-via-then-n-gt-TRAILER_LIMIT, then-n-gt-TRAILER_LIMIT-via-else-n-gt-TRAILER_LIMIT+then-seen-n, then-seen-gt-TRAILER_LIMIT-via-then-seen-gt-TRAILER_LIMIT, then-seen-gt-TRAILER_LIMIT-via-else-seen-gt-TRAILER_LIMIT+then-done-seen, then-seen-gt-TRAILER_LIMIT-via-else-seen-gt-TRAILER_LIMIT+else-done-seen+then-n-seen}

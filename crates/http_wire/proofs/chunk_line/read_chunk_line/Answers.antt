@@ -1,4 +1,4 @@
-use Rattle.std.proofs.Common.{◌∙◌, ◌≡◌, sym, ap, length, take, arith, Some, None}
+use Rattle.std.proofs.Common.{◌∙◌, sym, ap, length, take, arith}
 use Rattle.std.proofs.lemmas.List.{length-take}
 use Rattle.cal_model.specs.Streams.Chunks.{begins_chunk_line, chunk_size, line_size}
 use Rattle.http_wire.proofs.LineTexts.{whole_line, bad_line, bad_front, cut_front}

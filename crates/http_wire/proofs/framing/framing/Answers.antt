@@ -1,4 +1,4 @@
-use Rattle.std.proofs.Common.{◌∙◌, ◌≡◌, sym, ap, subst}
+use Rattle.std.proofs.Common.{◌∙◌, sym, ap, subst}
 use Rattle.std.specs.Prelude.{codes, slice_get, option_map}
 use Rattle.http_wire.specs.Parts.{text_there}
 use Rattle.http_wire.specs.FieldTexts.{values_of}

@@ -1,6 +1,5 @@
-use Rattle.std.proofs.Common.{◌≡◌, ◌≤◌, ◌<◌, ◌∙◌, ◌==◌, sym, ap, refl, arith}
-use Rattle.std.specs.Prelude.{count_by}
-use Rattle.cal_model.specs.Streams.HeadFields.{first_line, names_other_version}
+use Rattle.std.proofs.Common.{◌∙◌, sym, ap, refl, arith}
+use Rattle.cal_model.specs.Streams.HeadFields.{names_other_version}
 use Rattle.http_wire.proofs.HeadBlocks.{many_fields, another_version, no_head, reads_head}
 use Rattle.http_wire.proofs.head.read_head.Goals as goal
 

@@ -1,4 +1,4 @@
-use Rattle.std.proofs.Common.{rules, sym, ap, ◌∙◌, ◌≡◌, ◌-◌, ◌+◌, None, Some, length, drop, length-drop, arith}
+use Rattle.std.proofs.Common.{sym, ap, ◌∙◌, ◌≡◌, None, Some, length, drop, length-drop, arith}
 use Rattle.cal_model.specs.Streams.Heads.{head_end}
 use Rattle.http_wire.proofs.HeadPlaces.{ends_at, open_at, looked_on}
 use Rattle.http_wire.proofs.head_search.search_from.Goals as goal

@@ -1,6 +1,5 @@
-use Rattle.std.proofs.Common.{rules, sym, ap, ◌∙◌, ◌≡◌, ◌-◌, length, drop, length-drop, arith}
+use Rattle.std.proofs.Common.{sym, ap, ◌∙◌, ◌-◌, length, drop, length-drop, arith}
 use Rattle.cal_model.specs.Streams.Heads.{without_empty_lines}
-use Rattle.cal_model.proofs.Streams.StreamHeads.{without_empty_lines-within}
 use Rattle.http_wire.proofs.HeadPlaces.{begins_at, skipped_to}
 use Rattle.http_wire.proofs.head_search.skip_on.Goals as goal
 

@@ -1,5 +1,5 @@
-use Rattle.std.proofs.Common.{sym, ap, ◌∙◌, ◌≤◌, length, length-drop, arith, rules}
-use Rattle.cal_model.specs.Streams.Heads.{empty_line, without_empty_lines}
+use Rattle.std.proofs.Common.{sym, ap, ◌∙◌, length, length-drop, arith}
+use Rattle.cal_model.specs.Streams.Heads.{without_empty_lines}
 use Rattle.http_wire.proofs.Searching.{skip_one, skip_none}
 use Rattle.http_wire.proofs.search.behind_empty_lines.Goals as goal
 

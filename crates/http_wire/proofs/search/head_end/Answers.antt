@@ -1,7 +1,6 @@
-use Rattle.std.proofs.Common.{sym, ap, subst, ◌∙◌, ◌<◌, Some, None, length, length-drop, arith, rules}
+use Rattle.std.proofs.Common.{sym, ap, length, length-drop, arith}
 use Rattle.std.proofs.lemmas.Grind.{common_steps}
-use Rattle.cal_model.specs.Streams.Heads.{ends_here}
-use Rattle.http_wire.proofs.Searching.{Left, left_next, left_found, left_nothing}
+use Rattle.http_wire.proofs.Searching.{left_next, left_found, left_nothing}
 use Rattle.http_wire.proofs.search.head_end.Goals as goal
 
 pub returns-in-Some-clause-end : goal.returns-in-Some-clause-end

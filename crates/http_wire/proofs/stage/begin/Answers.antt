@@ -1,6 +1,5 @@
-use Rattle.std.proofs.Common.{rules, arith, sym, ap, ◌∙◌, ◌≡◌, take, drop, length, subst}
+use Rattle.std.proofs.Common.{sym, ap, ◌∙◌, ◌≡◌, take}
 use Rattle.cal_model.specs.Streams.Heads.{without_empty_lines}
-use Rattle.cal_model.specs.Streams.HeadFields.{read_head}
 use Rattle.http_wire.proofs.Beginning.{long_fault, over_fault, bad_fault, nothing_yet, body_begins}
 use Rattle.http_wire.proofs.Searching.{without_empty_lines-twice}
 use Rattle.http_wire.proofs.stage.begin.Goals as goal

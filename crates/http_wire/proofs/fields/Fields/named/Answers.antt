@@ -1,8 +1,7 @@
-use Rattle.std.proofs.Common.{◌∙◌, ◌≡◌, Bool, false, sym, ap, subst, map, length, arith}
+use Rattle.std.proofs.Common.{◌∙◌, ◌≡◌, false, sym, ap, subst, map, length, arith}
 use Rattle.std.specs.Prelude.{All}
 use Rattle.std.specs.Str.{str_eq_ignore_ascii_case}
 use Rattle.std.proofs.lemmas.List.Elements.{All-tail}
-use Rattle.httparse.specs.declared.spans.HeaderSpan.{HeaderSpan}
 use Rattle.httparse.specs.Spans.{IsHeaderWithin, header_bytes, span_bytes}
 use Rattle.http_wire.specs.FieldTexts.{values_named}
 use Rattle.http_wire.proofs.FieldSteps.{same_name, other_field}
