@@ -1,0 +1,16 @@
+pub mod Appends
+pub mod HeadBlocks
+pub mod Framings
+pub mod FieldSteps
+pub mod LineTexts
+pub mod DigitLemmas
+pub mod Places
+pub mod Searching
+pub mod BodySteps
+pub mod Reading
+pub mod LineSteps
+pub mod TrailerSteps
+pub mod HeadPlaces
+pub mod Beginning
+pub mod WireLaws
+pub mod IdleFronts

@@ -1,0 +1,7 @@
+pub mod Parts
+pub mod BodyParts
+pub mod HeadSearch
+pub mod FieldTexts
+pub mod HeadReading
+pub mod WireStates
+pub mod Wires

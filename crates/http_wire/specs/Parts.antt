@@ -1,0 +1,9 @@
+-- What calls that lend texts give, as lists.
+use Rattle.std.specs.Prelude.{ℕ, List}
+use Rattle.std.specs.Borrow.{Bor}
+
+abbrev pub text_there : Bor (List ℕ) → List ℕ
+text_there text = text.now
+
+abbrev pub both_texts : Bor (List ℕ) × Bor (List ℕ) → List ℕ × List ℕ
+both_texts parts = (parts.0.now, parts.1.now)
