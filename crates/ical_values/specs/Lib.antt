@@ -1,4 +1,10 @@
+pub mod DayForms
 pub mod Forms
 pub mod LineTexts
 pub mod Parts
+pub mod RuleForms
+pub mod RuleFreqs
+pub mod RuleNumbers
+pub mod RuleWords
+pub mod UntilForms
 pub mod ZonePlaces
