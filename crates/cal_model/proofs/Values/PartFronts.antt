@@ -44,7 +44,7 @@ by_first s c text b = if b then Some ([], text) else option_map (onto c) (cut s 
 abbrev no_front : List ℕ → List ℕ × List ℕ
 no_front text = ([], text)
 
-cut-front : (s : ℕ) (text h : List ℕ) (parts : List ℕ × List ℕ) → cut s text ≡ Some parts → cut s (text ++ h) ≡ Some (parts.0, parts.1 ++ h)
+pub cut-front : (s : ℕ) (text h : List ℕ) (parts : List ℕ × List ℕ) → cut s text ≡ Some parts → cut s (text ++ h) ≡ Some (parts.0, parts.1 ++ h)
 cut-front s [] h parts e = absurd (none-some parts e)
 cut-front s (c ∷ text) h parts e =
     elim (cases_Bool (c == s)) [
@@ -55,7 +55,7 @@ cut-front s (c ∷ text) h parts e =
           ∙ (ap (option_map (onto c)) (cut-front s text h rest.0 rest.1) ∙ ap (λ (p : List ℕ × List ℕ). Some (p.0, p.1 ++ h)) rest.2))
     ]
 
-cut-behind : (s : ℕ) (text h : List ℕ) (parts : List ℕ × List ℕ) → cut s text ≡ None → cut s (text ++ h) ≡ Some parts → (x : List ℕ) × (parts.0 ≡ text ++ x)
+pub cut-behind : (s : ℕ) (text h : List ℕ) (parts : List ℕ × List ℕ) → cut s text ≡ None → cut s (text ++ h) ≡ Some parts → (x : List ℕ) × (parts.0 ≡ text ++ x)
 cut-behind s [] h parts none e = (parts.0, refl)
 cut-behind s (c ∷ text) h parts none e =
     elim (cases_Bool (c == s)) [
@@ -76,11 +76,11 @@ pub length-raised : (text : List ℕ) → length (raised_all text) ≡ length te
 length-raised [] = refl
 length-raised (c ∷ text) = ap suc (length-raised text)
 
-all-left : (a b : List ℕ) → list_all is_name_octet (a ++ b) ≡ true → list_all is_name_octet a ≡ true
+pub all-left : (a b : List ℕ) → list_all is_name_octet (a ++ b) ≡ true → list_all is_name_octet a ≡ true
 all-left [] b e = refl
 all-left (c ∷ a) b e = let parts = and_parts (is_name_octet c) (list_all is_name_octet (a ++ b)) e in λ i. parts.0 i && all-left a b parts.1 i
 
-all-append : (a b : List ℕ) → list_all is_name_octet a ≡ true → list_all is_name_octet b ≡ true → list_all is_name_octet (a ++ b) ≡ true
+pub all-append : (a b : List ℕ) → list_all is_name_octet a ≡ true → list_all is_name_octet b ≡ true → list_all is_name_octet (a ++ b) ≡ true
 all-append [] b x y = y
 all-append (c ∷ a) b x y = let parts = and_parts (is_name_octet c) (list_all is_name_octet a) x in λ i. parts.0 i && all-append a b parts.1 y i
 
@@ -89,17 +89,17 @@ all-drop zero a e = e
 all-drop (suc n) [] e = refl
 all-drop (suc n) (c ∷ a) e = all-drop n a (and_parts (is_name_octet c) (list_all is_name_octet a) e).1
 
-names-lack : (text : List ℕ) → list_all is_name_octet text ≡ true → Lacks 61 text
+pub names-lack : (text : List ℕ) → list_all is_name_octet text ≡ true → Lacks 61 text
 names-lack [] e = tt
 names-lack (c ∷ text) e =
     let parts = and_parts (is_name_octet c) (list_all is_name_octet text) e in
     (λ is. false≢true (sym (ap is_name_octet is) ∙ parts.0), names-lack text parts.1)
 
-named_by : (text : List ℕ) → 1 ≤ length text → list_all is_name_octet text ≡ true → is_name text ≡ true
+pub named_by : (text : List ℕ) → 1 ≤ length text → list_all is_name_octet text ≡ true → is_name text ≡ true
 named_by text some all = λ i. lt-ltb 0 (length text) some i && all i
 
 -- a part of a name and a value
-part_of-named : (name value : List ℕ) → is_name name ≡ true → part_of (name ++ (61 ∷ value)) ≡ Some (raised_all name, value)
+pub part_of-named : (name value : List ℕ) → is_name name ≡ true → part_of (name ++ (61 ∷ value)) ≡ Some (raised_all name, value)
 part_of-named name value named =
     let all = (and_parts (nat_lt 0 (length name)) (list_all is_name_octet name) named).1 in
     ap (option_and_then if_named) (cut-append 61 name value (names-lack name all)) ∙ ap (λ b. if b then Some (raised_all name, value) else None) named

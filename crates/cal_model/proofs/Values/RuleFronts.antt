@@ -137,7 +137,7 @@ days_of_other part rule r other e =
       | inr same ↦ same
     ]
 
-or_false : (a b : Bool) → (a || b) ≡ false → (a ≡ false) × (b ≡ false)
+pub or_false : (a b : Bool) → (a || b) ≡ false → (a ≡ false) × (b ≡ false)
 or_false true b e = absurd (false≢true (sym e))
 or_false false b e = (refl, e)
 
@@ -182,7 +182,7 @@ any-join test (c ∷ a) b x y =
     let first = or_false (test c) (list_any test a) x in
     ap₂ (λ p q. p || q) first.0 (any-join test a b first.1 y)
 
-not_true : (b : Bool) → not b ≡ true → b ≡ false
+pub not_true : (b : Bool) → not b ≡ true → b ≡ false
 not_true true e = sym e
 not_true false e = refl
 
@@ -195,7 +195,7 @@ once-split (part ∷ a) b e =
     let rest = once-split a b parts.1 in
     (ap₂ (λ p q. not p && q) apart.0 rest.0, (apart.1, rest.1), rest.2)
 
-once-join : (a b : List Part) → is_each_once a ≡ true → Apart a b → is_each_once b ≡ true → is_each_once (a ++ b) ≡ true
+pub once-join : (a b : List Part) → is_each_once a ≡ true → Apart a b → is_each_once b ≡ true → is_each_once (a ++ b) ≡ true
 unfolding Apart
 once-join [] b x apart y = y
 once-join (part ∷ a) b x apart y =
@@ -226,7 +226,7 @@ apart_made k (a ∷ before) behind part made apart short name =
         ]
 
 -- one more part, whose name none of the others has
-apart_more : (before others : List Part) (more : Part) → Apart before others → list_any (is_part_named more.0) before ≡ false → Apart before (others ++ (more ∷ []))
+pub apart_more : (before others : List Part) (more : Part) → Apart before others → list_any (is_part_named more.0) before ≡ false → Apart before (others ++ (more ∷ []))
 unfolding Apart
 apart_more [] others more apart none = tt
 apart_more (a ∷ before) others more apart none =
@@ -246,7 +246,7 @@ apart_lacks name (a ∷ before) others apart has =
 
 -- FREQ
 
-find-left : (test : Part → Bool) (a b : List Part) (q : Part) → find test a ≡ Some q → find test (a ++ b) ≡ Some q
+pub find-left : (test : Part → Bool) (a b : List Part) (q : Part) → find test a ≡ Some q → find test (a ++ b) ≡ Some q
 find-left test [] b q e = absurd (none-some q e)
 find-left test (x ∷ a) b q e =
     elim (cases_Bool (test x)) [
@@ -255,7 +255,7 @@ find-left test (x ∷ a) b q e =
     ]
 
 -- where none is found none passes, and the others decide
-find-right : (test : Part → Bool) (a b : List Part) → find test a ≡ None → (list_any test a ≡ false) × (find test (a ++ b) ≡ find test b)
+pub find-right : (test : Part → Bool) (a b : List Part) → find test a ≡ None → (list_any test a ≡ false) × (find test (a ++ b) ≡ find test b)
 find-right test [] b e = (refl, refl)
 find-right test (x ∷ a) b e =
     elim (cases_Bool (test x)) [
@@ -280,7 +280,7 @@ freq_text_is Weekly = (refl, refl, refl)
 freq_text_is Monthly = (refl, refl, refl)
 freq_text_is Yearly = (refl, refl, refl)
 
-freq_says_nothing : (f : Freq) (rule : Rule) → with_part (freq_part f) rule ≡ Some rule
+pub freq_says_nothing : (f : Freq) (rule : Rule) → with_part (freq_part f) rule ≡ Some rule
 freq_says_nothing f rule = ap (option_map (λ freq. rule)) (freq_of-word f)
 
 freq_ending : (f : Freq) → IsAmong (59 ∷ freq_text f) endings
