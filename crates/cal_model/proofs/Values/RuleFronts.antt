@@ -234,7 +234,7 @@ apart_more (a ∷ before) others more apart none =
     (any-join (is_part_named a.0) others (more ∷ []) apart.0 (ap (λ b. b || false) (other_way a.0 more.0 first.0)), apart_more before others more apart.1 first.1)
 
 -- parts that are apart from others lack a name that the others have
-apart_lacks : (name : List ℕ) (before others : List Part) → Apart before others → list_any (is_part_named name) others ≡ true → list_any (is_part_named name) before ≡ false
+pub apart_lacks : (name : List ℕ) (before others : List Part) → Apart before others → list_any (is_part_named name) others ≡ true → list_any (is_part_named name) before ≡ false
 unfolding Apart
 apart_lacks name [] others apart has = refl
 apart_lacks name (a ∷ before) others apart has =
@@ -518,7 +518,7 @@ front_days parts more f s r apart first second =
       | inr none ↦ (λ some. ap (list_any is_ordinal) (days_of_others more s r none second) ∙ some)
     ]
 
-apart_from_none : (parts : List Part) → Apart parts []
+pub apart_from_none : (parts : List Part) → Apart parts []
 unfolding Apart
 apart_from_none [] = tt
 apart_from_none (part ∷ parts) = (refl, apart_from_none parts)

@@ -45,7 +45,7 @@ lesser_then r s t a b = record {
   ordinals = λ e. b.ordinals (a.ordinals e);
 }
 
-not_both : (a b c d : Bool) → Implies a c → Implies b d → not (c && d) ≡ true → not (a && b) ≡ true
+pub not_both : (a b c d : Bool) → Implies a c → Implies b d → not (c && d) ≡ true → not (a && b) ≡ true
 not_both true true c d ac bd e = absurd (false≢true (sym (ap₂ (λ x y. not (x && y)) (ac refl) (bd refl)) ∙ e))
 not_both true false c d ac bd e = refl
 not_both false b c d ac bd e = refl
@@ -81,10 +81,10 @@ ordinals_allowed true false true d true ac bd e = refl
 ordinals_allowed true false true d false ac bd e = e
 ordinals_allowed true false false d h ac bd e = absurd (false≢true (ac refl))
 
-all_three : (a b c : Bool) → a ≡ true → b ≡ true → c ≡ true → (a && b && c) ≡ true
+pub all_three : (a b c : Bool) → a ≡ true → b ≡ true → c ≡ true → (a && b && c) ≡ true
 all_three a b c x y z = λ i. x i && y i && z i
 
-three_parts : (a b c : Bool) → (a && b && c) ≡ true → (a ≡ true) × (b ≡ true) × (c ≡ true)
+pub three_parts : (a b c : Bool) → (a && b && c) ≡ true → (a ≡ true) × (b ≡ true) × (c ≡ true)
 three_parts true true c e = (refl, refl, e)
 three_parts true false c e = absurd (false≢true e)
 three_parts false b c e = absurd (false≢true e)
