@@ -4,14 +4,19 @@ use Rattle.std.proofs.Math.Seq.{take-append_seam, drop-append_seam}
 use Rattle.std.proofs.lemmas.Bool.{cases_Bool, ne_eqb}
 use Rattle.std.proofs.lemmas.List.{length-append, take-append-drop}
 use Rattle.std.proofs.lemmas.Option.{none-some, same_Some}
-use Rattle.cal_base.specs.Texts.Text.{raised_all}
+use Rattle.cal_base.specs.Texts.Text.{raised, raised_all}
 use Rattle.cal_moment.specs.BadPlace.{IsIn, BeginsOne, IsBadAt}
 use Rattle.cal_model.specs.declared.rule.DayPart.{DayPart}
 use Rattle.cal_model.specs.Values.BadValues.{Reads}
-use Rattle.cal_model.specs.Values.RuleTexts.{weekdays, weekday_named, place_number, ordinal_of, day_part, day_of}
+use Rattle.cal_model.specs.Values.RuleTexts.{weekdays, weekday_named, place_number, if_place, ordinal_of, day_part, day_of}
 use Rattle.cal_model.specs.Values.ValueTexts.{count_of, integer_of}
 use Rattle.cal_model.proofs.Values.DayFronts.{HasRow, word_row}
 use Rattle.ical_values.specs.DayForms.{SpellsOrdinalDay}
+use Rattle.cal_model.proofs.Values.CutLemmas.{Lacks, and_then_some, option_map_some, lacks-append}
+use Rattle.ical_values.specs.Parts.{LacksComma}
+use Rattle.ical_values.specs.RuleBeside.{day_by, each_weekday}
+use Rattle.ical_values.proofs.FormPlaces.{as_lacks_comma}
+use Rattle.ical_values.proofs.NumberLists.{integer_lacks}
 use Rattle.ical_values.proofs.PeriodPlaces.{bad_either}
 
 length-raised : (text : List ℕ) → length (raised_all text) ≡ length text
@@ -89,3 +94,38 @@ day_in text is =
 -- A text that is neither is bad at the later place of the two.
 pub bad_day : (text : List ℕ) (a b place : ℕ) → IsBadAt (Reads weekday_named) text a → IsBadAt SpellsOrdinalDay text b → place ≡ max a b → IsBadAt (Reads day_of) text place
 bad_day = bad_either (Reads weekday_named) SpellsOrdinalDay (Reads day_of) day_in (λ text is. (record { ordinal = pos 0; weekday = is.0 }, weekday_is_day text is.0 is.1)) (λ text is. (is.0, ordinal_is_day text is.0 is.1))
+
+-- No day has a comma
+
+lacks_raised : (text word : List ℕ) → raised_all text ≡ word → Lacks 44 word → Lacks 44 text
+lacks_raised [] word same lacks = tt
+lacks_raised (c ∷ text) word same lacks =
+    let whole = subst (Lacks 44) (sym same) lacks in
+    (λ is. whole.0 (ap raised is), lacks_raised text (raised_all text) refl whole.1)
+
+weekday_lacks : (text : List ℕ) (day : ℕ) → weekday_named text ≡ Some day → Lacks 44 text
+weekday_lacks text day is = by_row weekdays all_lack (word_row weekdays text day is)
+  where
+    AllLack : List (List ℕ × ℕ) → Type 0
+    AllLack [] = Unit {0}
+    AllLack (row ∷ rows) = Lacks 44 row.0 × AllLack rows
+
+    by_row : (rows : List (List ℕ × ℕ)) → AllLack rows → HasRow rows text day → Lacks 44 text
+    by_row [] all has = absurd has
+    by_row (row ∷ rows) all has = elim has [ inl here ↦ lacks_raised text row.0 here.0 all.0 | inr more ↦ by_row rows all.1 more ]
+
+    all_lack : AllLack weekdays
+    all_lack = grind arith
+
+day_lacks : (text : List ℕ) → IsIn (Reads day_of) text → Lacks 44 text
+day_lacks text is =
+    elim (day_in text is) [
+      | inl weekday ↦ weekday_lacks text weekday.0 weekday.1
+      | inr day ↦ (let s = day.1 in
+          let z = and_then_some (if_place 53) (integer_of s.front) day.0.ordinal s.ordinal in
+          subst (Lacks 44) (sym s.split) (lacks-append 44 s.front s.behind (integer_lacks s.front z.0 z.1) (weekday_lacks s.behind day.0.weekday s.weekday)))
+    ]
+
+pub days_lack_commas : (ordinals : Bool) (text : List ℕ) → IsIn (Reads (day_by ordinals)) text → LacksComma text
+days_lack_commas true text is = as_lacks_comma text (day_lacks text is)
+days_lack_commas false text is = let weekday = option_map_some each_weekday (weekday_named text) is.0 is.1 in as_lacks_comma text (weekday_lacks text weekday.0 weekday.1)

@@ -22,3 +22,4 @@ mod DayReading
 mod DayWidths
 mod ReadLines
 mod PeriodLists
+mod RuleStates

@@ -19,7 +19,7 @@ use Rattle.ical_values.proofs.SignPlaces.SignCase.{has_minus, has_plus, no_sign}
 count_lacks : (text : List ℕ) (n : ℕ) → count_of text ≡ Some n → Lacks 44 text
 count_lacks text n is = let s = SpellsCount-count_of text n is in subst (Lacks 44) (sym s.spelled) (lacks_low 44 s.width n (omega arith))
 
-integer_lacks : (text : List ℕ) (z : ℤ) → integer_of text ≡ Some z → Lacks 44 text
+pub integer_lacks : (text : List ℕ) (z : ℤ) → integer_of text ≡ Some z → Lacks 44 text
 unfolding integer_of
 integer_lacks text z is =
     let count = option_map_some (signed (is_negative text)) (count_of (unsigned text)) z is in

@@ -2,9 +2,12 @@ pub mod DayForms
 pub mod Forms
 pub mod LineTexts
 pub mod Parts
+pub mod RuleBeside
 pub mod RuleForms
 pub mod RuleFreqs
 pub mod RuleNumbers
+pub mod RuleParts
+pub mod RuleReading
 pub mod RuleWords
 pub mod UntilForms
 pub mod ZonePlaces

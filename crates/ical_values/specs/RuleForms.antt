@@ -4,7 +4,7 @@ use Rattle.cal_model.specs.Values.RuleTexts.{number_of, place_number, second_num
 use Rattle.ical_values.specs.declared.rule_lists.CountForm.{CountForm}
 use Rattle.ical_values.specs.declared.rule_lists.CountForm.TheVariants.{Month, Hour, Minute, Second}
 use Rattle.ical_values.specs.declared.rule_lists.PlaceForm.{PlaceForm}
-use Rattle.ical_values.specs.declared.rule_lists.PlaceForm.TheVariants.{Week, YearDay, MonthDay}
+use Rattle.ical_values.specs.declared.rule_lists.PlaceForm.TheVariants.{Week, YearDay, MonthDay, SetPos}
 
 -- numbers that are not negative
 abbrev pub count_by : CountForm → List ℕ → Option ℕ
@@ -18,6 +18,7 @@ abbrev pub most_of : PlaceForm → ℕ
 most_of Week = 53
 most_of YearDay = 366
 most_of MonthDay = 31
+most_of SetPos = 366
 
 abbrev pub place_by : PlaceForm → List ℕ → Option ℤ
 place_by form text = place_number (most_of form) text

@@ -21,13 +21,14 @@ pub enum CountForm {
     Second,
 }
 
-/// The parts whose numbers count from the front, or from the end where they are negative. Places
-/// among moments are counted as days of the year are.
+/// The parts whose numbers count from the front, or from the end where they are negative.
 #[derive(Clone, Copy)]
 pub enum PlaceForm {
     Week,
     YearDay,
     MonthDay,
+    /// Places among the moments of a period.
+    SetPos,
 }
 
 impl Items for CountForm {
@@ -88,7 +89,7 @@ fn most_of(form: PlaceForm) -> u32
 {
     match form {
         PlaceForm::Week => 53,
-        PlaceForm::YearDay => 366,
+        PlaceForm::YearDay | PlaceForm::SetPos => 366,
         PlaceForm::MonthDay => 31,
     }
 }
