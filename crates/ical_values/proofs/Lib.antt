@@ -23,3 +23,4 @@ mod DayWidths
 mod ReadLines
 mod PeriodLists
 mod RuleStates
+mod FittingParts

@@ -125,7 +125,7 @@ put-with_part part rule freq =
 -- The frequency of a rule that a part is put into
 
 -- it is that of FREQ, or of the rule before
-abbrev FreqBehind : List ℕ → List ℕ → Rule → Rule → Type 0
+abbrev pub FreqBehind : List ℕ → List ℕ → Rule → Rule → Type 0
 FreqBehind name value rule made = ((name ≡ codes "FREQ") × (freq_of value ≡ Some made.freq)) ⊎ ((bytes_eq name (codes "FREQ") ≡ false) × (made.freq ≡ rule.freq))
 
 counts_keep : (form : CountForm) (ns : List ℕ) (rule : Rule) → (bytes_eq (name_of (Counts form)) (codes "FREQ") ≡ false) × ((put_counts form ns rule).freq ≡ rule.freq)
@@ -160,7 +160,7 @@ value_freq Days value rule made e = inr (refl, keeps OfDays (list_of day_of valu
 value_freq (Counts form) value rule made e = inr ((counts_keep form [] rule).0, keeps (OfCounts form) (list_of (count_by form) value) rule made (λ ns. (counts_keep form ns rule).1) e)
 value_freq (Places form) value rule made e = inr ((places_keep form [] rule).0, keeps (OfPlaces form) (list_of (place_by form) value) rule made (λ ns. (places_keep form ns rule).1) e)
 
-part_freq : (part : Part) (rule made : Rule) → put_part part rule ≡ Some made → FreqBehind part.0 part.1 rule made
+pub part_freq : (part : Part) (rule made : Rule) → put_part part rule ≡ Some made → FreqBehind part.0 part.1 rule made
 part_freq part rule made e =
     elim (both_found meanings parts part rows_of_parts) [
       | inl none ↦ (let own = if_some (starts_with nat_eq part.0 (codes "X-")) (Some rule) made (sym (ap (λ o. put_named o part rule) none.no_part) ∙ e) in
@@ -179,7 +179,7 @@ part_freq part rule made e =
 -- What is known of the parts that are read
 
 -- the frequency of the first part FREQ, YEARLY where there is none
-abbrev FreqIs : Option Part → Freq → Type 0
+abbrev pub FreqIs : Option Part → Freq → Type 0
 FreqIs None freq = freq ≡ Yearly
 FreqIs (Some part) freq = freq_of part.1 ≡ Some freq
 
@@ -198,7 +198,7 @@ pub nothing_read : (rule : Rule) → rule ≡ every_time Yearly → AreReadAs []
 nothing_read rule is = subst (λ (r : Rule). AreReadAs [] r []) (sym is) (record { once = refl; said = λ freq. refl; allowed = refl; named = λ name. refl; freq = refl })
 
 -- a name that has not come, and the first part of that name
-not_in : (name : List ℕ) (done : List Part) → list_any (is_part_named name) done ≡ false → find (is_part_named name) done ≡ None
+pub not_in : (name : List ℕ) (done : List Part) → list_any (is_part_named name) done ≡ false → find (is_part_named name) done ≡ None
 not_in name [] none = refl
 not_in name (part ∷ done) none =
     let both = or_false (is_part_named name part) (list_any (is_part_named name) done) none in
@@ -243,7 +243,7 @@ named_more names done part so_far name =
     or_none false = refl
 
 -- rules that are allowed by a frequency are so by the year
-allowed_yearly : (r : Rule) (freq : Freq) → is_allowed (record r { freq = freq }) ≡ true → is_allowed (record r { freq = Yearly }) ≡ true
+pub allowed_yearly : (r : Rule) (freq : Freq) → is_allowed (record r { freq = freq }) ≡ true → is_allowed (record r { freq = Yearly }) ≡ true
 allowed_yearly r freq e =
     let its = three_parts (not (is_some r.count && is_some r.until)) (not (refuses freq r)) (not (list_any is_ordinal r.by_day) || (has_ordinals freq && not (has_some r.by_week))) (as_parts freq ∙ e) in
     all_three (not (is_some r.count && is_some r.until)) true (not (list_any is_ordinal r.by_day) || (true && not (has_some r.by_week))) its.0 refl (by_year (list_any is_ordinal r.by_day) (has_ordinals freq) (has_some r.by_week) its.2)
@@ -296,7 +296,7 @@ no_rule_is done rule names s none =
 -- One more part
 
 module _ (done : List Part) (rule : Rule) (names : Named Bool) (s : AreReadAs done rule names) where
-  new_here : (part : Part) → is_some (value_at names part.0) ≡ false → list_any (is_part_named part.0) done ≡ false
+  pub new_here : (part : Part) → is_some (value_at names part.0) ≡ false → list_any (is_part_named part.0) done ≡ false
   new_here part fresh = sym (s.named part.0) ∙ fresh
 
   freq_behind : (part : Part) (made : Rule) → list_any (is_part_named part.0) done ≡ false → put_part part rule ≡ Some made → FreqIs (first_freq (done ++ part ∷ [])) made.freq
@@ -343,7 +343,7 @@ module _ (done : List Part) (rule : Rule) (names : Named Bool) (s : AreReadAs do
   stands_new : (part : Part) (more : List Part) → Apart done (part ∷ more) → list_any (is_part_named part.0) done ≡ false
   stands_new part more apart = apart_lacks part.0 done (part ∷ more) apart (ap (λ b. b || list_any (is_part_named part.0) more) (same_text part.0))
 
-  stands_fit : (text : List ℕ) (part : Part) → part_of text ≡ Some part → Stand (done ++ part ∷ []) → Fits rule names text part
+  pub stands_fit : (text : List ℕ) (part : Part) → part_of text ≡ Some part → Stand (done ++ part ∷ []) → Fits rule names text part
   stands_fit text part reads stands =
       elim stands [
         | inl alone ↦ (let made = parts_made (done ++ part ∷ []) alone.0 alone.1 in
