@@ -70,7 +70,7 @@ day_parts (Some o) (Some w) day e =
 day_parts (Some o) None day e = absurd (none-some day e)
 day_parts None weekday day e = absurd (none-some day e)
 
-day_in : (text : List ℕ) → IsIn (Reads day_of) text → IsIn (Reads weekday_named) text ⊎ IsIn SpellsOrdinalDay text
+pub day_in : (text : List ℕ) → IsIn (Reads day_of) text → IsIn (Reads weekday_named) text ⊎ IsIn SpellsOrdinalDay text
 day_in text is =
     let front = take (length text - 2) text in
     let behind = drop (length text - 2) text in

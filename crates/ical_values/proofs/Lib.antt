@@ -24,3 +24,4 @@ mod ReadLines
 mod PeriodLists
 mod RuleStates
 mod FittingParts
+mod BesideParts
