@@ -5,6 +5,7 @@ pub mod Parts
 pub mod RuleBeside
 pub mod RuleForms
 pub mod RuleFreqs
+pub mod RuleNames
 pub mod RuleNumbers
 pub mod RuleParts
 pub mod RuleReading

@@ -17,6 +17,7 @@ mod rule_beside;
 mod rule_days;
 mod rule_freq;
 mod rule_lists;
+mod rule_names;
 mod rule_numbers;
 mod rule_parts;
 mod rule_until;
