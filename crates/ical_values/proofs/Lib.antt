@@ -25,3 +25,4 @@ mod PeriodLists
 mod RuleStates
 mod FittingParts
 mod BesideParts
+mod NamePlaces

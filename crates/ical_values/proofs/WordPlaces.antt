@@ -51,7 +51,7 @@ row_read {X} (row ∷ rows) word text is same =
 
 -- What is common
 
-common_within : (text word : List ℕ) → common text word ≤ length text
+pub common_within : (text word : List ℕ) → common text word ≤ length text
 common_within [] word = omega arith
 common_within (c ∷ text) [] = omega arith
 common_within (c ∷ text) (d ∷ word) = guarded (c == d) (common_within text word)
@@ -92,7 +92,7 @@ length-raised [] = refl
 length-raised (c ∷ text) = ap suc (length-raised text)
 
 -- what is common goes on to the word
-goes_on : (text word : List ℕ) → raised_all word ≡ word → raised_all (take (common (raised_all text) word) text ++ drop (common (raised_all text) word) word) ≡ word
+pub goes_on : (text word : List ℕ) → raised_all word ≡ word → raised_all (take (common (raised_all text) word) text ++ drop (common (raised_all text) word) word) ≡ word
 goes_on text word upper =
     let n = common (raised_all text) word in
     raised-append (take n text) (drop n word)
@@ -100,7 +100,7 @@ goes_on text word upper =
     ∙ take-append-drop n word)
 
 -- a front of a word is common
-front_common : (n : ℕ) (text rest : List ℕ) → n ≤ length text → n ≤ common (raised_all text) (raised_all (take n text ++ rest))
+pub front_common : (n : ℕ) (text rest : List ℕ) → n ≤ length text → n ≤ common (raised_all text) (raised_all (take n text ++ rest))
 front_common zero text rest within = omega arith
 front_common (suc n) [] rest within = absurd (omega (arith, within))
 front_common (suc n) (c ∷ text) rest within =
