@@ -1,5 +1,5 @@
 -- How far a text goes along the names that a next part may have (RFC 5545, 3.3.10).
-use Rattle.std.specs.Prelude.{ℕ, ◌+◌, max, Bool, not, ◌&&◌, ◌==◌, if◌then◌else◌, List, [], ◌∷◌, is_some}
+use Rattle.std.specs.Prelude.{ℕ, ◌+◌, max, nat_le, Bool, not, ◌&&◌, ◌==◌, if◌then◌else◌, List, [], ◌∷◌, length, is_some}
 use Rattle.cal_base.specs.Lines.ContentLines.{is_name_octet}
 use Rattle.cal_base.specs.Lists.NameMap.{Named, value_at}
 use Rattle.cal_base.specs.Texts.Text.{raised, raised_all}
@@ -40,3 +40,7 @@ own_length (octet ∷ text) = if raised octet == 88 then 1 + hyphen_length text 
 -- where a text leaves the names that a next part may have
 abbrev pub name_place : Rule → Named Bool → List ℕ → ℕ
 name_place rule names text = max (most_free rule names (raised_all text) parts) (own_length text)
+
+-- whether a name is one of a part of others' own
+abbrev pub is_own : List ℕ → Bool
+is_own name = nat_le 2 (length name) && (own_length name == length name)

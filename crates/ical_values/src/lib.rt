@@ -20,6 +20,7 @@ mod rule_lists;
 mod rule_names;
 mod rule_numbers;
 mod rule_parts;
+mod rule_reader;
 mod rule_until;
 mod rule_words;
 mod single;

@@ -4,7 +4,7 @@ ghost use Rattle.std.specs.List.{list_all};
 ghost use Rattle.cal_base.specs.Lines.ContentLines.{is_name_octet};
 ghost use Rattle.cal_base.specs.Lists.NameMap.{value_at};
 ghost use Rattle.cal_base.specs.Texts.Text.{raised_all};
-ghost use Rattle.ical_values.specs.RuleNames.{free_common, hyphen_length, is_free, most_free, name_length, name_place, own_length};
+ghost use Rattle.ical_values.specs.RuleNames.{free_common, hyphen_length, is_free, is_own, most_free, name_length, name_place, own_length};
 
 use crate::rule_beside::takes;
 use crate::rule_parts::{PARTS, RulePart, name_of};
@@ -41,6 +41,13 @@ pub fn own_length(text: &[u8]) -> u64
     } else {
         0
     }
+}
+
+/// Whether a name is one of a part of others' own.
+pub fn is_own(name: &[u8]) -> bool
+    ensures { result ≡ is_own name.now }
+{
+    2 <= name.len() && own_length(name) == name.len() as u64
 }
 
 /// How far a text goes along a hyphen and octets of a name.
