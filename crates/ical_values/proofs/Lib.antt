@@ -26,3 +26,4 @@ mod RuleStates
 mod FittingParts
 mod BesideParts
 mod NamePlaces
+mod PartReading

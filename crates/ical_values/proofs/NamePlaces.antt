@@ -52,7 +52,7 @@ all_named (c ∷ text) all =
     let both = and_parts (is_name_octet (raised c)) (list_all is_name_octet (raised_all text)) all in
     λ i. named_octet c both.0 i && all_named text both.1 i
 
-name_raised : (text : List ℕ) → is_name (raised_all text) ≡ true → is_name text ≡ true
+pub name_raised : (text : List ℕ) → is_name (raised_all text) ≡ true → is_name text ≡ true
 name_raised text named =
     let both = and_parts (nat_lt 0 (length (raised_all text))) (list_all is_name_octet (raised_all text)) named in
     named_by text (omega (arith, ltb-true 0 (length (raised_all text)) both.0, length-raised text)) (all_named text both.1)
@@ -118,12 +118,24 @@ hyphen_reaches (suc n) (c ∷ text) end within own =
     let is : hyphen_length (c ∷ text) ≡ 1 + name_length text = ap (λ b. if b then 1 + name_length text else 0) (eq-eqb (raised c) 45 own.0) in
     omega (arith, is, names_reach n text (omega (arith, within)) (all-left (take n text) end own.1))
 
-own_reaches : (n : ℕ) (text end : List ℕ) → n ≤ length text → IsOwn (take n text ++ end) → n ≤ own_length text
+pub own_reaches : (n : ℕ) (text end : List ℕ) → n ≤ length text → IsOwn (take n text ++ end) → n ≤ own_length text
 own_reaches zero text end within own = omega arith
 own_reaches (suc n) [] end within own = absurd (omega (arith, within))
 own_reaches (suc n) (c ∷ text) end within own =
     let is : own_length (c ∷ text) ≡ 1 + hyphen_length text = ap (λ b. if b then 1 + hyphen_length text else 0) (eq-eqb (raised c) 88 own.0) in
     omega (arith, is, hyphen_reaches n text end (omega (arith, within)) own.1)
+
+names_within : (text : List ℕ) → name_length text ≤ length text
+names_within [] = omega arith
+names_within (c ∷ text) = elim (is_name_octet c) as (λ b. (if b then 1 + name_length text else 0) ≤ length (c ∷ text)) [ true ↦ omega (arith, names_within text) | false ↦ omega arith ]
+
+hyphen_within : (text : List ℕ) → hyphen_length text ≤ length text
+hyphen_within [] = omega arith
+hyphen_within (c ∷ text) = elim (raised c == 45) as (λ b. (if b then 1 + name_length text else 0) ≤ length (c ∷ text)) [ true ↦ omega (arith, names_within text) | false ↦ omega arith ]
+
+pub own_within : (text : List ℕ) → own_length text ≤ length text
+own_within [] = omega arith
+own_within (c ∷ text) = elim (raised c == 88) as (λ b. (if b then 1 + hyphen_length text else 0) ≤ length (c ∷ text)) [ true ↦ omega (arith, hyphen_within text) | false ↦ omega arith ]
 
 all_a : (room : ℕ) → list_all is_name_octet (replicate room 65) ≡ true
 all_a zero = refl
@@ -189,7 +201,7 @@ long_is_new name (entry ∷ names) long = ap (λ b. is_some (cond b (Some entry.
 
 -- The names of the parts
 
-names_are : (part : RulePart) → (part_named (name_of part) ≡ Some part) × (raised_all (name_of part) ≡ name_of part) × (is_name (name_of part) ≡ true)
+pub names_are : (part : RulePart) → (part_named (name_of part) ≡ Some part) × (raised_all (name_of part) ≡ name_of part) × (is_name (name_of part) ≡ true)
 names_are Freq = (refl, refl, refl)
 names_are Interval = (refl, refl, refl)
 names_are Count = (refl, refl, refl)
@@ -230,22 +242,6 @@ module _ (rule : Rule) (names : Named Bool) where
     where
       by_test : (b : Bool) → (if b then common text (name_of part) else 0) ≤ length text
       by_test true = common_within text (name_of part)
-      by_test false = omega arith
-
-  own_within : (text : List ℕ) → own_length text ≤ length text
-  own_within [] = omega arith
-  own_within (c ∷ text) = by_test (raised c == 88)
-    where
-      names_within : (text : List ℕ) → name_length text ≤ length text
-      names_within [] = omega arith
-      names_within (d ∷ text) = elim (is_name_octet d) as (λ b. (if b then 1 + name_length text else 0) ≤ length (d ∷ text)) [ true ↦ omega (arith, names_within text) | false ↦ omega arith ]
-
-      hyphen_within : (text : List ℕ) → hyphen_length text ≤ length text
-      hyphen_within [] = omega arith
-      hyphen_within (d ∷ text) = elim (raised d == 45) as (λ b. (if b then 1 + name_length text else 0) ≤ length (d ∷ text)) [ true ↦ omega (arith, names_within text) | false ↦ omega arith ]
-
-      by_test : (b : Bool) → (if b then 1 + hyphen_length text else 0) ≤ length (c ∷ text)
-      by_test true = omega (arith, hyphen_within text)
       by_test false = omega arith
 
   most_reached : (text name : List ℕ) (some : List RulePart) (part : RulePart) → named_in some name ≡ Some part → is_free rule names part ≡ true → common text name ≤ most_free rule names text some
