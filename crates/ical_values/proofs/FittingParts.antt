@@ -78,7 +78,7 @@ module _ (done : List Part) (rule : Rule) (names : Named Bool) (s : AreReadAs do
       let room = names_size done + length u in
       made_fits u begins.0 part f room (omega arith) (part_front room u begins.0 part (record rule { freq = f.made.freq }) f.made (omega arith) f.reads (put-with_part part rule f.made.freq ∙ ap (option_map (λ (r : Rule). record r { freq = f.made.freq })) f.puts))
 
-  fits_next : (text : List ℕ) (part : Part) → Lacks 59 text → Fits rule names text part → SpellsNext done text part
+  pub fits_next : (text : List ℕ) (part : Part) → Lacks 59 text → Fits rule names text part → SpellsNext done text part
   fits_next text part lacks f = record { lacks = lacks; reads = f.reads; stands = are_standing (done ++ part ∷ []) f.made _ (one_more_read done rule names s text part f) }
 
   next_fits : (text : List ℕ) → IsIn (SpellsNext done) text → IsIn (Fits rule names) text

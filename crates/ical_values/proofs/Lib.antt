@@ -27,3 +27,4 @@ mod FittingParts
 mod BesideParts
 mod NamePlaces
 mod PartReading
+mod PartsLeft

@@ -28,6 +28,15 @@ pub record SpellsNext (done : List Part) (text : List ℕ) (part : Part) : Type 
   pub reads : part_of text ≡ Some part
   pub stands : Stand (done ++ part ∷ [])
 
+pub freq_lacks : (f : Freq) → Lacks 59 (freq_text f)
+freq_lacks Secondly = grind arith
+freq_lacks Minutely = grind arith
+freq_lacks Hourly = grind arith
+freq_lacks Daily = grind arith
+freq_lacks Weekly = grind arith
+freq_lacks Monthly = grind arith
+freq_lacks Yearly = grind arith
+
 -- The text of such a part goes on to a rule.
 next_goes_on : (done : List Part) (text : List ℕ) → IsIn (SpellsNext done) text → BeginsOne (Reads (rule_behind done)) text
 next_goes_on done text is =
@@ -38,16 +47,6 @@ next_goes_on done text is =
       | inr with_freq ↦ (let f = with_freq.0 in
           (59 ∷ freq_text f, (with_freq.1, one_more_part done text (freq_text f) part s.lacks s.reads ∙ (last_part_read (done ++ part ∷ []) (freq_text f) (freq_part f) (freq_lacks f) (freq_text_is f).0 ∙ with_freq.2))))
     ]
-  where
-    freq_lacks : (f : Freq) → Lacks 59 (freq_text f)
-    freq_lacks Secondly = grind arith
-    freq_lacks Minutely = grind arith
-    freq_lacks Hourly = grind arith
-    freq_lacks Daily = grind arith
-    freq_lacks Weekly = grind arith
-    freq_lacks Monthly = grind arith
-    freq_lacks Yearly = grind arith
-
 -- a piece of a rule, and what stands behind it
 piece_stands : (done : List Part) (piece : List ℕ) (more : List (List ℕ)) (r : Rule) → Lacks 59 piece → option_and_then (λ parts. rule_of_parts (done ++ parts)) (every (map part_of (piece ∷ more))) ≡ Some r → IsIn (SpellsNext done) piece
 piece_stands done piece more r lacks e =
