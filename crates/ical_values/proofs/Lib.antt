@@ -28,3 +28,4 @@ mod BesideParts
 mod NamePlaces
 mod PartReading
 mod PartsLeft
+mod Distinct
