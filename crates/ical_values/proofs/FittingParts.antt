@@ -61,14 +61,18 @@ module _ (done : List Part) (rule : Rule) (names : Named Bool) (s : AreReadAs do
       let back = option_map_some (λ (r : Rule). record r { freq = f.made.freq }) (put_part m.made rule) m.result (sym (put-with_part m.made rule f.made.freq) ∙ m.puts) in
       let fresh = new_here done rule names s part f.fresh in
       let result = allowed_less m.result f.made m.lesser f.allowed in
-      let new : list_any (is_part_named m.made.0) done ≡ false = elim m.name [ inl same ↦ ap (λ n. list_any (is_part_named n) done) same ∙ fresh | inr long ↦ long_is_new m.made.0 done (omega (arith, long, le)) ] in
-      (m.end, m.made, m.lacks, record {
-        reads = m.reads;
-        fresh = s.named m.made.0 ∙ new;
-        made = back.0;
-        puts = back.1;
-        allowed = made_allowed part m.made f.made back.0 fresh f.puts back.1 m.freq (ap is_allowed back.2 ∙ result);
-      })
+      let new : list_any (is_part_named m.made.0) done ≡ false = elim m.name [ inl same ↦ ap (λ n. list_any (is_part_named n) done) same ∙ fresh | inr long ↦ long_is_new m.made.0 done (omega (arith, long, le)) ] in (
+        m.end,
+        m.made,
+        m.lacks,
+        record {
+          reads = m.reads;
+          fresh = s.named m.made.0 ∙ new;
+          made = back.0;
+          puts = back.1;
+          allowed = made_allowed part m.made f.made back.0 fresh f.puts back.1 m.freq (ap is_allowed back.2 ∙ result);
+        },
+      )
 
   -- The front of a part that fits goes on to one without a semicolon.
   fitting_front : (u : List ℕ) → BeginsOne (Fits rule names) u → (end : List ℕ) × (made : Part) × Lacks 59 end × Fits rule names (u ++ end) made

@@ -313,14 +313,19 @@ module _ (rule : Rule) (names : Named Bool) where
     free_fits : (name : List ℕ) → IsFreeName name → BeginsOne (Fits rule names) name
     free_fits name free =
         elim free.kind [
-          | inl known ↦ (let sample = sample_of known.0 rule allowed known.2 in
-              (61 ∷ sample.text, ((raised_all name, sample.text), record {
+          | inl known ↦ (let sample = sample_of known.0 rule allowed known.2 in (
+            61 ∷ sample.text,
+            (
+              (raised_all name, sample.text),
+              record {
                 reads = part_of-named name sample.text free.named;
                 fresh = free.fresh;
                 made = put sample.value rule;
                 puts = ap (λ o. put_named o (raised_all name, sample.text) rule) known.1 ∙ ap (option_map (λ v. put v rule)) sample.reads;
                 allowed = sample.stands;
-              })))
+              },
+            ),
+          ))
           | inr own ↦ (61 ∷ [], ((raised_all name, []), record { reads = part_of-named name [] free.named; fresh = free.fresh; made = rule; puts = own_says_nothing name [] rule own; allowed = allowed }))
         ]
 

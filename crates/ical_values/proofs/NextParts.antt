@@ -47,6 +47,7 @@ next_goes_on done text is =
       | inr with_freq ↦ (let f = with_freq.0 in
           (59 ∷ freq_text f, (with_freq.1, one_more_part done text (freq_text f) part s.lacks s.reads ∙ (last_part_read (done ++ part ∷ []) (freq_text f) (freq_part f) (freq_lacks f) (freq_text_is f).0 ∙ with_freq.2))))
     ]
+
 -- a piece of a rule, and what stands behind it
 piece_stands : (done : List Part) (piece : List ℕ) (more : List (List ℕ)) (r : Rule) → Lacks 59 piece → option_and_then (λ parts. rule_of_parts (done ++ parts)) (every (map part_of (piece ∷ more))) ≡ Some r → IsIn (SpellsNext done) piece
 piece_stands done piece more r lacks e =

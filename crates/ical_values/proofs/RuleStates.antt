@@ -64,20 +64,46 @@ places_row SetPos value rule freq = thrice (OfPlaces SetPos) (λ v. put v rule) 
 rows_of_parts : AreRowsOf meanings parts
 rows_of_parts = (
   (refl, λ value rule freq. thrice OfFreq (λ v. put v rule) (with_freq freq) (freq_of value)),
-  ((refl, λ value rule freq. thrice OfInterval (λ v. put v rule) (with_freq freq) (number_of 1 999999999 value)),
-  ((refl, λ value rule freq. thrice OfCount (λ v. put v rule) (with_freq freq) (number_of 1 999999999 value)),
-  ((refl, λ value rule freq. thrice OfUntil (λ v. put v rule) (with_freq freq) (until_of value)),
-  ((refl, λ value rule freq. thrice OfWeekStart (λ v. put v rule) (with_freq freq) (weekday_named value)),
-  ((refl, counts_row Month),
-  ((refl, places_row Week),
-  ((refl, places_row YearDay),
-  ((refl, places_row MonthDay),
-  ((refl, λ value rule freq. thrice OfDays (λ v. put v rule) (with_freq freq) (list_of day_of value)),
-  ((refl, counts_row Hour),
-  ((refl, counts_row Minute),
-  ((refl, counts_row Second),
-  ((refl, places_row SetPos),
-  tt)))))))))))))
+  (
+    (refl, λ value rule freq. thrice OfInterval (λ v. put v rule) (with_freq freq) (number_of 1 999999999 value)),
+    (
+      (refl, λ value rule freq. thrice OfCount (λ v. put v rule) (with_freq freq) (number_of 1 999999999 value)),
+      (
+        (refl, λ value rule freq. thrice OfUntil (λ v. put v rule) (with_freq freq) (until_of value)),
+        (
+          (refl, λ value rule freq. thrice OfWeekStart (λ v. put v rule) (with_freq freq) (weekday_named value)),
+          (
+            (refl, counts_row Month),
+            (
+              (refl, places_row Week),
+              (
+                (refl, places_row YearDay),
+                (
+                  (refl, places_row MonthDay),
+                  (
+                    (refl, λ value rule freq. thrice OfDays (λ v. put v rule) (with_freq freq) (list_of day_of value)),
+                    (
+                      (refl, counts_row Hour),
+                      (
+                        (refl, counts_row Minute),
+                        (
+                          (refl, counts_row Second),
+                          (
+                            (refl, places_row SetPos),
+                            tt,
+                          ),
+                        ),
+                      ),
+                    ),
+                  ),
+                ),
+              ),
+            ),
+          ),
+        ),
+      ),
+    ),
+  ),
 )
 
 -- a name's row and its part, or neither
@@ -271,12 +297,16 @@ are_standing done rule names s =
       | inl none ↦ (let year : rule.freq ≡ Yearly = subst (λ (o : Option Part). FreqIs o rule.freq) none s.freq in
           let r = with_freq Yearly rule in
           let found = find-right (is_part_named (codes "FREQ")) done (freq_part Yearly ∷ []) none in
-          inr (Yearly, r, parts_make (done ++ (freq_part Yearly ∷ [])) Yearly r (record {
-            once = once-join done (freq_part Yearly ∷ []) s.once (apart_more done [] (freq_part Yearly) (apart_from_none done) found.0) refl;
-            freq = ap (option_and_then (λ (part : Part). freq_of part.1)) found.1;
-            said = with-join done (freq_part Yearly ∷ []) (every_time Yearly) r (s.said Yearly) ∙ ap (option_and_then (with_parts [])) (freq_says_nothing Yearly r);
-            allowed = ap (λ f. is_allowed (with_freq f rule)) (sym year) ∙ s.allowed;
-          })))
+          inr (
+            Yearly,
+            r,
+            parts_make (done ++ (freq_part Yearly ∷ [])) Yearly r (record {
+              once = once-join done (freq_part Yearly ∷ []) s.once (apart_more done [] (freq_part Yearly) (apart_from_none done) found.0) refl;
+              freq = ap (option_and_then (λ (part : Part). freq_of part.1)) found.1;
+              said = with-join done (freq_part Yearly ∷ []) (every_time Yearly) r (s.said Yearly) ∙ ap (option_and_then (with_parts [])) (freq_says_nothing Yearly r);
+              allowed = ap (λ f. is_allowed (with_freq f rule)) (sym year) ∙ s.allowed;
+            }),
+          ))
     ]
 
 -- where FREQ has come they are the rule, and else none

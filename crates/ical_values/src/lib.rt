@@ -1,8 +1,9 @@
 //! The values of content lines (RFC 5545, 3.2 and 3.3).
 //!
 //! It is given a line, or the text of a value, and for moments the names of the object's time zones.
-//! It gives the value that the text says (stamps, periods, lengths, offsets, numbers, triggers,
-//! words, texts without escapes), or the place of the first octet at which no such value goes on.
+//! It gives the value that the text says (stamps, periods, rules, lengths, offsets, numbers,
+//! triggers, words, texts without escapes), or the place of the first octet at which no such value
+//! goes on.
 //! The reader of calendar objects and the filters build on it.
 #![tactic(auto)]
 

@@ -208,7 +208,11 @@ impl RuleReader {
 fn raised_copy(alloc: Global, text: &[u8]) -> Result<Octets, NoMemory>
     ensures { IfOk result (λ octets. octets ≡ raised_all text.now) }
 {
-    match text.iter().map(|octet| raised(*octet)).collect::<Vec<u8>>(alloc) {
+    match text
+        .iter()
+        .map(|octet| raised(*octet))
+        .collect::<Vec<u8>>(alloc)
+    {
         Ok(octets) => Ok(Octets::from_vec(octets)),
         Err(_) => Err(NoMemory),
     }
