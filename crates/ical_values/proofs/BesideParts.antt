@@ -1,16 +1,15 @@
 -- What a part says beside those of a rule: where it may come, its reader gives exactly the values with which the rule may stand.
-use Rattle.std.proofs.Common.{◌≡◌, ℕ, ◌<◌, ◌≤◌, Bool, true, false, not, ◌&&◌, ◌||◌, nat_le, nat_lt, if◌then◌else◌, List, [], ◌∷◌, map, codes, Option, Some, None, is_some, ℤ, pos, nat_abs, option_map, option_and_then, refl, sym, ap, ap₂, subst, ◌∙◌, arith, ◌⊎◌, inl, inr}
+use Rattle.std.proofs.Common.{◌≡◌, ℕ, Bool, true, false, not, ◌&&◌, ◌||◌, nat_le, nat_lt, if◌then◌else◌, List, [], ◌∷◌, map, codes, Option, Some, None, is_some, ℤ, nat_abs, option_map, option_and_then, refl, sym, ap, ap₂, ◌∙◌, arith, inl, inr}
 use Rattle.std.specs.List.{list_any}
 use Rattle.std.proofs.lemmas.Bool.{cases_Bool, false≢true, and_parts, leb-true, lt-ltb}
-use Rattle.std.proofs.lemmas.Option.{none-some, same_Some}
+use Rattle.std.proofs.lemmas.Option.{same_Some}
 use Rattle.cal_base.specs.Lines.ContentLines.{pieces, every}
 use Rattle.cal_moment.specs.BadPlace.{IsIn}
 use Rattle.cal_model.specs.declared.rule.DayPart.{DayPart}
 use Rattle.cal_model.specs.declared.rule.Freq.{Freq}
 use Rattle.cal_model.specs.declared.rule.Freq.TheVariants.{Secondly, Minutely, Hourly, Daily, Weekly, Monthly, Yearly}
 use Rattle.cal_model.specs.declared.rule.Rule.{Rule}
-use Rattle.cal_model.specs.Values.BadValues.{Reads}
-use Rattle.cal_model.specs.Values.RuleTexts.{word_of, frequencies, freq_of, number_of, until_of, weekday_named, if_place, place_number, day_of, list_of, is_ordinal, has_some, refuses, has_ordinals, is_allowed}
+use Rattle.cal_model.specs.Values.RuleTexts.{word_of, frequencies, freq_of, number_of, until_of, weekday_named, if_place, day_of, list_of, is_ordinal, has_some, refuses, has_ordinals, is_allowed}
 use Rattle.cal_model.specs.Values.ValueTexts.{count_of, integer_of, date_of, date_time_of}
 use Rattle.cal_model.proofs.Values.CutLemmas.{cases_Option, and_then_some, option_map_some, if_some}
 use Rattle.cal_model.proofs.Values.ListFronts.{every-cons}

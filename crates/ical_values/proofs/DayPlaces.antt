@@ -1,20 +1,19 @@
 -- Days of BYDAY: a weekday, or an ordinal and a weekday, and where a text is bad as the second.
 -- No octet of an ordinal is above 57, and each of a weekday is.
-use Rattle.std.proofs.Common.{◌≡◌, ℕ, zero, suc, ◌+◌, ◌-◌, ◌%◌, ◌^◌, ◌<◌, ◌≤◌, max, Bool, true, false, ◌==◌, if◌then◌else◌, List, [], ◌∷◌, ◌++◌, length, take, drop, codes, Option, Some, None, option_map, option_and_then, ℤ, pos, refl, sym, ap, ap₂, subst, ◌∙◌, arith, ◌⊎◌, inl, inr, append_assoc}
-use Rattle.std.proofs.Math.Seq.{take-append_seam, drop-append_seam, take-append-add}
-use Rattle.std.proofs.lemmas.Bool.{cases_Bool, cases_lt}
+use Rattle.std.proofs.Common.{◌≡◌, ℕ, zero, suc, ◌+◌, ◌-◌, ◌%◌, ◌^◌, ◌<◌, ◌≤◌, List, [], ◌∷◌, ◌++◌, length, take, drop, codes, Option, Some, None, ℤ, refl, sym, ap, ap₂, subst, ◌∙◌, arith, inl, inr, append_assoc}
+use Rattle.std.proofs.Math.Seq.{take-append-add}
+use Rattle.std.proofs.lemmas.Bool.{cases_lt}
 use Rattle.std.proofs.lemmas.List.{length-append, take-append-le}
 use Rattle.cal_base.specs.Texts.Text.{raised, raised_all}
 use Rattle.cal_moment.specs.BadPlace.{IsIn, BeginsOne, IsBadAt}
 use Rattle.cal_moment.specs.Texts.{digits, signed}
-use Rattle.cal_model.specs.declared.rule.DayPart.{DayPart}
 use Rattle.cal_model.specs.Values.BadValues.{Reads}
 use Rattle.cal_model.specs.Values.RuleTexts.{weekdays, weekday_named, if_place, place_number}
 use Rattle.cal_model.specs.Values.ValueTexts.{count_of, integer_of, is_negative}
 use Rattle.cal_model.proofs.Values.CutLemmas.{option_map_some, and_then_some, SpellsCount-count_of, first_below, rest_below}
 use Rattle.cal_model.proofs.Values.DayFronts.{HasRow, word_row}
 use Rattle.ical_values.specs.DayForms.{Low, BeginsHigh, EndsLow, SpellsOrdinalDay}
-use Rattle.ical_values.proofs.SignPlaces.{SignCase, sign_case, unsigned}
+use Rattle.ical_values.proofs.SignPlaces.{sign_case, unsigned}
 use Rattle.ical_values.proofs.SignPlaces.SignCase.{has_minus, has_plus, no_sign}
 
 -- Octets of both

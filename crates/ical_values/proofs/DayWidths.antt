@@ -1,11 +1,10 @@
 -- How far the octets of an ordinal go.
-use Rattle.std.proofs.Common.{◌≡◌, ℕ, zero, suc, ◌+◌, ◌<◌, ◌≤◌, List, [], ◌∷◌, ◌++◌, length, get_or, take, drop, sym, subst, ap, ◌∙◌, arith, inl, inr, add-one, refl}
-use Rattle.std.proofs.lemmas.List.{drop_all, take-append-drop}
+use Rattle.std.proofs.Common.{◌≡◌, ℕ, zero, suc, ◌+◌, ◌<◌, ◌≤◌, List, [], ◌∷◌, ◌++◌, length, get_or, take, drop, sym, subst, arith, inl, inr, add-one}
+use Rattle.std.proofs.lemmas.List.{drop_all}
 use Rattle.cal_moment.specs.BadPlace.{IsIn, IsBadAt}
-use Rattle.cal_model.specs.declared.rule.DayPart.{DayPart}
 use Rattle.cal_model.specs.Values.BadValues.{Reads}
 use Rattle.cal_model.specs.Values.RuleTexts.{weekday_named, place_number}
-use Rattle.ical_values.specs.DayForms.{Low, BeginsHigh, EndsLow, SpellsOrdinalDay}
+use Rattle.ical_values.specs.DayForms.{Low, EndsLow, SpellsOrdinalDay}
 use Rattle.ical_values.proofs.DayPlaces.{bad_ordinal, bad_weekday_behind}
 
 pub low_none : (text : List ℕ) → Low (take 0 text)

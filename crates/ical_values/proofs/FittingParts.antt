@@ -1,14 +1,13 @@
 -- A text is bad behind the parts that are read where it leaves the parts that fit.
-use Rattle.std.proofs.Common.{◌≡◌, ℕ, ◌+◌, ◌<◌, ◌≤◌, Bool, true, false, ◌||◌, List, [], ◌∷◌, ◌++◌, length, take, bytes_eq, codes, Option, Some, None, is_some, option_map, refl, sym, ap, ap₂, subst, ◌∙◌, arith, ◌⊎◌, inl, inr}
+use Rattle.std.proofs.Common.{◌≡◌, ℕ, ◌+◌, ◌<◌, ◌≤◌, Bool, true, false, ◌||◌, List, [], ◌∷◌, ◌++◌, length, take, bytes_eq, codes, Option, Some, option_map, refl, sym, ap, ap₂, subst, ◌∙◌, arith, inl, inr}
 use Rattle.std.specs.List.{list_any}
 use Rattle.std.proofs.lemmas.Bool.{cases_Bool, false≢true}
 use Rattle.std.proofs.lemmas.Option.{same_Some}
-use Rattle.cal_base.specs.Lists.NameMap.{Named, value_at}
+use Rattle.cal_base.specs.Lists.NameMap.{Named}
 use Rattle.cal_moment.specs.BadPlace.{IsIn, BeginsOne, IsBadAt}
-use Rattle.cal_model.specs.declared.rule.Freq.{Freq}
 use Rattle.cal_model.specs.declared.rule.Freq.TheVariants.{Yearly}
 use Rattle.cal_model.specs.declared.rule.Rule.{Rule}
-use Rattle.cal_model.specs.Values.RuleTexts.{Part, part_of, is_part_named, freq_of, with_part, is_allowed}
+use Rattle.cal_model.specs.Values.RuleTexts.{Part, is_part_named, freq_of, is_allowed}
 use Rattle.cal_model.proofs.Values.CutLemmas.{Lacks, option_map_some, is_same_text, lacks-append}
 use Rattle.cal_model.proofs.Values.PartFronts.{PartFront, part_front}
 use Rattle.cal_model.proofs.Values.RuleRows.{allowed_less}
@@ -16,7 +15,7 @@ use Rattle.ical_values.specs.RuleParts.{put_part}
 use Rattle.ical_values.specs.RuleReading.{Fits}
 use Rattle.ical_values.proofs.ListPlaces.{lacks_take}
 use Rattle.ical_values.proofs.NextParts.{SpellsNext}
-use Rattle.ical_values.proofs.RuleStates.{AreReadAs, FreqBehind, FreqIs, allowed_yearly, are_standing, first_freq, new_here, not_in, one_more_read, part_freq, put-with_part, stands_fit}
+use Rattle.ical_values.proofs.RuleStates.{AreReadAs, FreqBehind, FreqIs, allowed_yearly, are_standing, new_here, not_in, one_more_read, part_freq, put-with_part, stands_fit}
 
 -- names that are long enough have not come
 names_size : List Part → ℕ

@@ -1,10 +1,10 @@
 -- The parts that can stand behind those of a rule so far, as a grammar of one part.
-use Rattle.std.proofs.Common.{◌≡◌, ℕ, zero, suc, ◌+◌, ◌<◌, ◌≤◌, ◌==◌, Bool, true, false, ◌&&◌, if◌then◌else◌, List, [], ◌∷◌, ◌++◌, length, map, codes, Option, Some, None, option_map, option_and_then, refl, sym, ap, ap₂, subst, ◌∙◌, arith, ◌⊎◌, inl, inr, append_assoc}
+use Rattle.std.proofs.Common.{◌≡◌, ℕ, zero, suc, ◌+◌, ◌<◌, ◌==◌, true, ◌&&◌, if◌then◌else◌, List, [], ◌∷◌, ◌++◌, length, map, codes, Option, Some, None, option_and_then, refl, sym, ap, ap₂, subst, ◌∙◌, arith, ◌⊎◌, inl, inr, append_assoc}
 use Rattle.std.specs.Prelude.{replicate}
 use Rattle.std.specs.List.{list_all}
 use Rattle.std.proofs.lemmas.Bool.{cases_Bool, eqb-false, lt-ltb}
 use Rattle.std.proofs.lemmas.List.{length-append, append-nil}
-use Rattle.std.proofs.lemmas.Option.{none-some, same_Some}
+use Rattle.std.proofs.lemmas.Option.{same_Some}
 use Rattle.cal_base.specs.Lines.ContentLines.{pieces, onto_first, every, is_name, is_name_octet}
 use Rattle.cal_base.specs.Texts.Text.{raised_all}
 use Rattle.cal_moment.specs.BadPlace.{IsIn, BeginsOne, IsBadAt}
@@ -12,7 +12,7 @@ use Rattle.cal_model.specs.declared.rule.Freq.{Freq}
 use Rattle.cal_model.specs.declared.rule.Freq.TheVariants.{Secondly, Minutely, Hourly, Daily, Weekly, Monthly, Yearly}
 use Rattle.cal_model.specs.declared.rule.Rule.{Rule}
 use Rattle.cal_model.specs.Values.BadValues.{Reads}
-use Rattle.cal_model.specs.Values.RuleTexts.{Part, if_named, part_of, without_last_empty, rule_parts, rule_of_parts}
+use Rattle.cal_model.specs.Values.RuleTexts.{Part, if_named, part_of, without_last_empty, rule_of_parts}
 use Rattle.cal_model.specs.Values.ValueTexts.{cut}
 use Rattle.cal_model.proofs.Values.BadValueLaws.{joined, first_piece, pieces-append, pieces-lacks}
 use Rattle.cal_model.proofs.Values.CutLemmas.{Lacks, and_then_some, cut-append, lacks-append}

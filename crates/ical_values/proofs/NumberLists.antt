@@ -1,9 +1,9 @@
 -- Lists of the numbers of rules: no number has a comma, and what is made of numbers is bad where they are.
-use Rattle.std.proofs.Common.{◌≡◌, ℕ, ◌<◌, List, [], ◌∷◌, drop, Option, Some, ℤ, sym, ap, subst, arith, option_map}
+use Rattle.std.proofs.Common.{◌≡◌, ℕ, List, drop, Some, ℤ, sym, subst, arith}
 use Rattle.cal_moment.specs.BadPlace.{IsIn}
 use Rattle.cal_moment.specs.Texts.{signed}
 use Rattle.cal_model.specs.Values.BadValues.{Reads}
-use Rattle.cal_model.specs.Values.RuleTexts.{if_between, number_of, if_place, place_number, second_number}
+use Rattle.cal_model.specs.Values.RuleTexts.{if_between, number_of, if_place}
 use Rattle.cal_model.specs.Values.ValueTexts.{count_of, integer_of, is_negative}
 use Rattle.std.specs.Prelude.{min}
 use Rattle.cal_model.proofs.Values.CutLemmas.{Lacks, option_map_some, and_then_some, SpellsCount-count_of}
@@ -13,7 +13,7 @@ use Rattle.ical_values.specs.declared.rule_lists.PlaceForm.{PlaceForm}
 use Rattle.ical_values.specs.Parts.{LacksComma}
 use Rattle.ical_values.specs.RuleForms.{count_by, most_of, place_by}
 use Rattle.ical_values.proofs.FormPlaces.{lacks_low, as_lacks_comma}
-use Rattle.ical_values.proofs.SignPlaces.{SignCase, sign_case, unsigned}
+use Rattle.ical_values.proofs.SignPlaces.{sign_case, unsigned}
 use Rattle.ical_values.proofs.SignPlaces.SignCase.{has_minus, has_plus, no_sign}
 
 count_lacks : (text : List ℕ) (n : ℕ) → count_of text ≡ Some n → Lacks 44 text

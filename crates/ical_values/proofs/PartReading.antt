@@ -1,5 +1,5 @@
 -- One part of a rule: what is known once it is read, and where it is bad.
-use Rattle.std.proofs.Common.{◌≡◌, ℕ, zero, suc, ◌+◌, ◌-◌, ◌<◌, ◌≤◌, Bool, true, false, not, ◌&&◌, ◌==◌, nat_le, if◌then◌else◌, List, [], ◌∷◌, ◌++◌, length, take, Option, Some, None, is_some, option_map, option_and_then, Err, refl, sym, ap, ap₂, subst, ◌∙◌, arith, inl, inr, append_assoc}
+use Rattle.std.proofs.Common.{◌≡◌, ℕ, ◌+◌, ◌-◌, ◌≤◌, Bool, true, false, not, ◌&&◌, ◌==◌, nat_le, if◌then◌else◌, List, [], ◌∷◌, ◌++◌, length, take, Some, None, is_some, option_map, option_and_then, Err, refl, sym, ap, subst, ◌∙◌, arith, inl, inr, append_assoc}
 use Rattle.std.specs.Prelude.{IsErrOf}
 use Rattle.std.specs.List.{list_all}
 use Rattle.std.proofs.Math.Seq.{take-length}
@@ -12,7 +12,7 @@ use Rattle.cal_base.specs.Texts.Text.{raised, raised_all}
 use Rattle.cal_moment.specs.BadPlace.{IsIn, IsBadAt}
 use Rattle.cal_model.specs.declared.rule.Rule.{Rule}
 use Rattle.cal_model.specs.Values.BadValues.{Reads}
-use Rattle.cal_model.specs.Values.RuleTexts.{Part, if_named, part_of, is_allowed}
+use Rattle.cal_model.specs.Values.RuleTexts.{if_named, part_of, is_allowed}
 use Rattle.cal_model.specs.Values.ValueTexts.{cut}
 use Rattle.cal_model.proofs.Values.CutLemmas.{cut-some, option_map_some}
 use Rattle.cal_model.proofs.Values.PartFronts.{part_of-named}

@@ -1,18 +1,16 @@
 -- The parts of a text, one after another: what is known of those that are read and of the rest, and where the text is bad.
-use Rattle.std.proofs.Common.{◌≡◌, ℕ, ◌+◌, ◌-◌, ◌<◌, ◌≤◌, Bool, true, false, not, List, [], ◌∷◌, ◌++◌, length, take, codes, Option, Some, None, is_some, is_none, refl, sym, ap, subst, ◌∙◌, arith, inl, inr}
+use Rattle.std.proofs.Common.{◌≡◌, ℕ, ◌+◌, ◌-◌, ◌<◌, Bool, true, false, not, List, [], ◌∷◌, ◌++◌, length, Option, Some, None, is_some, is_none, refl, sym, ap, subst, ◌∙◌, arith, inl, inr}
 use Rattle.std.specs.Borrow.{Bor}
 use Rattle.std.proofs.lemmas.Bool.{false≢true}
-use Rattle.std.proofs.lemmas.List.{length-append}
 use Rattle.std.proofs.lemmas.Option.{none-some}
-use Rattle.cal_base.specs.Lists.NameMap.{Named, value_at, with_value}
-use Rattle.cal_moment.specs.BadPlace.{IsIn, BeginsOne, IsBadAt}
-use Rattle.cal_model.specs.declared.rule.Freq.{Freq}
-use Rattle.cal_model.specs.declared.rule.Freq.TheVariants.{Secondly, Minutely, Hourly, Daily, Weekly, Monthly, Yearly}
+use Rattle.cal_base.specs.Lists.NameMap.{Named, with_value}
+use Rattle.cal_moment.specs.BadPlace.{IsIn, IsBadAt}
+use Rattle.cal_model.specs.declared.rule.Freq.TheVariants.{Yearly}
 use Rattle.cal_model.specs.declared.rule.Rule.{Rule}
 use Rattle.cal_model.specs.Values.BadValues.{Reads}
 use Rattle.cal_model.specs.Values.RuleTexts.{Part, every_time, rule_of_parts, rule_in_grammar}
 use Rattle.cal_model.specs.Values.ValueTexts.{cut}
-use Rattle.cal_model.proofs.Values.CutLemmas.{Lacks, cases_Option, cut-some}
+use Rattle.cal_model.proofs.Values.CutLemmas.{Lacks, cut-some}
 use Rattle.cal_model.proofs.Values.RuleFronts.{freq_part, freq_text, freq_text_is}
 use Rattle.ical_values.specs.Parts.{piece_parts, text_there}
 use Rattle.ical_values.specs.RuleReading.{Fits, HasTaken, HasTakenPiece, IsBadPiece, IsReadWhole}

@@ -1,14 +1,14 @@
 -- Rules, part by part: the parts that are read, and where the rest is bad behind them.
-use Rattle.std.proofs.Common.{◌≡◌, ℕ, zero, suc, ◌+◌, ◌-◌, ◌<◌, ◌≤◌, Bool, true, false, ◌==◌, if◌then◌else◌, List, [], ◌∷◌, ◌++◌, length, map, take, drop, Option, Some, None, option_map, option_and_then, refl, sym, ap, ap₂, subst, ◌∙◌, arith, ◌⊎◌, inl, inr, append_assoc}
+use Rattle.std.proofs.Common.{◌≡◌, ℕ, suc, ◌+◌, ◌-◌, ◌≤◌, true, false, if◌then◌else◌, List, [], ◌∷◌, ◌++◌, length, map, take, Option, Some, None, option_map, option_and_then, refl, sym, ap, subst, ◌∙◌, arith, inl, inr, append_assoc}
 use Rattle.std.proofs.lemmas.List.{length-append, append-nil}
 use Rattle.std.proofs.lemmas.Option.{none-some}
 use Rattle.cal_base.specs.Lines.ContentLines.{pieces, every}
-use Rattle.cal_moment.specs.BadPlace.{IsIn, BeginsOne, IsBadAt}
+use Rattle.cal_moment.specs.BadPlace.{IsBadAt}
 use Rattle.cal_model.specs.declared.rule.Rule.{Rule}
 use Rattle.cal_model.specs.Values.BadValues.{Reads, IsBadRuleAt}
-use Rattle.cal_model.specs.Values.RuleTexts.{Part, part_of, without_last_empty, rule_parts, freq_in, rule_of_freq, is_each_once, rule_of_parts, rule_in_grammar, is_within_bound, rule_of, if_within_bound}
+use Rattle.cal_model.specs.Values.RuleTexts.{Part, part_of, without_last_empty, rule_parts, rule_of_parts, rule_in_grammar, is_within_bound, rule_of, if_within_bound}
 use Rattle.cal_model.proofs.Values.BadValueLaws.{first_piece, pieces-lacks}
-use Rattle.cal_model.proofs.Values.CutLemmas.{Lacks, cases_Option, cut-append, and_then_some, if_some}
+use Rattle.cal_model.proofs.Values.CutLemmas.{Lacks, cases_Option, cut-append}
 use Rattle.cal_model.proofs.Values.LengthLaws.{some_octets}
 use Rattle.ical_values.proofs.CutTexts.{pieces_at}
 use Rattle.ical_values.proofs.SignPlaces.{Same, bad_behind_octet}

@@ -1,21 +1,18 @@
 -- What is known of the parts of a rule that are read: a rule and their names. So the parts that fit are those that can stand behind them.
-use Rattle.std.proofs.Common.{◌≡◌, ℕ, ◌+◌, ◌<◌, ◌≤◌, Bool, true, false, cond, not, ◌&&◌, ◌||◌, nat_eq, if◌then◌else◌, List, [], ◌∷◌, ◌++◌, length, take, find, bytes_eq, codes, Option, Some, None, is_some, ℤ, option_map, option_and_then, refl, sym, ap, ap₂, subst, ◌∙◌, arith, ◌⊎◌, inl, inr}
+use Rattle.std.proofs.Common.{◌≡◌, ℕ, Bool, true, false, cond, not, ◌&&◌, ◌||◌, nat_eq, if◌then◌else◌, List, [], ◌∷◌, ◌++◌, find, bytes_eq, codes, Option, Some, None, is_some, ℤ, option_map, option_and_then, refl, sym, ap, subst, ◌∙◌, ◌⊎◌, inl, inr}
 use Rattle.std.specs.List.{list_any, starts_with}
 use Rattle.std.proofs.lemmas.Bool.{cases_Bool, false≢true}
 use Rattle.std.proofs.lemmas.Option.{none-some, same_Some}
 use Rattle.cal_base.specs.Lists.NameMap.{Named, value_at, with_value}
 use Rattle.cal_base.proofs.Lists.NameMapLemmas.{value_at_with}
-use Rattle.cal_moment.specs.BadPlace.{IsIn, BeginsOne, IsBadAt}
 use Rattle.cal_model.specs.declared.rule.Freq.{Freq}
 use Rattle.cal_model.specs.declared.rule.Freq.TheVariants.{Secondly, Minutely, Hourly, Daily, Weekly, Monthly, Yearly}
 use Rattle.cal_model.specs.declared.rule.Rule.{Rule}
-use Rattle.cal_model.specs.declared.rule.Until.{Until}
-use Rattle.cal_model.specs.Values.RuleTexts.{Part, part_of, is_part_named, is_each_once, freq_of, freq_in, number_of, until_of, weekday_named, place_number, second_number, day_of, list_of, meanings, with_part, with_parts, every_time, rule_of_freq, is_ordinal, has_some, refuses, has_ordinals, is_allowed, rule_of_parts}
-use Rattle.cal_model.proofs.Values.CutLemmas.{Lacks, cases_Option, and_then_some, option_map_some, if_some, same_text, is_same_text, lacks-append}
-use Rattle.cal_model.proofs.Values.PartFronts.{by_row, part_front}
-use Rattle.cal_model.proofs.Values.RuleFronts.{Apart, ArePartsOf, Stand, apart_from_none, apart_lacks, apart_more, find-left, find-right, freq_part, freq_says_nothing, once-join, once-split, or_false, parts_made, parts_make, with-join, with-split}
-use Rattle.cal_model.proofs.Values.RuleRows.{Row, allowed_less, three_parts, all_three}
-use Rattle.cal_model.proofs.Values.RuleTable.{freq_of-word}
+use Rattle.cal_model.specs.Values.RuleTexts.{Part, part_of, is_part_named, is_each_once, freq_of, freq_in, number_of, until_of, weekday_named, day_of, list_of, meanings, with_part, with_parts, every_time, rule_of_freq, is_ordinal, has_some, refuses, has_ordinals, is_allowed, rule_of_parts}
+use Rattle.cal_model.proofs.Values.CutLemmas.{cases_Option, and_then_some, option_map_some, if_some, same_text, is_same_text}
+use Rattle.cal_model.proofs.Values.PartFronts.{by_row}
+use Rattle.cal_model.proofs.Values.RuleFronts.{Apart, Stand, apart_from_none, apart_lacks, apart_more, find-left, find-right, freq_part, freq_says_nothing, once-join, once-split, or_false, parts_made, parts_make, with-join, with-split}
+use Rattle.cal_model.proofs.Values.RuleRows.{Row, three_parts, all_three}
 use Rattle.ical_values.specs.declared.rule_lists.CountForm.{CountForm}
 use Rattle.ical_values.specs.declared.rule_lists.CountForm.TheVariants.{Month, Hour, Minute, Second}
 use Rattle.ical_values.specs.declared.rule_lists.PlaceForm.{PlaceForm}
@@ -26,9 +23,7 @@ use Rattle.ical_values.specs.declared.rule_parts.PartValue.{PartValue}
 use Rattle.ical_values.specs.declared.rule_parts.PartValue.TheVariants.{Freq as OfFreq, Interval as OfInterval, Count as OfCount, Until as OfUntil, WeekStart as OfWeekStart, Days as OfDays, Counts as OfCounts, Places as OfPlaces}
 use Rattle.ical_values.specs.RuleForms.{count_by, place_by}
 use Rattle.ical_values.specs.RuleParts.{name_of, named_in, parts, part_named, value_of, put, put_counts, put_places, put_named, put_part}
-use Rattle.ical_values.specs.RuleReading.{Fits, HasTaken}
-use Rattle.ical_values.proofs.ListPlaces.{lacks_take}
-use Rattle.ical_values.proofs.NextParts.{SpellsNext}
+use Rattle.ical_values.specs.RuleReading.{Fits}
 
 -- The table of the parts, and that of their meanings
 

@@ -1,4 +1,4 @@
-use Rattle.std.proofs.Common.{◌≡◌, ◌*◌, ℕ, List, min, max, nat_le, arith, ap, ◌∙◌}
+use Rattle.std.proofs.Common.{◌*◌, ℕ, List, min, max, nat_le, arith, ap, ◌∙◌}
 use Rattle.cal_model.specs.Values.RuleTexts.{distinct}
 use Rattle.ical_values.proofs.Distinct.{few_times}
 use Rattle.ical_values.proofs.rule_bound.are_few.Goals as goal

@@ -1,4 +1,4 @@
-use Rattle.std.proofs.Common.{false, refl, slice_index_or, arith}
+use Rattle.std.proofs.Common.{refl, arith}
 use Rattle.ical_values.proofs.Distinct.{at_most_one, counted_more, marked_more, none_marked}
 use Rattle.ical_values.proofs.rule_bound.distinct.Goals as goal
 

@@ -1,5 +1,4 @@
-use Rattle.std.proofs.Common.{ℕ, ◌≡◌, List, length, take, drop, arith, subst, sym}
-use Rattle.std.proofs.Math.Seq.{take-length}
+use Rattle.std.proofs.Common.{ℕ, take, arith, subst}
 use Rattle.ical_values.specs.DayForms.{Low}
 use Rattle.ical_values.proofs.DayWidths.{low_none, low_more, ends_here, ends_last}
 use Rattle.ical_values.proofs.rule_days.ordinal_width.Goals as goal

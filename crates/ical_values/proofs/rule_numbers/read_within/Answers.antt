@@ -1,4 +1,4 @@
-use Rattle.std.proofs.Common.{◌≡◌, ◌≤◌, ℕ, arith, inl, inr, sym, ◌∙◌, ◌*◌, ◌+◌, length}
+use Rattle.std.proofs.Common.{◌≡◌, ◌≤◌, arith, inl, inr, sym, ◌∙◌, ◌*◌, ◌+◌, length}
 use borrow.Author.Tests.{false-eqb, true-eqb}
 use Rattle.ical_values.proofs.Counts.{digit_fits, more_digits}
 use Rattle.ical_values.proofs.CountPlaces.{bad_octet, bad_tenth, bad_digit, bad_end, goes_further, count_read, still_takes, takes_none}

@@ -1,5 +1,4 @@
 use Rattle.std.proofs.Common.{Some, None, option_map, sym, ap, ◌∙◌}
-use Rattle.cal_moment.specs.BadPlace.{IsBadAt}
 use Rattle.cal_model.specs.Values.BadValues.{Reads}
 use Rattle.cal_model.specs.Values.RuleTexts.{until_of}
 use Rattle.cal_model.proofs.Values.BadValueLaws.{bad_by_same}
