@@ -156,6 +156,11 @@ def values():
         best = min(run(VALUES, [], text)[0] for _ in range(5))
         answer = run(VALUES, [], text)[2].decode().strip()
         print(f"{f'RDATE of {count} moments':34} {len(text):8d} {best:8.4f} {best / len(text) * 1e9:9.1f}  {answer}")
+    for count in (13105, 26211, 52424, 104856, 209712):
+        text = b"RRULE:FREQ=YEARLY;BYYEARDAY=" + b",".join([b"-366"] * count) + b"\r\n"
+        best = min(run(VALUES, [], text)[0] for _ in range(5))
+        answer = run(VALUES, [], text)[2].decode().strip()
+        print(f"{f'RRULE of {count} days':34} {len(text):8d} {best:8.4f} {best / len(text) * 1e9:9.1f}  {answer}")
 
 
 def filled(front, part, end, size):

@@ -13,6 +13,8 @@ mod plain_values;
 #[cfg(test)]
 mod rule_cases;
 #[cfg(test)]
+mod rule_texts;
+#[cfg(test)]
 mod rule_walks;
 #[cfg(test)]
 mod zones;

@@ -1,4 +1,14 @@
+pub mod DayForms
 pub mod Forms
 pub mod LineTexts
 pub mod Parts
+pub mod RuleBeside
+pub mod RuleForms
+pub mod RuleFreqs
+pub mod RuleNames
+pub mod RuleNumbers
+pub mod RuleParts
+pub mod RuleReading
+pub mod RuleWords
+pub mod UntilForms
 pub mod ZonePlaces

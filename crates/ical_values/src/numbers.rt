@@ -29,7 +29,7 @@ pub fn read_repeat(text: &[u8]) -> Option<u32>
 }
 
 /// Cuts a sign off a text, and says whether it is a minus; none is plus.
-fn cut_sign(text: &[u8]) -> (bool, &[u8])
+pub fn cut_sign(text: &[u8]) -> (bool, &[u8])
     ensures negative { result.0 ≡ is_negative text.now }
     ensures rest { result.1.now ≡ drop (sign_length text.now) text.now }
 {
@@ -41,7 +41,7 @@ fn cut_sign(text: &[u8]) -> (bool, &[u8])
 }
 
 /// A number with its sign.
-fn signed_number(negative: bool, number: u32) -> i32
+pub fn signed_number(negative: bool, number: u32) -> i32
     requires { number < 1_000_000_000 }
     ensures value { result ≡ signed negative number }
     ensures range { IsBetween (neg_ℤ (pos number)) (pos number) result }
@@ -72,7 +72,7 @@ fn read_count(text: &[u8]) -> Option<u32>
 }
 
 /// The value of a digit.
-fn digit_value(octet: u8) -> Option<u32>
+pub fn digit_value(octet: u8) -> Option<u32>
     ensures some { IfSome result (λ digit. (digit ≤ 9) × (octet ≡ 48 + digit)) }
     ensures none { IfNone result (IsDigitOctet octet → ⊥) }
 {
