@@ -1,12 +1,12 @@
 -- Changes as they are kept: with what was read of an object beside its octets, and shared. What each is a change of, and which may be made in a state.
 -- Given: a change as a journal keeps it. Gives: the change that it is.
-use Rattle.std.specs.Prelude.{◌≡◌, ℕ, List}
+use Rattle.std.specs.Prelude.{◌≡◌, ℕ, Bool, true, false, List, Some}
 use Rattle.cal_model.specs.declared.path.ObjectPath.{ObjectPath}
 use Rattle.cal_model.specs.declared.change.Change.{Change as KeptChange}
 use Rattle.cal_model.specs.declared.change.Change.TheVariants as kept
 use Rattle.cal_model.specs.State.ServerState.{Directory, ServerState}
-use Rattle.cal_model.specs.State.Changes.{Change, put, delete_object, delete_calendar, make, patch, acl}
-use Rattle.cal_model.specs.History.Journal.{Entry, IsAcceptedAt}
+use Rattle.cal_model.specs.State.Changes.{Change, put, delete_object, delete_calendar, make, patch, acl, change_of}
+use Rattle.cal_model.specs.History.Journal.{Entry, asked, IsAcceptedAt}
 
 -- the change that is kept
 abbrev pub kept_change : KeptChange → Change
@@ -23,6 +23,15 @@ pub record IsAtPlace (home : ℕ) (calendar object : List ℕ) (path : ObjectPat
   pub calendar_is : path.calendar ≡ calendar
   pub object_is : path.object ≡ object
 
--- a change may be made in a state: some request for it is accepted there
-abbrev pub IsAcceptable : Directory → ServerState → Change → Type 0
-IsAcceptable directory state change = (entry : Entry) × (entry.change ≡ change) × IsAcceptedAt directory state entry
+-- a deletion: what takes away takes no memory
+abbrev pub is_deletion : Change → Bool
+is_deletion (delete_object home calendar object) = true
+is_deletion (delete_calendar home calendar) = true
+is_deletion other = false
+
+-- a change may be made in a state: the request that an entry with it names asks for it, and is accepted there
+pub record IsAcceptable (directory : Directory) (state : ServerState) (change : Change) : Type 0 where
+  pub entry : Entry
+  pub entry_is : entry.change ≡ change
+  pub asked_is : change_of directory (asked directory entry).request ≡ Some change
+  pub accepted_is : IsAcceptedAt directory state entry
