@@ -105,6 +105,7 @@ is_known-push known user name =
       by_found None true = refl
       by_found None false = refl
       by_found (Some n) same = refl
+
       same_names : (one other : List ℕ) → bytes_eq one other ≡ bytes_eq other one
       same_names one other =
           same_from_decides _ _ (bytes_eq-Decides one other)
@@ -177,11 +178,11 @@ welcome known place bad ended user users room absent =
     let faults : fault_of (known ++ user ∷ []) bad ended users ≡ fault_of known bad ended (one ∷ users) =
     ap (λ o. joined (least bad) (joined ended (joined o (joined (least (repeated users)) last)))) (again-push known user users)
     ∙ ap (λ o. joined (least bad) (joined ended o))
-      (sym (joined-assoc (least (again known users)) (least (places same)) (joined (least (repeated users)) last))
-      ∙ ap (joined (least (again known users))) (joined-assoc (least (places same)) (least (repeated users)) last)
-      ∙ ap (λ o. joined (least (again known users)) (joined o last)) (sym twice)
-      ∙ ap (λ ns. joined (least ns) (joined (least (repeated (one ∷ users))) last)) (sym heard)
-      ∙ ap (λ ns. joined (least (again known (one ∷ users))) (joined (least (repeated (one ∷ users))) (least ns))) (sym fewer)) in
+    (sym (joined-assoc (least (again known users)) (least (places same)) (joined (least (repeated users)) last))
+    ∙ ap (joined (least (again known users))) (joined-assoc (least (places same)) (least (repeated users)) last)
+    ∙ ap (λ o. joined (least (again known users)) (joined o last)) (sym twice)
+    ∙ ap (λ ns. joined (least ns) (joined (least (repeated (one ∷ users))) last)) (sym heard)
+    ∙ ap (λ ns. joined (least (again known (one ∷ users))) (joined (least (repeated (one ∷ users))) (least ns))) (sym fewer)) in
     ap (λ all. verdict_by (fault_of (known ++ user ∷ []) bad ended users) all) (append_assoc known (user ∷ []) (map (λ (other : Placed User). other.it) users))
     ∙ ap (λ fault. verdict_by fault (known ++ user ∷ map (λ (other : Placed User). other.it) users)) faults
 
@@ -213,6 +214,7 @@ module _ (place : ℕ) (bad : List (Placed (List ℕ))) (ended : Option ℕ) (us
     refused true None there = sym there
     refused true (Some n) there = refl
     refused false o there = refl
+
     taken : (room : Bool) (o : Option ℕ) → room ≡ true → is_some o ≡ false → (room && is_none o) ≡ true
     taken true None room absent = refl
     taken true (Some n) room absent = sym absent
@@ -238,6 +240,7 @@ of_last known place last =
     ∙ ap (λ o. verdict_by (joined (least (places (cond (not (is_empty last)) (record { place = place; it = last } ∷ []) []))) o) (known ++ [])) (sym (ap (λ us. least (places us)) (drop_none {X = Placed User} (user_limit - length known)))) where
       one : Placed (List ℕ)
       one = record { place = place; it = last }
+
       by_end : (empty : Bool) → (if empty then Ok known else Err place) ≡ verdict_by (joined (least (places (cond (not empty) (one ∷ []) []))) None) (known ++ [])
       by_end true = ap Ok (sym (append-nil known))
       by_end false = refl

@@ -110,7 +110,7 @@ told-push users user told some new = record {
             ap (number_of (users ++ user ∷ [])) (name_before users user who before)
             ∙ number_of-push users user (name_at users who)
             ∙ ap (or_last (λ (other : User). bytes_eq (name_at users who) other.name) users user)
-              (number_of-directory users (name_at users who) ∙ told.own who (omega (arith, before, directory_size users)))
+            (number_of-directory users (name_at users who) ∙ told.own who (omega (arith, before, directory_size users)))
         | inr behind ↦
             let last : who ≡ length users = omega (arith, within, behind, directory_size (users ++ user ∷ []), length_push users user) in
             ap (λ n. number_of (users ++ user ∷ []) (name_at (users ++ user ∷ []) n)) last

@@ -48,9 +48,7 @@ fn is_user_name(text: &[u8]) -> bool
 {
     match text.split_first() {
         Some((first, rest)) => {
-            is_small_letter(*first)
-                && are_name_octets(rest)
-                && rest.len() <= 31
+            is_small_letter(*first) && are_name_octets(rest) && rest.len() <= 31
         }
         None => false,
     }

@@ -71,12 +71,7 @@ fn read_lines(alloc: Global, users: &mut Users, octets: &[u8]) -> Result<(), Use
 }
 
 /// Adds the user of a line at a place, if it names one.
-fn read_line(
-    alloc: Global,
-    users: &mut Users,
-    place: u64,
-    line: &[u8],
-) -> Result<(), UsersFault>
+fn read_line(alloc: Global, users: &mut Users, place: u64, line: &[u8]) -> Result<(), UsersFault>
     ensures users { OnOk result (read_line users.old place line.now ≡ Ok users.new) }
     ensures fault { (at : ℕ) → IsErrOf result (UsersFault.Line at) → read_line users.old place line.now ≡ Err at }
 {
