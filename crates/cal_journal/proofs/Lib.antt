@@ -1,0 +1,2 @@
+pub mod OwnChanges
+pub mod ReplaySteps

@@ -1,0 +1,9 @@
+pub mod Places
+pub mod Cuts
+pub mod DigestSteps
+pub mod FirstFaults
+pub mod ReadingInOrder
+pub mod UserLines
+pub mod LineSteps
+pub mod UserNumbers
+pub mod Authentication

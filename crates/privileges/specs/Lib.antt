@@ -1,0 +1,4 @@
+pub mod LineCuts
+pub mod KnownUsers
+pub mod LineReading
+pub mod ShownUsers

@@ -1,0 +1,44 @@
+//! What a user holds on a calendar (RFC 3744, 5.5; RFC 4791, 6.1.1).
+ghost use Rattle.std.specs.Prelude.{◌≡◌, ◌^◌, ◌<◌, []};
+ghost use Rattle.cal_model.specs.Access.Privileges as spec;
+
+use cal_model::{Acl, Grant, PrivilegeSet, Who};
+
+/// All nine privileges.
+const ALL: u16 = 511;
+
+/// The privileges that a user holds on a calendar of an owner: all, where they are the same user,
+/// and else the union of the grants to that user and to everyone. Takes no memory.
+pub fn held(acl: &Acl, owner: u32, who: u32) -> PrivilegeSet
+    ensures { result.0 ≡ spec.privileges_held [] acl.now.grants owner who }
+{
+    if owner == who {
+        PrivilegeSet(ALL)
+    } else {
+        PrivilegeSet(granted(acl.grants.as_slice(), who))
+    }
+}
+
+/// The union of the grants to a user.
+fn granted(grants: &[Grant], who: u32) -> u16
+    ensures { result ≡ spec.granted [] grants.now who }
+{
+    let mut set = 0;
+    for grant in grants {
+        if is_to(grant.who, who) {
+            set |= grant.held.0;
+        }
+    }
+    set
+}
+
+/// Whether a grant is to a user. (There are no groups so far: a grant to one is one arm more here.)
+fn is_to(whom: Who, who: u32) -> bool
+    ensures { result ≡ spec.fits_user [] who whom }
+{
+    match whom {
+        Who::Everyone => true,
+        Who::Owner => false,
+        Who::Principal(number) => number == who,
+    }
+}

@@ -1,0 +1,105 @@
+//! Reading a users file.
+ghost use Rattle.std.specs.Prelude.{◌≡◌, ℕ, ◌+◌, ◌<◌, ◌^◌, length, Ok, Err, IfOk, IfNone, IfSome, OnOk, OnErr, IsErrOf, IsNone, Option, Some};
+ghost use Rattle.cal_base.specs.Lines.ContentLines.{pieces};
+ghost use Rattle.cal_base.specs.Texts.Octets.{line_feed};
+ghost use Rattle.cal_model.specs.Users.UsersFile.{users_of};
+ghost use Rattle.privileges.specs.LineReading.{read_line, read_on, with_user};
+
+use crate::lines::{cut, is_silent, user_of_line};
+use crate::users::Users;
+use cal_base::NoMemory;
+use std::alloc::Global;
+
+/// The most users of a file.
+const MOST_USERS: u32 = 32;
+
+/// Why a users file was not read.
+#[derive(Debug, Clone, Copy, PartialEq, Eq)]
+pub enum UsersFault {
+    /// The first line that is outside the grammar, lacks its end, repeats a name or names a user too
+    /// many: the place of its first octet in the file.
+    Line { place: u64 },
+    /// There was no memory.
+    NoMemory,
+}
+
+impl From<NoMemory> for UsersFault {
+    ghost use Rattle.std.specs.Prelude.{◌≡◌};
+    ghost use Rattle.privileges.specs.declared.reading.UsersFault.TheVariants.{NoMemory as WithoutMemory};
+
+    ghost from_gives = { λ _ fault. fault ≡ WithoutMemory };
+
+    fn from(_error: NoMemory) -> UsersFault {
+        UsersFault::NoMemory
+    }
+}
+
+/// The users of a file, in the order of its lines.
+///
+/// A line ends in a line feed alone. It is empty, a comment that begins with `#`, or `user NAME HASH`
+/// with single spaces: a name of 1 to 32 of `a-z 0-9 - _ .`, a letter first, and the SHA-256 of the
+/// password in 64 lower-case hexadecimal digits. No name stands twice, and there are at most 32. The
+/// lines are gone over once.
+pub fn read_users(alloc: Global, octets: &[u8]) -> Result<Users, UsersFault>
+    ensures users { IfOk result (λ users. users_of octets.now ≡ Ok users) }
+    ensures fault { (place : ℕ) → IsErrOf result (UsersFault.Line place) → users_of octets.now ≡ Err place }
+{
+    let mut users = Users::new(alloc);
+    match read_lines(alloc, &mut users, octets) {
+        Ok(()) => Ok(users),
+        Err(fault) => Err(fault),
+    }
+}
+
+/// Adds the users of all lines to those that are known.
+fn read_lines(alloc: Global, users: &mut Users, octets: &[u8]) -> Result<(), UsersFault>
+    ensures users { OnOk result (read_on users.old 0 (pieces line_feed octets.now) ≡ Ok users.new) }
+    ensures fault { (place : ℕ) → IsErrOf result (UsersFault.Line place) → read_on users.old 0 (pieces line_feed octets.now) ≡ Err place }
+{
+    let mut rest = octets;
+    'lines: while let Some((line, behind)) = cut(rest, b'\n') {
+        let place = (octets.len() - rest.len()) as u64;
+        read_line(alloc, users, place, line)?;
+        rest = behind;
+    }
+    if rest.is_empty() {
+        Ok(())
+    } else {
+        let place = (octets.len() - rest.len()) as u64;
+        Err(UsersFault::Line { place })
+    }
+}
+
+/// Adds the user of a line at a place, if it names one.
+fn read_line(alloc: Global, users: &mut Users, place: u64, line: &[u8]) -> Result<(), UsersFault>
+    ensures users { OnOk result (read_line users.old place line.now ≡ Ok users.new) }
+    ensures fault { (at : ℕ) → IsErrOf result (UsersFault.Line at) → read_line users.old place line.now ≡ Err at }
+{
+    match user_of_line(line) {
+        Some((name, digest)) => add_user(alloc, users, place, name, digest),
+        None if is_silent(line) => Ok(()),
+        None => Err(UsersFault::Line { place }),
+    }
+}
+
+/// Adds a user whose line stands at a place, if there is room and nobody has the name.
+fn add_user(
+    alloc: Global,
+    users: &mut Users,
+    place: u64,
+    name: &[u8],
+    digest: &[u8],
+) -> Result<(), UsersFault>
+    requires named { 0 < length name.now }
+    requires whole { length digest.now ≡ 64 }
+    ensures users { OnOk result (with_user users.old place (record { name = name.now; digest = digest.now }) ≡ Ok users.new) }
+    ensures fault { (at : ℕ) → IsErrOf result (UsersFault.Line at) → with_user users.old place (record { name = name.now; digest = digest.now }) ≡ Err at }
+{
+    if users.len() >= MOST_USERS || users.find(name).is_some() {
+        return Err(UsersFault::Line { place });
+    }
+    let mut octets = [0; 64];
+    octets.copy_from_slice(digest);
+    users.add(alloc, name, octets)?;
+    Ok(())
+}

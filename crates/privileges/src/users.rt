@@ -1,0 +1,117 @@
+//! The users of the server.
+ghost use Rattle.std.specs.Prelude.{◌≡◌, ◌≤◌, ◌<◌, ◌∷◌, ◌++◌, [], None, Some, length, OnOk, OnErr, IfSome, slice_get, option_map, bytes_eq};
+ghost use Rattle.cal_model.specs.State.ServerState.{directory_of, user_name, user_number};
+ghost use Rattle.cal_model.specs.State.UserNames.{AreToldApart};
+ghost use Rattle.cal_model.specs.Users.UsersFile as spec;
+
+use crate::digests::is_same;
+use cal_base::{List, NameMap, NoMemory, Octets};
+use std::alloc::Global;
+use std::marker::Model;
+
+/// The name of a user, and the SHA-256 of the password in lower-case hexadecimal digits.
+#[derive(Drop)]
+struct KnownUser {
+    name: Octets,
+    digest: [u8; 64],
+}
+
+/// The users of the server, whom contracts see in the order of their numbers, which count from 0.
+#[derive(Drop)]
+pub struct Users {
+    users: List<KnownUser>,
+    /// The number of each user, by name.
+    numbers: NameMap<u32>,
+}
+
+impl Model for Users {
+    ghost use Rattle.std.specs.Prelude.{List};
+    ghost use Rattle.cal_model.specs.Users.UsersFile.{User};
+    ghost use Rattle.privileges.specs.ShownUsers.{shown_users};
+    ghost use Rattle.privileges.specs.KnownUsers.{AreKnown};
+
+    ghost Value = { List User };
+
+    ghost view = { λ u. shown_users u.users };
+
+    ghost invariant = { λ u. AreKnown (shown_users u.users) u.numbers };
+}
+
+impl Users {
+    /// No users. Takes no memory yet.
+    pub(crate) fn new(alloc: Global) -> Users
+        ensures { result ≡ [] }
+    {
+        Users {
+            users: List::new(alloc),
+            numbers: NameMap::new(alloc),
+        }
+    }
+
+    /// How many users there are. (That they are few, and that their names tell them apart, holds of
+    /// all users of a file.)
+    pub fn len(&self) -> u32
+        ensures len { result ≡ length self.now }
+        ensures few { length self.now ≤ spec.user_limit }
+        ensures told { AreToldApart (directory_of self.now) }
+    {
+        self.users.len() as u32
+    }
+
+    /// The name of the user of a number. Takes no memory.
+    pub fn name(&self, who: u32) -> &[u8]
+        requires { who < length self.now }
+        ensures { result.now ≡ user_name (directory_of self.now) who }
+    {
+        self.users[who as usize].name.as_slice()
+    }
+
+    /// The number of the user of a name, in a time that grows with the logarithm of the number of
+    /// users. Takes no memory.
+    pub fn find(&self, name: &[u8]) -> Option<u32>
+        ensures number { result ≡ spec.number_of self.now name.now }
+        ensures in_directory { result ≡ user_number (directory_of self.now) name.now }
+        ensures within { IfSome result (λ who. who < length self.now) }
+    {
+        self.numbers.get(name).copied()
+    }
+
+    /// Whether a digest is that of a user's password: the SHA-256 of the password in lower-case
+    /// hexadecimal digits. All its octets are compared, wherever the first difference is. Takes no
+    /// memory.
+    pub fn admits(&self, who: u32, digest: &[u8; 64]) -> bool
+        requires { who < length self.now }
+        ensures { option_map (λ (user : spec.User). bytes_eq digest.now user.digest) (slice_get self.now who) ≡ Some result }
+    {
+        is_same(digest, &self.users[who as usize].digest)
+    }
+
+    /// Adds a user of a new name behind the others. Without memory nothing changes.
+    pub(crate) fn add(
+        &mut self,
+        alloc: Global,
+        name: &[u8],
+        digest: [u8; 64],
+    ) -> Result<(), NoMemory>
+        requires room { length self.old < spec.user_limit }
+        requires named { 0 < length name.now }
+        requires apart { spec.number_of self.old name.now ≡ None }
+        ensures ok { OnOk result (self.new ≡ self.old ++ record { name = name.now; digest = digest } ∷ []) }
+        ensures err { OnErr result (self.new ≡ self.old) }
+    {
+        let number = self.users.len() as u32;
+        let shown = Octets::of(alloc, name)?;
+        let key = Octets::of(alloc, name)?;
+        self.users.push(KnownUser {
+            name: shown,
+            digest,
+        })?;
+        match self.numbers.insert(key, number) {
+            Ok(()) => Ok(()),
+            Err(NoMemory) => {
+                self.users.truncate(number as usize);
+                Err(NoMemory)
+            }
+        }
+    }
+}
