@@ -1,0 +1,142 @@
+//! The table of a zone from its parts.
+ghost use Rattle.std.specs.Prelude.{◌≡◌, ◌<◌, ◌≤◌, ◌++◌, [], All, fold, map, OnOk, IfOk, IsErrOf, false};
+ghost use Rattle.std.specs.List.Sorted.{IsSortedByKey};
+ghost use Rattle.std.specs.Ordering.{int_cmp};
+ghost use Rattle.cal_model.specs.Words.Lists.{is_empty};
+ghost use Rattle.cal_model.specs.TimeZones.TableBounds.{IsPart};
+ghost use Rattle.cal_model.specs.TimeZones.ZoneOnsets as zone;
+ghost use Rattle.vtimezone.specs.Gathered as spec;
+
+use crate::change::Change;
+use crate::fault::TableFault;
+use crate::gather::add_parts;
+use cal_base::{List, NoMemory, Octets, Steps};
+use cal_model::{Onset, Rules, ZonePart, ZoneTable};
+use cal_moment::Utc;
+use std::alloc::Global;
+use std::marker::Brand;
+use std::sync::ledger::{Blank, Ledger};
+
+/// Puts changes in rising order; those of one moment stay as they stood.
+fn in_order(changes: List<Change>) -> Result<List<Change>, NoMemory>
+    ensures sorted { IfOk result (λ sorted. IsSortedByKey (λ (c : Change). c.at) int_cmp sorted) }
+    ensures same { IfOk result (λ sorted. fold zone.put_change [] (spec.changes_of sorted) ≡ fold zone.put_change [] (spec.changes_of changes)) }
+{
+    let mut items = changes.into_vec();
+    match items.sort_by_key(|change| change.at) {
+        Ok(()) => Ok(List::from_vec(items)),
+        Err(_) => Err(NoMemory),
+    }
+}
+
+/// Whether the last of some changes stands at a moment.
+fn ends_at(changes: &List<Change>, at: i64) -> bool {
+    match changes.as_slice().last() {
+        Some(change) => change.at == at,
+        None => false,
+    }
+}
+
+/// Puts a change behind those before it; where the last of them stands at its moment, in its place.
+fn put_last(change: Change, kept: &mut List<Change>) -> Result<(), NoMemory> {
+    if ends_at(kept, change.at) {
+        let _ = kept.pop();
+    }
+    kept.push(change)
+}
+
+/// Of changes in rising order the last at each moment.
+fn keep_last(sorted: &List<Change>, kept: &mut List<Change>) -> Result<(), NoMemory> {
+    for k in 0..sorted.len() {
+        put_last(sorted[k], kept)?;
+    }
+    Ok(())
+}
+
+/// Adds the onsets of changes.
+fn add_onsets(changes: &List<Change>, onsets: &mut List<Onset>) -> Result<(), NoMemory>
+    ensures { OnOk result (onsets.new ≡ onsets.old ++ map zone.as_onset (spec.changes_of changes.now)) }
+{
+    for k in 0..changes.len() {
+        onsets.push(Onset {
+            at: Utc(changes[k].at),
+            offset: changes[k].to,
+        })?;
+    }
+    Ok(())
+}
+
+/// The offset before changes in rising order: from which the first goes, or where there is none the
+/// first part.
+fn offset_before(changes: &List<Change>, parts: &List<ZonePart>) -> i32
+    requires parts { is_empty parts.now ≡ false }
+    ensures { result ≡ zone.offset_before (spec.changes_of changes.now) parts.now }
+{
+    match changes.get(0) {
+        Some(change) => change.from,
+        None => parts[0].from,
+    }
+}
+
+/// The table of changes that are sorted.
+fn table_of(
+    alloc: Global,
+    name: &[u8],
+    parts: &List<ZonePart>,
+    sorted: &List<Change>,
+) -> Result<ZoneTable, NoMemory> {
+    let mut kept = List::new(alloc);
+    keep_last(sorted, &mut kept)?;
+    let mut onsets = List::new(alloc);
+    add_onsets(&kept, &mut onsets)?;
+    let before = offset_before(&kept, parts);
+    let name = Octets::of(alloc, name)?;
+    Ok(ZoneTable {
+        name,
+        before,
+        onsets,
+    })
+}
+
+/// The changes of all parts, and how much of the limit they leave.
+fn gathered<R: Rules, L: Ledger>(
+    alloc: Global,
+    parts: &List<ZonePart>,
+    limit: u32,
+    rules: &R,
+    blank: Blank,
+) -> Result<(List<Change>, u32), TableFault>
+    requires name { L.name ≡ blank.name }
+    requires parts_of_blank { L.parts ≡ blank.parts }
+    requires some { 0 < blank.parts }
+    requires parts { All IsPart parts.now }
+{
+    let mut steps = Steps::<L>::open(blank);
+    let mut room = limit;
+    let mut changes = List::new(alloc);
+    add_parts(alloc, rules, parts, &mut room, &mut changes, &mut steps)?;
+    Ok((changes, room))
+}
+
+/// The table of a zone from its parts, and their count: each part one, each of its dates one, and
+/// each moment of each rule's set, in which the part's start stands once more. `TooMany` comes
+/// exactly where the count is above `limit`, and the rest is then not made.
+pub fn make_table<R: Rules>(
+    alloc: Global,
+    name: &[u8],
+    parts: &List<ZonePart>,
+    limit: u32,
+    rules: &R,
+) -> Result<(ZoneTable, u32), TableFault>
+    requires some { is_empty parts.now ≡ false }
+    requires parts { All IsPart parts.now }
+    ensures table { IfOk result (λ made. made.0 ≡ zone.table_of name.now parts.now) }
+    ensures count { IfOk result (λ made. made.1 ≡ zone.table_count parts.now) }
+    ensures few { IfOk result (λ made. made.1 ≤ limit) }
+    ensures many { IsErrOf result TableFault.TooMany → limit < zone.table_count parts.now }
+{
+    let (changes, room) = gathered::<R, Brand>(alloc, parts, limit, rules, Blank::new(1))?;
+    let sorted = in_order(changes)?;
+    let table = table_of(alloc, name, parts, &sorted)?;
+    Ok((table, limit - room))
+}
