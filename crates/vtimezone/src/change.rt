@@ -2,11 +2,12 @@
 ghost use Rattle.std.specs.Prelude.{◌≡◌, ◌++◌, ◌∷◌, [], ◌*◌, nat_lt, OnOk};
 ghost use Rattle.cal_model.specs.Recurrence.NextPassing.{IsWritten, end_day};
 ghost use Rattle.cal_model.specs.Values.LocalTimes.{moment_of_local};
-ghost use Rattle.cal_model.specs.TimeZones.TableBounds.{IsOffset};
+ghost use Rattle.cal_model.specs.TimeZones.TableBounds.{IsPart};
 ghost use Rattle.vtimezone.specs.Gathered as spec;
 
 use cal_base::{List, NoMemory};
 use cal_model::ZonePart;
+use cal_model::walk::clock::Clock;
 use cal_moment::Local;
 
 /// A change of the offset.
@@ -32,14 +33,14 @@ fn is_taken(m: Local) -> bool
 }
 
 /// The change at a local moment of a part: that moment less the offset before.
-#[tactic(auto, using(cal_model::proofs::Walks::KeptLemmas::seconds_of_written))]
 fn change_at(part: &ZonePart, m: Local) -> Change
+    requires part { IsPart part.now }
     requires m { IsWritten m }
-    requires from { IsOffset part.now.from }
     ensures { spec.as_change result ≡ spec.change_at part.now (moment_of_local m) }
 {
+    let at = Clock::Onset(part.from).instant(m);
     Change {
-        at: m.day as i64 * 86_400 + m.second as i64 - part.from as i64,
+        at,
         from: part.from,
         to: part.to,
     }
@@ -47,8 +48,8 @@ fn change_at(part: &ZonePart, m: Local) -> Change
 
 /// Puts the change at a local moment of a part behind the others, unless it lies after 2101.
 pub fn add_change(part: &ZonePart, m: Local, changes: &mut List<Change>) -> Result<(), NoMemory>
+    requires part { IsPart part.now }
     requires m { IsWritten m }
-    requires from { IsOffset part.now.from }
     ensures { OnOk result (spec.changes_of changes.new ≡ spec.changes_of changes.old ++ spec.changes_at part.now (moment_of_local m ∷ [])) }
 {
     if is_taken(m) {

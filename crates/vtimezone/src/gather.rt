@@ -1,5 +1,5 @@
 //! The changes of all parts, and how much they count.
-ghost use Rattle.std.specs.Prelude.{◌≡◌, ◌+◌, ◌<◌, ◌++◌, ◌∷◌, [], map, flat_map, length, sum, All, OnOk, IsErrOf};
+ghost use Rattle.std.specs.Prelude.{◌≡◌, ◌+◌, ◌<◌, ◌++◌, ◌∷◌, [], false, map, flat_map, length, sum, All, OnOk, IsErrOf};
 ghost use Rattle.cal_model.specs.Recurrence.NextPassing.{IsWritten, IsUsable, is_fine};
 ghost use Rattle.cal_model.specs.Recurrence.RecurrenceSet.{every_moment};
 ghost use Rattle.cal_model.specs.Values.LocalTimes.{moment_of_local};
@@ -9,10 +9,12 @@ ghost use Rattle.vtimezone.specs.Gathered as spec;
 
 use crate::change::{Change, add_change};
 use crate::fault::TableFault;
+use crate::until::end_by;
 use cal_base::{List, NoMemory, Steps};
 use cal_model::walk::clock::Clock;
-use cal_model::walk::rule_walk::{END, FIRST, begin_walk, next_moment};
+use cal_model::walk::rule_walk::{FIRST, begin_walk, next_moment};
 use cal_model::{Rule, Rules, ZonePart};
+use cal_moment::Local;
 use std::alloc::Global;
 use std::sync::ledger::Ledger;
 
@@ -29,12 +31,15 @@ fn count(room: &mut u32, more: usize) -> Result<(), TableFault>
 }
 
 /// Adds the changes of a part's dates.
-fn add_dates(part: &ZonePart, changes: &mut List<Change>) -> Result<(), NoMemory>
+fn add_dates(part: &ZonePart, dates: &[Local], changes: &mut List<Change>) -> Result<(), NoMemory>
     requires part { IsPart part.now }
-    ensures { OnOk result (spec.changes_of changes.new ≡ spec.changes_of changes.old ++ spec.changes_at part.now (map moment_of_local part.now.dates)) }
+    requires dates { All IsWritten dates.now }
+    ensures { OnOk result (spec.changes_of changes.new ≡ spec.changes_of changes.old ++ spec.changes_at part.now (map moment_of_local dates.now)) }
 {
-    for k in 0..part.dates.len() {
-        add_change(part, part.dates[k], changes)?;
+    let mut rest = dates;
+    while let Some((date, behind)) = rest.split_first() {
+        add_change(part, *date, changes)?;
+        rest = behind;
     }
     Ok(())
 }
@@ -59,10 +64,12 @@ fn add_rule<R: Rules, L: Ledger>(
     count(room, 1)?;
     add_change(part, part.start, changes)?;
     let clock = Clock::Onset(part.from);
+    let end = end_by(rule.until);
     let mut walk = begin_walk(alloc, rule, part.start, FIRST);
     'rule: loop {
-        let Some(m) =
-            next_moment(rules, rule, part.start, &clock, FIRST, END, &mut walk, steps)?
+        let Some(m) = next_moment(
+            rules, rule, part.start, &clock, FIRST, end, &mut walk, steps,
+        )?
         else {
             return Ok(());
         };
@@ -76,17 +83,22 @@ fn add_rules<R: Rules, L: Ledger>(
     alloc: Global,
     rules: &R,
     part: &ZonePart,
+    of_part: &[Rule],
     room: &mut u32,
     changes: &mut List<Change>,
     steps: &mut Steps<L>,
 ) -> Result<(), TableFault>
     requires part { IsPart part.now }
-    ensures changes { OnOk result (spec.changes_of changes.new ≡ spec.changes_of changes.old ++ spec.changes_at part.now (flat_map (zone.rule_moments every_moment part.now) part.now.rules)) }
-    ensures room { OnOk result (room.new + sum (map (λ rule. length (zone.rule_moments every_moment part.now rule)) part.now.rules) ≡ room.old) }
-    ensures many { IsErrOf result TableFault.TooMany → room.old < sum (map (λ rule. length (zone.rule_moments every_moment part.now rule)) part.now.rules) }
+    requires usable { All IsUsable of_part.now }
+    requires coarse { All (λ (rule : Rule). is_fine rule.freq ≡ false) of_part.now }
+    ensures changes { OnOk result (spec.changes_of changes.new ≡ spec.changes_of changes.old ++ spec.changes_at part.now (flat_map (zone.rule_moments every_moment part.now) of_part.now)) }
+    ensures room { OnOk result (room.new + spec.count_of_rules part.now of_part.now ≡ room.old) }
+    ensures many { IsErrOf result TableFault.TooMany → room.old < spec.count_of_rules part.now of_part.now }
 {
-    for k in 0..part.rules.len() {
-        add_rule(alloc, rules, part, &part.rules[k], room, changes, steps)?;
+    let mut rest = of_part;
+    while let Some((rule, behind)) = rest.split_first() {
+        add_rule(alloc, rules, part, rule, room, changes, steps)?;
+        rest = behind;
     }
     Ok(())
 }
@@ -108,15 +120,23 @@ fn add_part<R: Rules, L: Ledger>(
     count(room, 1)?;
     count(room, part.dates.len())?;
     add_change(part, part.start, changes)?;
-    add_dates(part, changes)?;
-    add_rules(alloc, rules, part, room, changes, steps)
+    add_dates(part, part.dates.as_slice(), changes)?;
+    add_rules(
+        alloc,
+        rules,
+        part,
+        part.rules.as_slice(),
+        room,
+        changes,
+        steps,
+    )
 }
 
 /// Adds the changes of all parts, in the order of the text.
 pub fn add_parts<R: Rules, L: Ledger>(
     alloc: Global,
     rules: &R,
-    parts: &List<ZonePart>,
+    parts: &[ZonePart],
     room: &mut u32,
     changes: &mut List<Change>,
     steps: &mut Steps<L>,
@@ -126,8 +146,10 @@ pub fn add_parts<R: Rules, L: Ledger>(
     ensures room { OnOk result (room.new + zone.table_count parts.now ≡ room.old) }
     ensures many { IsErrOf result TableFault.TooMany → room.old < zone.table_count parts.now }
 {
-    for k in 0..parts.len() {
-        add_part(alloc, rules, &parts[k], room, changes, steps)?;
+    let mut rest = parts;
+    while let Some((part, behind)) = rest.split_first() {
+        add_part(alloc, rules, part, room, changes, steps)?;
+        rest = behind;
     }
     Ok(())
 }

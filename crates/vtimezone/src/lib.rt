@@ -12,6 +12,7 @@ mod change;
 mod fault;
 mod gather;
 mod table;
+mod until;
 
 pub use fault::TableFault;
 pub use table::make_table;

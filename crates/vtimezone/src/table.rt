@@ -1,8 +1,10 @@
 //! The table of a zone from its parts.
-ghost use Rattle.std.specs.Prelude.{◌≡◌, ◌<◌, ◌≤◌, ◌++◌, [], All, fold, map, OnOk, IfOk, IsErrOf, false};
+ghost use Rattle.std.specs.Prelude.{◌≡◌, ◌+◌, ◌<◌, ◌≤◌, ◌++◌, ◌∷◌, [], if◌then◌else◌, All, flat_map, fold, map, OnOk, IfOk, IsErrOf, false};
 ghost use Rattle.std.specs.List.Sorted.{IsSortedByKey};
 ghost use Rattle.std.specs.Ordering.{int_cmp};
+ghost use Rattle.cal_model.specs.Words.Integers.{same_int};
 ghost use Rattle.cal_model.specs.Words.Lists.{is_empty};
+ghost use Rattle.cal_model.specs.Recurrence.RecurrenceSet.{every_moment};
 ghost use Rattle.cal_model.specs.TimeZones.TableBounds.{IsPart};
 ghost use Rattle.cal_model.specs.TimeZones.ZoneOnsets as zone;
 ghost use Rattle.vtimezone.specs.Gathered as spec;
@@ -29,51 +31,65 @@ fn in_order(changes: List<Change>) -> Result<List<Change>, NoMemory>
     }
 }
 
-/// Whether the last of some changes stands at a moment.
-fn ends_at(changes: &List<Change>, at: i64) -> bool {
-    match changes.as_slice().last() {
-        Some(change) => change.at == at,
-        None => false,
-    }
-}
-
-/// Puts a change behind those before it; where the last of them stands at its moment, in its place.
-fn put_last(change: Change, kept: &mut List<Change>) -> Result<(), NoMemory> {
-    if ends_at(kept, change.at) {
-        let _ = kept.pop();
-    }
-    kept.push(change)
-}
-
-/// Of changes in rising order the last at each moment.
-fn keep_last(sorted: &List<Change>, kept: &mut List<Change>) -> Result<(), NoMemory> {
-    for k in 0..sorted.len() {
-        put_last(sorted[k], kept)?;
+/// Keeps a change, unless the next one stands at its moment.
+fn keep(change: Change, next: &Change, kept: &mut List<Change>) -> Result<(), NoMemory>
+    ensures { OnOk result (spec.changes_of kept.new ≡ (if same_int next.now.at change.at then spec.changes_of kept.old else spec.changes_of kept.old ++ spec.as_change change ∷ [])) }
+{
+    if next.at != change.at {
+        kept.push(change)?;
     }
     Ok(())
 }
 
+/// Of changes in rising order the last at each moment.
+fn keep_last(sorted: &[Change], kept: &mut List<Change>) -> Result<(), NoMemory>
+    requires sorted { IsSortedByKey (λ (c : Change). c.at) int_cmp sorted.now }
+    requires none { kept.old ≡ [] }
+    ensures { OnOk result (spec.changes_of kept.new ≡ fold zone.put_change [] (spec.changes_of sorted.now)) }
+{
+    let Some((first, others)) = sorted.split_first() else {
+        return Ok(());
+    };
+    let mut last = *first;
+    let mut rest = others;
+    while let Some((next, behind)) = rest.split_first() {
+        keep(last, next, kept)?;
+        last = *next;
+        rest = behind;
+    }
+    kept.push(last)
+}
+
+/// The onset of a change.
+fn onset_of(change: &Change) -> Onset
+    ensures { result ≡ zone.as_onset (spec.as_change change.now) }
+{
+    Onset {
+        at: Utc(change.at),
+        offset: change.to,
+    }
+}
+
 /// Adds the onsets of changes.
-fn add_onsets(changes: &List<Change>, onsets: &mut List<Onset>) -> Result<(), NoMemory>
+fn add_onsets(changes: &[Change], onsets: &mut List<Onset>) -> Result<(), NoMemory>
     ensures { OnOk result (onsets.new ≡ onsets.old ++ map zone.as_onset (spec.changes_of changes.now)) }
 {
-    for k in 0..changes.len() {
-        onsets.push(Onset {
-            at: Utc(changes[k].at),
-            offset: changes[k].to,
-        })?;
+    let mut rest = changes;
+    while let Some((one, behind)) = rest.split_first() {
+        onsets.push(onset_of(one))?;
+        rest = behind;
     }
     Ok(())
 }
 
 /// The offset before changes in rising order: from which the first goes, or where there is none the
 /// first part.
-fn offset_before(changes: &List<Change>, parts: &List<ZonePart>) -> i32
+fn offset_before(changes: &[Change], parts: &[ZonePart]) -> i32
     requires parts { is_empty parts.now ≡ false }
     ensures { result ≡ zone.offset_before (spec.changes_of changes.now) parts.now }
 {
-    match changes.get(0) {
-        Some(change) => change.from,
+    match changes.split_first() {
+        Some((change, _)) => change.from,
         None => parts[0].from,
     }
 }
@@ -82,14 +98,19 @@ fn offset_before(changes: &List<Change>, parts: &List<ZonePart>) -> i32
 fn table_of(
     alloc: Global,
     name: &[u8],
-    parts: &List<ZonePart>,
-    sorted: &List<Change>,
-) -> Result<ZoneTable, NoMemory> {
+    parts: &[ZonePart],
+    sorted: &[Change],
+) -> Result<ZoneTable, NoMemory>
+    requires parts { is_empty parts.now ≡ false }
+    requires sorted { IsSortedByKey (λ (c : Change). c.at) int_cmp sorted.now }
+    requires whole { fold zone.put_change [] (spec.changes_of sorted.now) ≡ zone.changes every_moment parts.now }
+    ensures { IfOk result (λ table. table ≡ zone.table_of name.now parts.now) }
+{
     let mut kept = List::new(alloc);
     keep_last(sorted, &mut kept)?;
     let mut onsets = List::new(alloc);
-    add_onsets(&kept, &mut onsets)?;
-    let before = offset_before(&kept, parts);
+    add_onsets(kept.as_slice(), &mut onsets)?;
+    let before = offset_before(kept.as_slice(), parts);
     let name = Octets::of(alloc, name)?;
     Ok(ZoneTable {
         name,
@@ -101,7 +122,7 @@ fn table_of(
 /// The changes of all parts, and how much of the limit they leave.
 fn gathered<R: Rules, L: Ledger>(
     alloc: Global,
-    parts: &List<ZonePart>,
+    parts: &[ZonePart],
     limit: u32,
     rules: &R,
     blank: Blank,
@@ -110,6 +131,9 @@ fn gathered<R: Rules, L: Ledger>(
     requires parts_of_blank { L.parts ≡ blank.parts }
     requires some { 0 < blank.parts }
     requires parts { All IsPart parts.now }
+    ensures changes { IfOk result (λ made. spec.changes_of made.0 ≡ flat_map (zone.part_changes every_moment) parts.now) }
+    ensures room { IfOk result (λ made. made.1 + zone.table_count parts.now ≡ limit) }
+    ensures many { IsErrOf result TableFault.TooMany → limit < zone.table_count parts.now }
 {
     let mut steps = Steps::<L>::open(blank);
     let mut room = limit;
@@ -135,8 +159,9 @@ pub fn make_table<R: Rules>(
     ensures few { IfOk result (λ made. made.1 ≤ limit) }
     ensures many { IsErrOf result TableFault.TooMany → limit < zone.table_count parts.now }
 {
+    let parts = parts.as_slice();
     let (changes, room) = gathered::<R, Brand>(alloc, parts, limit, rules, Blank::new(1))?;
     let sorted = in_order(changes)?;
-    let table = table_of(alloc, name, parts, &sorted)?;
+    let table = table_of(alloc, name, parts, sorted.as_slice())?;
     Ok((table, limit - room))
 }
