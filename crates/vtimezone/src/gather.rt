@@ -18,6 +18,9 @@ use cal_moment::Local;
 use std::alloc::Global;
 use std::sync::ledger::Ledger;
 
+/// What a part counts beside its dates and its rules.
+const OF_PART: usize = 1;
+
 /// Counts some more, where `room` allows it.
 fn count(room: &mut u32, more: usize) -> Result<(), TableFault>
     ensures room { OnOk result (room.new + more ≡ room.old) }
@@ -117,7 +120,7 @@ fn add_part<R: Rules, L: Ledger>(
     ensures room { OnOk result (room.new + zone.count_of_part every_moment part.now ≡ room.old) }
     ensures many { IsErrOf result TableFault.TooMany → room.old < zone.count_of_part every_moment part.now }
 {
-    count(room, 1)?;
+    count(room, OF_PART)?;
     count(room, part.dates.len())?;
     add_change(part, part.start, changes)?;
     add_dates(part, part.dates.as_slice(), changes)?;

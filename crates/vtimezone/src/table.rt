@@ -5,7 +5,7 @@ ghost use Rattle.std.specs.Ordering.{int_cmp};
 ghost use Rattle.cal_model.specs.Words.Integers.{same_int};
 ghost use Rattle.cal_model.specs.Words.Lists.{is_empty};
 ghost use Rattle.cal_model.specs.Recurrence.RecurrenceSet.{every_moment};
-ghost use Rattle.cal_model.specs.TimeZones.TableBounds.{IsPart};
+ghost use Rattle.cal_model.specs.TimeZones.TableBounds.{IsPart, IsTable};
 ghost use Rattle.cal_model.specs.TimeZones.ZoneOnsets as zone;
 ghost use Rattle.vtimezone.specs.Gathered as spec;
 
@@ -144,7 +144,8 @@ fn gathered<R: Rules, L: Ledger>(
 
 /// The table of a zone from its parts, and their count: each part one, each of its dates one, and
 /// each moment of each rule's set, in which the part's start stands once more. `TooMany` comes
-/// exactly where the count is above `limit`, and the rest is then not made.
+/// exactly where the count is above `limit`, and the rest is then not made. Each rule's moments are
+/// taken once, as far as its UNTIL, and all changes are sorted once.
 pub fn make_table<R: Rules>(
     alloc: Global,
     name: &[u8],
@@ -155,6 +156,7 @@ pub fn make_table<R: Rules>(
     requires some { is_empty parts.now ≡ false }
     requires parts { All IsPart parts.now }
     ensures table { IfOk result (λ made. made.0 ≡ zone.table_of name.now parts.now) }
+    ensures convertible { IfOk result (λ made. IsTable made.0) }
     ensures count { IfOk result (λ made. made.1 ≡ zone.table_count parts.now) }
     ensures few { IfOk result (λ made. made.1 ≤ limit) }
     ensures many { IsErrOf result TableFault.TooMany → limit < zone.table_count parts.now }
