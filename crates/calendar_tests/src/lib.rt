@@ -15,4 +15,6 @@ mod rule_cases;
 #[cfg(test)]
 mod rule_walks;
 #[cfg(test)]
+mod zone_tables;
+#[cfg(test)]
 mod zones;
