@@ -26,7 +26,7 @@ use vtimezone::make_table;
 /// How many steps are taken of a rule.
 const STEPS: u32 = 1000;
 
-/// How often they are taken where they are timed.
+/// How often they are taken where they are timed; the round that took least counts.
 const ROUNDS: u32 = 20;
 
 /// A rule of a frequency alone.
@@ -89,19 +89,20 @@ fn found<R: Rules>(body: &R, rule: &Rule, start: Local) -> u32
     count
 }
 
-/// The nanoseconds of a step.
+/// The nanoseconds of a step, in the round that took least.
 fn nanoseconds<R: Rules>(rt: &HostRuntime, body: &R, rule: &Rule, start: Local) -> io::Result<u128>
     requires start { IsWritten start }
     requires rule { IsUsable rule.now }
     requires coarse { is_fine rule.now.freq ≡ false }
 {
-    let begin = Instant::now(rt)?;
-    let mut count = 1u32;
+    let mut least = u128::MAX;
     for _ in 0..ROUNDS {
-        count = count.wrapping_add(found(body, rule, start));
+        let begin = Instant::now(rt)?;
+        let count = found(body, rule, start);
+        let spent = begin.elapsed(rt)?;
+        least = least.min(spent.as_nanos() / u128::from(count.max(1)));
     }
-    let spent = begin.elapsed(rt)?;
-    Ok(spent.as_nanos() / u128::from(count.max(1)))
+    Ok(least)
 }
 
 /// One frequency with both bodies, from 4 March of the year 990, at nine in the morning.
@@ -199,19 +200,25 @@ fn onsets<R: Rules>(alloc: Global, body: &R, parts: &List<ZonePart>) -> usize
     }
 }
 
-/// The microseconds of a table.
-fn microseconds<R: Rules>(rt: &HostRuntime, body: &R, parts: &List<ZonePart>) -> io::Result<u128>
+/// The microseconds of a table, in the round that took least.
+fn microseconds<R: Rules>(
+    rt: &HostRuntime,
+    body: &R,
+    parts: &List<ZonePart>,
+) -> io::Result<u128>
     requires some { is_empty parts.now ≡ false }
     requires parts { All IsPart parts.now }
 {
-    let begin = Instant::now(rt)?;
-    let mut count = 0usize;
+    let mut least = u128::MAX;
     for _ in 0..ROUNDS {
-        count = count.wrapping_add(onsets(rt.alloc(), body, parts));
+        let begin = Instant::now(rt)?;
+        let count = onsets(rt.alloc(), body, parts);
+        let spent = begin.elapsed(rt)?;
+        if 0 < count {
+            least = least.min(spent.as_micros());
+        }
     }
-    let spent = begin.elapsed(rt)?;
-    let rounds = if count == 0 { 1 } else { u128::from(ROUNDS) };
-    Ok(spent.as_micros() / rounds)
+    Ok(least)
 }
 
 /// The table of that zone with both bodies.

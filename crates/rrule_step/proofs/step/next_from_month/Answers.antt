@@ -1,0 +1,20 @@
+use Rattle.std.proofs.Common.{◌≡◌, ◌+◌, ◌*◌, ◌<◌, ◌≤◌, arith}
+use Rattle.cal_model.proofs.Recurrence.Days.{NonePasses-joined}
+use Rattle.rrule_step.specs.Periods.{month_begin}
+use Rattle.rrule_step.proofs.MonthLemmas.{month_next}
+use Rattle.rrule_step.proofs.step.next_from_month.Goals as goal
+
+pub loop-month-preserved : goal.loop-month-preserved
+loop-month-preserved c =
+    let so_far = c.loop-month.invariant in
+    let low = so_far.0 in
+    let next = c.next_month-next.ensures in
+    let from = next.from in
+    (omega (arith, low, from), next.to, NonePasses-joined _ _ _ _ _ _ so_far.2 next.none)
+
+pub loop-month-preserved-in-None : goal.loop-month-preserved-in-None
+loop-month-preserved-in-None c =
+    let made = c.new-days.ensures in
+    let so_far = c.loop-month.invariant in
+    let next = month_next c.new-days.result c.loop-month.month made.year made.month in
+    (omega (arith, so_far), omega (arith, so_far), rw next c.in-None.ensures)
