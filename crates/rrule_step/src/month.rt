@@ -96,23 +96,6 @@ impl Month {
             size: month_length(year, month),
         }
     }
-
-    /// The month of a day, by the date of that day.
-    pub fn of_date(day: u32, year: u32, month: u32, of_month: u32) -> Month
-        requires day { day < 767_740 }
-        requires date { (year ≡ cal.year_of day) × (month ≡ cal.month_of day) × (of_month ≡ cal.day_of_month day) }
-        requires year { 1 ≤ year }
-        requires month { (1 ≤ month) × (month ≤ 12) }
-        requires of_month { 1 ≤ of_month }
-        ensures { result.first ≤ day }
-    {
-        Month {
-            year,
-            month,
-            first: day - (of_month - 1),
-            size: month_length(year, month),
-        }
-    }
 }
 
 /// The day of the week, where 0 is Monday.

@@ -135,13 +135,13 @@ fn next_month(rule: &Rule, plan: &Plan, month: u32) -> u32
     }
 }
 
-/// The first passing moment from one on, where none before a month passes.
-fn next_from_month(rule: &Rule, plan: &Plan, month: u32, from: Moment) -> Option<Moment>
+/// The first passing moment from one on that lies in a month.
+fn next_moment(rule: &Rule, plan: &Plan, month: u32, from: Moment) -> Option<Moment>
     requires usable { IsUsable rule.now }
     requires coarse { is_fine rule.now.freq ≡ false }
     requires plan { IsPlan rule.now plan.now }
-    requires month { (12 ≤ month) × (month ≤ END_MONTH) }
-    requires none { NonePasses rule.now (moment_of plan.now.start) plan.now.dated (86_400 * from.day + from.second) (86_400 * month_begin month) }
+    requires month { (12 ≤ month) × (month < END_MONTH) }
+    requires begun { month_begin month ≤ from.day }
     requires second { from.second < 86_400 }
     ensures { MatchOption result
         (NonePasses rule.now (moment_of plan.now.start) plan.now.dated (86_400 * from.day + from.second) (86_400 * end_day))
@@ -161,27 +161,6 @@ fn next_from_month(rule: &Rule, plan: &Plan, month: u32, from: Moment) -> Option
         }
     }
     None
-}
-
-/// The first passing moment from one on, which lies in a month or behind it.
-fn next_moment(rule: &Rule, plan: &Plan, month: &Month, from: Moment) -> Option<Moment>
-    requires usable { IsUsable rule.now }
-    requires coarse { is_fine rule.now.freq ≡ false }
-    requires plan { IsPlan rule.now plan.now }
-    requires begun { month.now.first ≤ from.day }
-    requires second { from.second < 86_400 }
-    ensures { MatchOption result
-        (NonePasses rule.now (moment_of plan.now.start) plan.now.dated (86_400 * from.day + from.second) (86_400 * end_day))
-        (IsFound rule.now plan.now from) }
-{
-    let number = 12 * month.year + month.month - 1;
-    if next_month(rule, plan, number) != number {
-        return next_from_month(rule, plan, number, from);
-    }
-    match next_in_month(rule, plan, month, from) {
-        Some(found) => Some(found),
-        None => next_from_month(rule, plan, number + 1, from),
-    }
 }
 
 /// A day as it is counted from the year 0.
@@ -249,10 +228,9 @@ impl Rules for PeriodStep {
             return None;
         }
         let plan = plan_of(rule, start, dated);
-        let (year, month, of_month) = date_of(day);
-        let days = Month::of_date(day, year, month, of_month);
+        let (year, month, _) = date_of(day);
         let second = from.second;
-        let found = next_moment(rule, &plan, &days, Moment { day, second })?;
+        let found = next_moment(rule, &plan, 12 * year + month - 1, Moment { day, second })?;
         Some(moment_at(found))
     }
 }

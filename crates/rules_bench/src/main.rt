@@ -201,11 +201,7 @@ fn onsets<R: Rules>(alloc: Global, body: &R, parts: &List<ZonePart>) -> usize
 }
 
 /// The microseconds of a table, in the round that took least.
-fn microseconds<R: Rules>(
-    rt: &HostRuntime,
-    body: &R,
-    parts: &List<ZonePart>,
-) -> io::Result<u128>
+fn microseconds<R: Rules>(rt: &HostRuntime, body: &R, parts: &List<ZonePart>) -> io::Result<u128>
     requires some { is_empty parts.now ≡ false }
     requires parts { All IsPart parts.now }
 {

@@ -2,7 +2,7 @@ use Rattle.std.proofs.Common.{◌+◌, ◌-◌, ◌*◌, ◌≤◌}
 use Rattle.cal_model.specs.Recurrence.NextPassing.{NonePasses}
 use Rattle.rrule_step.specs.Periods.{month_begin}
 use Rattle.rrule_step.specs.StartMoment.{moment_of}
-use Rattle.rrule_step.proofs.step.next_from_month.Given as goal
+use Rattle.rrule_step.proofs.step.next_moment.Given as goal
 
 -- no month so far has one
 abbrev pub invariant-loop-month : goal.invariant-loop-month
