@@ -1,10 +1,10 @@
 #!/usr/bin/env python3
 """Times the programs over generated input, and prints the figures. It needs Python 3, and Debian's package `time` for the memory.
 
-Build the programs once before: `rt run` in crates/caldav_server, lines_bench, values_bench, xml_bench, index_bench and turns_bench.
-Words name the parts that are to run (scripts, lines, values, bodies, index, turns); without a word all do.
+Build the programs once before: `rt run` in crates/caldav_server and in each crate whose name ends in _bench.
+Words name the parts that are to run (scripts, lines, values, rules, bodies, index, turns); without a word all do.
 """
-import os, resource, subprocess, sys, tempfile, time
+import os, re, resource, subprocess, sys, tempfile, time
 
 TOP = os.path.dirname(os.path.dirname(os.path.abspath(__file__)))
 SERVER = os.path.join(TOP, "crates/caldav_server/out/caldav_server")
@@ -13,6 +13,7 @@ INDEX = os.path.join(TOP, "crates/index_bench/out/index_bench")
 TURNS = os.path.join(TOP, "crates/turns_bench/out/turns_bench")
 BODIES = os.path.join(TOP, "crates/xml_bench/out/xml_bench")
 VALUES = os.path.join(TOP, "crates/values_bench/out/values_bench")
+RULES = os.path.join(TOP, "crates/rules_bench/out/rules_bench")
 USERS = b"user alice ba7816bf8f01cfea414140de5dae2223b00361a396177a9cb410ff61f20015ad\n"
 
 
@@ -197,8 +198,20 @@ def bodies():
             print(f"{name:34} {len(text):8d} {best:8.4f} {best / len(text) * 1e9:9.1f} {memory:6.1f}  {output.decode().strip()}")
 
 
+def rules():
+    print(f"{'rule':34} {'by days':>8} {'by steps':>8} {'times as fast':>14}")
+    best = {}
+    for _ in range(11):
+        for label, plain, step, unit in re.findall(r"(.*): (\d+) and (\d+) (ns a step|us a table)", run(RULES, ["times"], b"")[2].decode()):
+            plain, step = int(plain), int(step)
+            before = best.get((label, unit), (plain, step))
+            best[label, unit] = min(plain, before[0]), min(step, before[1])
+    for (label, unit), (plain, step) in best.items():
+        print(f"{f'{label}, {unit}':34} {plain:8d} {step:8d} {plain / step:14.1f}")
+
+
 PARTS = {
-    "scripts": (scripts, SERVER), "lines": (lines, LINES), "values": (values, VALUES),
+    "scripts": (scripts, SERVER), "lines": (lines, LINES), "values": (values, VALUES), "rules": (rules, RULES),
     "bodies": (bodies, BODIES),
     "index": (index, INDEX), "turns": (turns, TURNS),
 }

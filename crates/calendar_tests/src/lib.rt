@@ -17,4 +17,6 @@ mod rule_texts;
 #[cfg(test)]
 mod rule_walks;
 #[cfg(test)]
+mod zone_tables;
+#[cfg(test)]
 mod zones;

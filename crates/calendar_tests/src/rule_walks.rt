@@ -273,7 +273,7 @@ const EXAMPLES: [Example; 14] = [
 ];
 
 /// Whether a frequency is one that is served.
-fn is_coarse(freq: Freq) -> bool
+pub fn is_coarse(freq: Freq) -> bool
     ensures { result ≡ true → is_fine freq ≡ false }
 {
     match freq {

@@ -34,12 +34,13 @@ pub fn period_of(rule: &Rule, year: u32, month: u32, day: u32) -> u32
     }
 }
 
-/// Whether a period counts: each INTERVAL-th from the start's on.
+/// Whether a period counts: each INTERVAL-th from the start's on. Where INTERVAL is 1, as almost
+/// everywhere, nothing is divided: a division takes longer than what else a step does.
 fn counts(first: u32, interval: u32, number: u32) -> bool
     requires { 0 < interval }
     ensures { result ≡ is_counted first interval number }
 {
-    first <= number && (number - first) % interval == 0
+    first <= number && (interval == 1 || (number - first) % interval == 0)
 }
 
 /// The first period from one on that counts, or a greater number than any where that is too great.
@@ -50,6 +51,9 @@ fn counted_from(first: u32, interval: u32, number: u32) -> u32
 {
     if number <= first {
         return first;
+    }
+    if interval == 1 {
+        return number;
     }
     let over = (number - first) % interval;
     if over == 0 {
