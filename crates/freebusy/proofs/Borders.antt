@@ -1,13 +1,12 @@
 -- Between two starts or ends that follow one another each second has the class of the first one.
-use Rattle.std.proofs.Common.{◌≡◌, Bool, true, false, cond, ◌&&◌, List, [], ◌∷◌, ◌++◌, map, Option, refl, sym, ap, ◌∙◌, inl, inr, ⊎_elim, arith}
+use Rattle.std.proofs.Common.{◌≡◌, Bool, true, false, cond, ◌&&◌, List, [], ◌∷◌, ◌++◌, map, refl, sym, ap, ◌∙◌, inl, inr, ⊎_elim, arith}
 use Rattle.std.specs.Prelude.{ℤ, ◌≤ℤ◌, ◌<ℤ◌, int_le, int_lt, filter, All}
 use Rattle.std.proofs.lemmas.Int.{ints, by_lt_z}
 use Rattle.std.proofs.lemmas.List.Elements.{All-head, All-tail, All-cons, All-nil, All-weaker, filter_passes}
 use Rattle.std.proofs.lemmas.List.Sorted.{All-permutation, IsPermutation-sym}
-use Rattle.cal_model.specs.declared.object.Class.{Class}
 use Rattle.cal_model.specs.declared.row.Range.{Range}
 use Rattle.cal_model.specs.Busy.BusyTimes.{BusyTime}
-use Rattle.cal_model.specs.Busy.BusyRuns.{covers, greatest_class, class_at}
+use Rattle.cal_model.specs.Busy.BusyRuns.{covers, greatest_class}
 use Rattle.freebusy.specs.declared.busy.BusyRow.{BusyRow}
 use Rattle.freebusy.specs.declared.ends.Classes.{Classes}
 use Rattle.freebusy.specs.Ends.{is_within, borders_of, open_class, AreClassesOf, IsSortedOf}

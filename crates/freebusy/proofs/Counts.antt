@@ -35,7 +35,7 @@ covers_none a b t is = grind (arith, ints)
 one_row : (r : BusyRow) (kept : List BusyRow) (t : ℤ) (n : ℕ) (same : Bool) (some : Bool) → int_lt r.start r.end ≡ some
     → count_until (map (λ (row : BusyRow). row.start) kept) t ≡ count_until (map (λ (row : BusyRow). row.end) kept) t + n
     → count_until (map (λ (row : BusyRow). row.start) (cond (same && some) (r ∷ kept) kept)) t
-        ≡ count_until (map (λ (row : BusyRow). row.end) (cond (same && some) (r ∷ kept) kept)) t + (cond (same && covers t (time_of r)) 1 0 + n)
+    ≡ count_until (map (λ (row : BusyRow). row.end) (cond (same && some) (r ∷ kept) kept)) t + (cond (same && covers t (time_of r)) 1 0 + n)
 one_row r kept t n false some is rest = omega (arith, rest)
 one_row r kept t n true true is rest =
     let one = one_time r.start r.end t (less_of r.start r.end is) in

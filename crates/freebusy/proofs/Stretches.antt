@@ -1,5 +1,5 @@
 -- A stretch of one class before the runs of the seconds behind it gives the runs from its start on.
-use Rattle.std.proofs.Common.{◌≡◌, ℕ, zero, suc, ◌+◌, Bool, true, false, cond, ◌&&◌, List, [], ◌∷◌, Option, Some, None, refl, sym, ap, ◌∙◌, ◌⊎◌, inl, inr, ⊎_elim, arith}
+use Rattle.std.proofs.Common.{◌≡◌, ℕ, zero, suc, ◌+◌, Bool, true, false, cond, ◌&&◌, List, [], ◌∷◌, Option, Some, None, refl, sym, ap, ◌∙◌, ◌⊎◌, ⊎_elim, arith}
 use Rattle.std.specs.Prelude.{ℤ, pos, negsuc, ◌+ℤ◌, ◌-ℤ◌, ◌≤ℤ◌, ◌<ℤ◌, int_lt, nat_abs}
 use Rattle.std.proofs.lemmas.Int.{ints, by_lt_z}
 use Rattle.std.proofs.lemmas.Bool.{and_parts, and_from}
@@ -103,9 +103,9 @@ no_stretch : (f : ℤ → Option Class) (from to high : ℤ) → to ≤ℤ from 
 no_stretch f from to high none below edge = ⊎_elim
     (λ low. let same : to ≡ from = omega (arith, ints) in ap (λ (z : ℤ). runs_between f z high) same)
     (λ last.
-        let behind : seconds_between to high ≡ 0 = seconds-none to high (omega (arith, ints)) in
-        let before : seconds_between from high ≡ 0 = seconds-none from high (omega (arith, ints)) in
-        ap (runs_from f to) behind ∙ sym (ap (runs_from f from) before))
+    let behind : seconds_between to high ≡ 0 = seconds-none to high (omega (arith, ints)) in
+    let before : seconds_between from high ≡ 0 = seconds-none from high (omega (arith, ints)) in
+    ap (runs_from f to) behind ∙ sym (ap (runs_from f from) before))
     edge
 
 pub runs_between-none : (f : ℤ → Option Class) (a : ℤ) → [] ≡ runs_between f a a
@@ -141,9 +141,9 @@ by_class f from to high None below edge steady = by_lt_z from to
     (λ none. no_stretch f from to high none below edge)
 by_class f from to high (Some c) below edge steady = by_lt_z from to
     (λ less. cond_true (int_lt from to) (with_run (stretch c from to) (runs_between f to high)) (runs_between f to high) (grind (arith, ints))
-        ∙ some_stretch f c from to high less below steady)
+    ∙ some_stretch f c from to high less below steady)
     (λ none. cond_false (int_lt from to) (with_run (stretch c from to) (runs_between f to high)) (runs_between f to high) (grind (arith, ints))
-        ∙ no_stretch f from to high none below edge)
+    ∙ no_stretch f from to high none below edge)
 
 pub with_stretch-runs : (f : ℤ → Option Class) (from to high : ℤ) → to ≤ℤ high → (from ≤ℤ to) ⊎ (to ≡ high) → ((t : ℤ) → from ≤ℤ t → t <ℤ to → f t ≡ f from)
     → with_stretch (f from) from to (runs_between f to high) ≡ runs_between f from high

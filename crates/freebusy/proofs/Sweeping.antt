@@ -1,5 +1,5 @@
 -- The state of a sweep that goes over the borders of a range from the last to the first: what was found are the runs from the last border that was passed.
-use Rattle.std.proofs.Common.{◌≡◌, ℕ, ◌<◌, ◌≤◌, List, [], ◌∷◌, ◌++◌, length, get_or, Option, refl, sym, ap, subst, ◌∙◌, ◌⊎◌, inl, inr, ⊎_elim, arith}
+use Rattle.std.proofs.Common.{◌≡◌, ◌<◌, List, [], ◌∷◌, ◌++◌, length, Option, refl, sym, ap, subst, ◌∙◌, ◌⊎◌, inl, inr, arith}
 use Rattle.std.specs.Prelude.{ℤ, ◌≤ℤ◌, ◌<ℤ◌, All, AllPairs}
 use Rattle.std.proofs.Math.ListN.{get_or-append}
 use Rattle.std.proofs.Math.Seq.{get_or-append_seam}
@@ -77,7 +77,7 @@ one_more f low high rest border upper found longer swept is =
       runs = is ∙ ap (with_stretch (f border) border upper) swept.runs
           ∙ with_stretch-runs f border upper high swept.below (inl last.1)
           (λ t from before. swept.steady border t (omega (arith, ints, last.0)) from before
-              (All-push (IsOutside border t) rest border (λ k d less. inl (earlier k d less)) (inl (omega (arith, ints)))));
+          (All-push (IsOutside border t) rest border (λ k d less. inl (earlier k d less)) (inl (omega (arith, ints)))));
     }
 
 pub swept_next : (f : ℤ → Option Class) (low high : ℤ) (borders rest : List ℤ) (border next upper : ℤ) (o : Option Class) (found longer : List BusyTime) → IsSwept f low high borders upper found

@@ -31,11 +31,7 @@ pub struct BusyRow {
 /// The longest runs of one class in a range, in order. The class of a second is the greatest of the
 /// times that cover it; from the greatest to the least these are BUSY, BUSY-UNAVAILABLE and
 /// BUSY-TENTATIVE. The time taken is that of sorting the times.
-pub fn busy_runs(
-    alloc: Global,
-    rows: &List<BusyRow>,
-    range: Range,
-) -> Result<List<Run>, NoMemory>
+pub fn busy_runs(alloc: Global, rows: &List<BusyRow>, range: Range) -> Result<List<Run>, NoMemory>
     ensures { IfOk result (λ found. map time_of_run found ≡ runs (times_of rows.now) range) }
 {
     let classes = classes_of(alloc, rows)?;

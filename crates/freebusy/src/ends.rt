@@ -117,11 +117,7 @@ fn is_within(range: Range, at: i64) -> bool
 }
 
 /// The moments within a range at which some time starts or ends, the starts before the ends.
-fn unsorted_borders(
-    alloc: Global,
-    rows: &[BusyRow],
-    range: Range,
-) -> Result<Vec<i64>, AllocError>
+fn unsorted_borders(alloc: Global, rows: &[BusyRow], range: Range) -> Result<Vec<i64>, AllocError>
     ensures { IfOk result (λ v. v.items ≡ spec.borders_of range rows.now) }
 {
     let starts = rows.iter().map(|row| row.start);

@@ -1,4 +1,4 @@
-use Rattle.std.proofs.Common.{ℕ, length}
+use Rattle.std.proofs.Common.{length}
 use Rattle.freebusy.specs.Ends.{open_class}
 use Rattle.freebusy.specs.Sweep.{in_order}
 use Rattle.freebusy.proofs.Sweeping.{IsSwept}
