@@ -53,10 +53,7 @@ const DAYS: [(&[(Class, i64, i64)], &[(Class, i64, i64)]); 8] = [
             (Class::Tentative, TEN, NOON),
         ],
     ),
-    (
-        &[(Class::Busy, TEN, TEN), (Class::Busy, NOON, NINE)],
-        &[],
-    ),
+    (&[(Class::Busy, TEN, TEN), (Class::Busy, NOON, NINE)], &[]),
 ];
 
 #[test]

@@ -3,16 +3,24 @@
 #![tactic(auto)]
 
 #[cfg(test)]
+mod alarms;
+#[cfg(test)]
+mod busy_times;
+#[cfg(test)]
 mod line;
 #[cfg(test)]
 mod line_values;
 #[cfg(test)]
 mod long_values;
 #[cfg(test)]
+mod overlaps;
+#[cfg(test)]
 mod plain_values;
 #[cfg(test)]
 mod rule_cases;
 #[cfg(test)]
 mod rule_walks;
+#[cfg(test)]
+mod zoned_rows;
 #[cfg(test)]
 mod zones;
