@@ -2,12 +2,13 @@
 """Times the programs over generated input, and prints the figures. It needs Python 3, and Debian's package `time` for the memory.
 
 Build the programs once before: `rt run` in crates/caldav_server and in each crate whose name ends in _bench.
-Words name the parts that are to run (scripts, lines, values, rules, bodies, index, turns); without a word all do.
+Words name the parts that are to run (scripts, lines, values, rules, bodies, busy, index, turns); without a word all do.
 """
 import os, re, resource, subprocess, sys, tempfile, time
 
 TOP = os.path.dirname(os.path.dirname(os.path.abspath(__file__)))
 SERVER = os.path.join(TOP, "crates/caldav_server/out/caldav_server")
+BUSY = os.path.join(TOP, "crates/busy_bench/out/busy_bench")
 LINES = os.path.join(TOP, "crates/lines_bench/out/lines_bench")
 INDEX = os.path.join(TOP, "crates/index_bench/out/index_bench")
 TURNS = os.path.join(TOP, "crates/turns_bench/out/turns_bench")
@@ -210,10 +211,19 @@ def rules():
         print(f"{f'{label}, {unit}':34} {plain:8d} {step:8d} {plain / step:14.1f}")
 
 
+def busy():
+    print(f"{'busy times':34} {'seconds':>8} {'us each':>8} {'MiB':>6}  answer")
+    for count in (50000, 100000, 200000):
+        runs = [processor_run(BUSY, [str(count)], b"") for _ in range(3)]
+        seconds = min(taken for taken, _, _ in runs)
+        most = max(memory for _, memory, _ in runs)
+        answer = runs[0][2].decode().strip()
+        print(f"{f'{count} times that all overlap':34} {seconds:8.4f} {seconds / count * 1e6:8.3f} {most:6.1f}  {answer}")
+
+
 PARTS = {
     "scripts": (scripts, SERVER), "lines": (lines, LINES), "values": (values, VALUES), "rules": (rules, RULES),
-    "bodies": (bodies, BODIES),
-    "index": (index, INDEX), "turns": (turns, TURNS),
+    "bodies": (bodies, BODIES), "busy": (busy, BUSY), "index": (index, INDEX), "turns": (turns, TURNS),
 }
 chosen = sys.argv[1:] or list(PARTS)
 for name in chosen:

@@ -3,11 +3,17 @@
 #![tactic(auto)]
 
 #[cfg(test)]
+mod alarms;
+#[cfg(test)]
+mod busy_times;
+#[cfg(test)]
 mod line;
 #[cfg(test)]
 mod line_values;
 #[cfg(test)]
 mod long_values;
+#[cfg(test)]
+mod overlaps;
 #[cfg(test)]
 mod plain_values;
 #[cfg(test)]
@@ -18,5 +24,6 @@ mod rule_texts;
 mod rule_walks;
 #[cfg(test)]
 mod zone_tables;
+mod zoned_rows;
 #[cfg(test)]
 mod zones;

@@ -1,0 +1,5 @@
+mod Borders
+mod Counts
+mod Partitions
+mod Stretches
+mod Sweeping
