@@ -1,0 +1,4 @@
+pub mod DayLemmas
+pub mod NameLemmas
+pub mod OrderLemmas
+pub mod ZoneLemmas

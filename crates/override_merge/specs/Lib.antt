@@ -1,0 +1,5 @@
+pub mod Conversions
+pub mod AlignedStamps
+pub mod NamedStarts
+pub mod DayStarts
+pub mod Parts
