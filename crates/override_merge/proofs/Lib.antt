@@ -1,4 +1,6 @@
 pub mod DayLemmas
+pub mod MergeLemmas
 pub mod NameLemmas
 pub mod OrderLemmas
+pub mod StampLemmas
 pub mod ZoneLemmas

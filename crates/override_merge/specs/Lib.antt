@@ -3,3 +3,4 @@ pub mod AlignedStamps
 pub mod NamedStarts
 pub mod DayStarts
 pub mod Parts
+pub mod IdStarts

@@ -1,5 +1,5 @@
 -- Rows that are asked for, and the rows of overrides beside starts that are sorted by day.
-use Rattle.std.specs.Prelude.{◌≡◌, ℕ, Bool, true, List, [], map, flat_map, option_to_list, ℤ}
+use Rattle.std.specs.Prelude.{◌≡◌, ℕ, ◌+◌, Bool, true, List, [], ◌∷◌, ◌++◌, map, flat_map, option_to_list, ℤ}
 use Rattle.cal_moment.specs.declared.stamp.Stamp.{Stamp}
 use Rattle.cal_model.specs.declared.object.Component.{Component}
 use Rattle.cal_model.specs.declared.object.Object.{Object}
@@ -26,3 +26,8 @@ id_by reading days (on_day midnight) = first_or_else (reading.instant midnight) 
 abbrev pub own_row_by : List ZoneTable → Stamp → List (ℤ × ℤ) → Component → ℕ → List Row
 own_row_by zones ids days c number =
     flat_map (λ s. map (λ x. row_of (id_by (reading_of zones ids) days (align zones x ids)) (value_of zones s) (end_from zones c (value_of zones s)) number (kind_of ids) (kind_of s)) (option_to_list c.recurrence_id)) (option_to_list (own_start c))
+
+-- the rows of the overrides among components that are counted from a number on
+abbrev pub own_rows_by : List ZoneTable → Stamp → List (ℤ × ℤ) → ℕ → List Component → List Row
+own_rows_by zones ids days number [] = []
+own_rows_by zones ids days number (c ∷ cs) = own_row_by zones ids days c number ++ own_rows_by zones ids days (number + 1) cs

@@ -7,9 +7,12 @@
 
 pub mod days;
 pub mod ends;
+mod merged;
 pub mod names;
 pub mod order;
 pub mod rows;
 pub mod stamps;
 pub mod starts;
 pub mod zones;
+
+pub use merged::{merge, merged_rows};

@@ -53,7 +53,8 @@ fn row_from(
 ) -> Row
     requires stamp { IsConvertible (length zones.now) stamp }
     requires component { HasConvertibleRow (length zones.now) component.now }
-    ensures { result ≡ spec.row_of id (alignment.value_of (tables_of zones.now) stamp) (spec.end_of_extent (tables_of zones.now) stamp component.now.extent (alignment.value_of (tables_of zones.now) stamp)) number (alignment.kind_of ids) (alignment.kind_of stamp) }
+    ensures near { IsBetween (neg_ℤ (pos 1_200_000_000_000)) (pos 1_200_000_000_000) result.start }
+    ensures value { result ≡ spec.row_of id (alignment.value_of (tables_of zones.now) stamp) (spec.end_of_extent (tables_of zones.now) stamp component.now.extent (alignment.value_of (tables_of zones.now) stamp)) number (alignment.kind_of ids) (alignment.kind_of stamp) }
 {
     let start = value_of(zones, stamp);
     Row {

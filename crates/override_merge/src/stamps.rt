@@ -3,7 +3,7 @@ ghost use Rattle.std.specs.Prelude.{◌≡◌, ℕ, ◌<◌, length, ℤ, pos, n
 ghost use Rattle.cal_moment.specs.Calendar.{IsBetween};
 ghost use Rattle.cal_model.specs.Instances.Alignment as spec;
 ghost use Rattle.cal_model.specs.TimeZones.TableBounds.{IsDigits};
-ghost use Rattle.override_merge.specs.Conversions.{tables_of, HasZone, IsConvertible};
+ghost use Rattle.override_merge.specs.Conversions.{tables_of, HasZone, IsConvertible, IsRowTime};
 ghost use Rattle.override_merge.specs.AlignedStamps.{aligned_by, HasDigits};
 
 use crate::zones::{instant_beside, local_beside};
@@ -79,6 +79,7 @@ fn align_timed(zones: &[LocalTimes<'_>], stamp: Stamp, start: Stamp) -> Aligned
 
 /// A stamp beside a floating start.
 fn align_floating(stamp: Stamp) -> Aligned
+    requires { IsRowTime (spec.written_value stamp) }
     ensures digits { HasDigits result }
     ensures value { aligned_by result ≡ spec.align_floating stamp }
 {
