@@ -9,6 +9,8 @@ mod line_values;
 #[cfg(test)]
 mod long_values;
 #[cfg(test)]
+mod overrides;
+#[cfg(test)]
 mod plain_values;
 #[cfg(test)]
 mod rule_cases;

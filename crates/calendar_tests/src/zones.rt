@@ -17,7 +17,7 @@ const JULY: i32 = 13_698;
 const AUTUMN: i32 = 13_821;
 
 /// The zone of New York in that year: daylight saving from 11 March, 07:00Z, to 4 November, 06:00Z.
-fn new_york(alloc: Global) -> Result<ZoneTable, NoMemory>
+pub fn new_york(alloc: Global) -> Result<ZoneTable, NoMemory>
     ensures { IfOk result IsTable }
 {
     let name = Octets::of(alloc, b"America/New_York")?;

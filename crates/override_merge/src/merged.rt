@@ -59,7 +59,13 @@ fn put_own_rows(
     let mut rest = object.components.as_slice();
     let mut number = 0u32;
     'overrides: while let Some((component, behind)) = rest.split_first() {
-        put_row(zones, object, part, own_row(zones, ids, days, component, number), out)?;
+        put_row(
+            zones,
+            object,
+            part,
+            own_row(zones, ids, days, component, number),
+            out,
+        )?;
         if !behind.is_empty() {
             number += 1;
         }
@@ -77,7 +83,11 @@ fn unnamed(zones: &[LocalTimes<'_>], ids: Stamp, names: &Names, row: &Row) -> Op
     ensures value { option_to_list result ≡ filter (λ (r : Row). not (has_name (alignment.reading_of (tables_of zones.now) ids) r.id names.now)) (row.now ∷ []) }
     ensures near { IfSome result HasRowTimes }
 {
-    if is_named(zones, ids, names, row.id) { None } else { Some(*row) }
+    if is_named(zones, ids, names, row.id) {
+        None
+    } else {
+        Some(*row)
+    }
 }
 
 /// Puts the rows that no override names and that are asked for behind the others.
@@ -146,5 +156,12 @@ pub fn merge(alloc: Global, master: &List<Row>, object: &Object) -> Result<List<
         return Ok(List::new(alloc));
     };
     let zones = local_times(alloc, object.zones.as_slice())?;
-    merged_rows(alloc, zones.as_slice(), ids, object, master.as_slice(), Part::All)
+    merged_rows(
+        alloc,
+        zones.as_slice(),
+        ids,
+        object,
+        master.as_slice(),
+        Part::All,
+    )
 }

@@ -58,11 +58,7 @@ pub fn names_of(values: List<i64>, days: List<i64>) -> Result<Names, NoMemory>
 }
 
 /// Puts what a stamp says beside a start behind the values or the days.
-pub fn put_name(
-    name: Aligned,
-    values: &mut List<i64>,
-    days: &mut List<i64>,
-) -> Result<(), NoMemory>
+pub fn put_name(name: Aligned, values: &mut List<i64>, days: &mut List<i64>) -> Result<(), NoMemory>
     ensures values { OnOk result (values.new ≡ values.old ++ values_in (aligned_by name ∷ [])) }
     ensures days { OnOk result (days.new ≡ days.old ++ days_in (aligned_by name ∷ [])) }
 {
