@@ -2,7 +2,7 @@
 //! 2025, and events in New York in March 2007, when its clocks went forward on the 11th at 02:00.
 ghost use Rattle.std.specs.Prelude.{◌≡◌, ◌<◌, ◌^◌, length, option_to_list, All, IfOk};
 ghost use Rattle.cal_model.specs.TimeZones.TableBounds.{IsTable};
-ghost use Rattle.override_merge.specs.Conversions.{IsConvertible, HasConvertibleRow, HasConvertibleRows, HasRowTimes};
+ghost use Rattle.override_merge.specs.Conversions.{IsConvertible, HasConvertibleRow, HasConvertibleRows, HasRowTimes, IsRowTime};
 
 use crate::zones::new_york;
 use cal_base::{List, Name, NoMemory, Node, Octets};
@@ -55,7 +55,9 @@ fn stamp(when: When) -> Stamp
     }
 }
 
-fn seconds(day: u16, second: u32) -> i64 {
+fn seconds(day: u16, second: u32) -> i64
+    ensures { IsRowTime result }
+{
     day as i64 * 86_400 + second as i64
 }
 
