@@ -1,11 +1,6 @@
-//! Tests of the crates that read calendar objects, and of the conversions of their zones, above them
-//! all, so that a test costs its own check and no other.
+//! Tests of the readers of values, above them, so that a test costs its own check and no other.
 #![tactic(auto)]
 
-#[cfg(test)]
-mod alarms;
-#[cfg(test)]
-mod busy_times;
 #[cfg(test)]
 mod line;
 #[cfg(test)]
@@ -13,17 +8,6 @@ mod line_values;
 #[cfg(test)]
 mod long_values;
 #[cfg(test)]
-mod overlaps;
-#[cfg(test)]
 mod plain_values;
 #[cfg(test)]
-mod rule_cases;
-#[cfg(test)]
 mod rule_texts;
-#[cfg(test)]
-mod rule_walks;
-#[cfg(test)]
-mod zone_tables;
-mod zoned_rows;
-#[cfg(test)]
-mod zones;

@@ -1,0 +1,116 @@
+//! Stamps beside a start (RFC 5545, 3.8.4.4 and 3.8.5.1).
+ghost use Rattle.std.specs.Prelude.{◌≡◌, ℕ, ◌<◌, length, ℤ, pos, neg_ℤ, ◌+ℤ◌, ◌-ℤ◌};
+ghost use Rattle.cal_moment.specs.Calendar.{IsBetween};
+ghost use Rattle.cal_model.specs.Instances.Alignment as spec;
+ghost use Rattle.cal_model.specs.TimeZones.TableBounds.{IsDigits};
+ghost use Rattle.override_merge.specs.Conversions.{tables_of, HasZone, IsConvertible, IsRowTime};
+ghost use Rattle.override_merge.specs.AlignedStamps.{aligned_by, HasDigits};
+
+use crate::zones::{instant_beside, local_beside};
+use cal_model::{LocalTimes, RowKind};
+use cal_moment::Stamp;
+
+const DAY: i64 = 86_400;
+
+/// What a stamp says beside a start, in seconds since 1970.
+#[derive(Clone, Copy)]
+pub enum Aligned {
+    /// One value.
+    At(i64),
+    /// A local day, by its midnight.
+    OnDay(i64),
+}
+
+/// The digits that a stamp is written with; of a DATE those of its midnight.
+pub fn written_value(stamp: Stamp) -> i64
+    ensures { result ≡ spec.written_value stamp }
+{
+    match stamp {
+        Stamp::Date(day) => day.0 as i64 * DAY,
+        Stamp::Floating(local) | Stamp::Zoned(local, _) => {
+            local.day as i64 * DAY + local.second as i64
+        }
+        Stamp::Utc(moment) => moment.0,
+    }
+}
+
+/// The value of a stamp by itself: its instant, its digits, or the midnight of its day.
+pub fn value_of(zones: &[LocalTimes<'_>], stamp: Stamp) -> i64
+    requires { IsConvertible (length zones.now) stamp }
+    ensures value { result ≡ spec.value_of (tables_of zones.now) stamp }
+    ensures near { IsBetween (spec.written_value stamp -ℤ pos 86_400) (spec.written_value stamp +ℤ pos 86_400) result }
+{
+    instant_beside(zones, stamp, written_value(stamp))
+}
+
+/// What the moments of a component count that starts so.
+pub fn kind_of(stamp: Stamp) -> RowKind
+    ensures { result ≡ spec.kind_of stamp }
+{
+    match stamp {
+        Stamp::Date(_) => RowKind::Date,
+        Stamp::Floating(_) => RowKind::Floating,
+        Stamp::Zoned(_, _) | Stamp::Utc(_) => RowKind::Instant,
+    }
+}
+
+/// The midnight of the day of some digits.
+pub fn midnight_of(digits: i64) -> i64
+    requires { IsDigits digits }
+    ensures { result ≡ spec.midnight_of digits }
+{
+    digits.div_euclid(DAY) * DAY
+}
+
+/// A stamp beside a start that is zoned or in UTC.
+fn align_timed(zones: &[LocalTimes<'_>], stamp: Stamp, start: Stamp) -> Aligned
+    requires stamp { IsConvertible (length zones.now) stamp }
+    requires start { HasZone (length zones.now) start }
+    ensures digits { HasDigits result }
+    ensures value { aligned_by result ≡ spec.align_timed (tables_of zones.now) stamp start }
+{
+    match stamp {
+        Stamp::Date(_) => Aligned::OnDay(written_value(stamp)),
+        Stamp::Floating(_) => Aligned::At(instant_beside(zones, start, written_value(stamp))),
+        Stamp::Zoned(_, _) => Aligned::At(value_of(zones, stamp)),
+        Stamp::Utc(moment) => Aligned::At(moment.0),
+    }
+}
+
+/// A stamp beside a floating start.
+fn align_floating(stamp: Stamp) -> Aligned
+    requires { IsRowTime (spec.written_value stamp) }
+    ensures digits { HasDigits result }
+    ensures value { aligned_by result ≡ spec.align_floating stamp }
+{
+    match stamp {
+        Stamp::Date(_) => Aligned::OnDay(written_value(stamp)),
+        _ => Aligned::At(written_value(stamp)),
+    }
+}
+
+/// What a stamp says beside a start.
+pub fn align(zones: &[LocalTimes<'_>], stamp: Stamp, start: Stamp) -> Aligned
+    requires stamp { IsConvertible (length zones.now) stamp }
+    requires start { HasZone (length zones.now) start }
+    ensures digits { HasDigits result }
+    ensures value { aligned_by result ≡ spec.align (tables_of zones.now) stamp start }
+{
+    match start {
+        Stamp::Date(_) => Aligned::At(midnight_of(written_value(stamp))),
+        Stamp::Floating(_) => align_floating(stamp),
+        Stamp::Zoned(_, _) | Stamp::Utc(_) => align_timed(zones, stamp, start),
+    }
+}
+
+/// Whether what a stamp says beside a start names an instance that starts at a value.
+pub fn names_start(zones: &[LocalTimes<'_>], start: Stamp, value: i64, name: Aligned) -> bool
+    requires start { HasZone (length zones.now) start }
+    requires near { IsBetween (neg_ℤ (pos 180_000_000_000_000)) (pos 180_000_000_000_000) value }
+    ensures { result ≡ spec.names_start (spec.reading_of (tables_of zones.now) start) value (aligned_by name) }
+{
+    match name {
+        Aligned::At(named) => named == value,
+        Aligned::OnDay(midnight) => midnight == midnight_of(local_beside(zones, start, value)),
+    }
+}

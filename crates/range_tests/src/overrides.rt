@@ -1,0 +1,268 @@
+//! Overrides put among the rows of their master (RFC 5545, 3.8.4.4), by hand: meetings in UTC in March
+//! 2025, and events in New York in March 2007, when its clocks went forward on the 11th at 02:00.
+ghost use Rattle.std.specs.Prelude.{◌≡◌, ◌<◌, ◌^◌, length, option_to_list, All, IfOk};
+ghost use Rattle.cal_model.specs.TimeZones.TableBounds.{IsTable};
+ghost use Rattle.override_merge.specs.Conversions.{IsConvertible, HasConvertibleRow, HasConvertibleRows, HasRowTimes, IsRowTime};
+
+use crate::zones::new_york;
+use cal_base::{List, Name, NoMemory, Node, Octets};
+use cal_model::{Component, Extent, Kind, Object, Row, RowKind};
+use cal_moment::{Day, Length, Local, Stamp, Utc};
+use override_merge::merge;
+use std::alloc::Global;
+use std::process::Abort;
+use std::test::Fail;
+
+/// A day since 1970 and a second of it, or the day alone.
+#[derive(Clone, Copy)]
+enum When {
+    Utc(u16, u32),
+    /// By the clock of New York.
+    Local(u16, u32),
+    Day(u16),
+}
+
+/// An override: its RECURRENCE-ID, its start, and the days that it lasts.
+#[derive(Clone, Copy)]
+struct Override {
+    id: When,
+    start: Option<When>,
+    days: u8,
+}
+
+/// 10 March 2025, a Monday, and 10 March 2007.
+const MONDAY: u16 = 20_157;
+
+const SATURDAY: u16 = 13_582;
+
+const NINE: u32 = 32_400;
+
+const NOON: u32 = 43_200;
+
+fn stamp(when: When) -> Stamp
+    ensures { IsConvertible 1 result }
+{
+    match when {
+        When::Utc(day, second) => Stamp::Utc(Utc(day as i64 * 86_400 + second as i64)),
+        When::Local(day, second) => Stamp::Zoned(
+            Local {
+                day: day as i32,
+                second,
+            },
+            0,
+        ),
+        When::Day(day) => Stamp::Date(Day(day as i32)),
+    }
+}
+
+fn seconds(day: u16, second: u32) -> i64
+    ensures { IsRowTime result }
+{
+    day as i64 * 86_400 + second as i64
+}
+
+/// A stamp, where there is one.
+fn own_stamp(when: Option<When>) -> Option<Stamp>
+    ensures { All (IsConvertible 1) (option_to_list result) }
+{
+    match when {
+        Some(when) => Some(stamp(when)),
+        None => None,
+    }
+}
+
+fn override_of(alloc: Global, number: u32, by: Override) -> Component
+    ensures { HasConvertibleRow 1 result }
+{
+    Component {
+        kind: Kind::Event,
+        child: number,
+        start: own_stamp(by.start),
+        extent: Extent::Lasting(Length {
+            days: by.days as i64,
+            seconds: 0,
+        }),
+        recurrence_id: Some(stamp(by.id)),
+        rules: List::new(alloc),
+        dates: List::new(alloc),
+        periods: List::new(alloc),
+        except: List::new(alloc),
+        completed: None,
+        created: None,
+        busy: None,
+        stored_busy: List::new(alloc),
+        alarms: List::new(alloc),
+    }
+}
+
+fn components_of(alloc: Global, overrides: &[Override]) -> Result<List<Component>, NoMemory>
+    ensures { IfOk result (All (HasConvertibleRow 1)) }
+{
+    let mut components = List::new(alloc);
+    'overrides: for by in overrides {
+        components.push(override_of(alloc, 0, *by))?;
+    }
+    Ok(components)
+}
+
+fn object_of(alloc: Global, components: List<Component>) -> Result<Object, NoMemory>
+    requires fit { All (HasConvertibleRow 1) components }
+    requires few { length components < 2 ^ 32 }
+    ensures { IfOk result HasConvertibleRows }
+{
+    let mut zones = List::new(alloc);
+    zones.push(new_york(alloc)?)?;
+    Ok(Object {
+        kind: Kind::Event,
+        uid: Octets::new(alloc),
+        tree: Node {
+            name: Name::of(alloc, b"VCALENDAR")?,
+            lines: List::new(alloc),
+            children: List::new(alloc),
+        },
+        zones,
+        components,
+    })
+}
+
+/// Rows of a master at nine in UTC on some days.
+fn master_rows(alloc: Global, days: &[u16]) -> Result<List<Row>, NoMemory>
+    ensures { IfOk result (All HasRowTimes) }
+{
+    let mut rows = List::new(alloc);
+    'days: for day in days {
+        rows.push(row_at(*day))?;
+    }
+    Ok(rows)
+}
+
+/// Such a row.
+fn row_at(day: u16) -> Row
+    ensures { HasRowTimes result }
+{
+    let start = seconds(day, NINE);
+    Row {
+        id: start,
+        start,
+        end: start,
+        component: 9,
+        id_kind: RowKind::Instant,
+        kind: RowKind::Instant,
+    }
+}
+
+/// A row that is wanted: its id, start, end and component.
+type Wanted = (i64, i64, i64, u32);
+
+/// The rows of a master and some overrides are those.
+fn merges(
+    rt: &impl Abort,
+    alloc: Global,
+    days: &[u16],
+    overrides: &[Override],
+    wanted: &[Wanted],
+) -> Result<(), NoMemory> {
+    let components = components_of(alloc, overrides)?;
+    assert!(rt; components.len() == overrides.len() && components.len() < 10);
+    let object = object_of(alloc, components)?;
+    let rows = merge(alloc, &master_rows(alloc, days)?, &object)?;
+    assert_eq!(rt; rows.len(), wanted.len());
+    'wanted: for (row, one) in rows.as_slice().iter().zip(wanted) {
+        assert!(rt; (row.id, row.start, row.end, row.component) == *one);
+    }
+    Ok(())
+}
+
+/// A moved override stands at its new time with its old id, one that names no instance is added, and
+/// one without a start takes its instance away.
+#[test]
+fn overrides_stand_in_place_of_what_they_name(rt: HostRuntime) -> Result<(), Fail> {
+    let overrides = [
+        Override {
+            id: When::Utc(MONDAY, NINE),
+            start: Some(When::Utc(MONDAY + 30, NOON)),
+            days: 0,
+        },
+        Override {
+            id: When::Utc(MONDAY + 1, NINE),
+            start: Some(When::Utc(MONDAY + 1, NINE)),
+            days: 0,
+        },
+        Override {
+            id: When::Utc(MONDAY + 14, NINE),
+            start: None,
+            days: 0,
+        },
+    ];
+    let (moved, added) = (seconds(MONDAY + 30, NOON), seconds(MONDAY + 1, NINE));
+    let (first, third) = (seconds(MONDAY - 7, NINE), seconds(MONDAY + 7, NINE));
+    merges(
+        &rt,
+        rt.alloc(),
+        &[MONDAY - 7, MONDAY, MONDAY + 7, MONDAY + 14],
+        &overrides,
+        &[
+            (first, first, first, 9),
+            (seconds(MONDAY, NINE), moved, moved, 0),
+            (added, added, added, 1),
+            (third, third, third, 9),
+        ],
+    )?;
+    Ok(())
+}
+
+/// An override by a local day takes the place of each instance on that day, with the id of the first;
+/// where there is none, its id is the day's midnight by the clock of the ids.
+#[test]
+fn days_name_their_instances(rt: HostRuntime) -> Result<(), Fail> {
+    let by_day = Override {
+        id: When::Day(MONDAY),
+        start: Some(When::Utc(MONDAY, NOON)),
+        days: 0,
+    };
+    let (id, start) = (seconds(MONDAY, NINE), seconds(MONDAY, NOON));
+    let other = seconds(MONDAY + 7, NINE);
+    let beside = Override {
+        id: When::Utc(MONDAY + 7, NINE),
+        start: None,
+        days: 0,
+    };
+    merges(
+        &rt,
+        rt.alloc(),
+        &[MONDAY, MONDAY + 7],
+        &[beside, by_day],
+        &[(id, start, start, 1)],
+    )?;
+    let midnight = seconds(MONDAY, 0);
+    merges(
+        &rt,
+        rt.alloc(),
+        &[MONDAY + 14],
+        &[beside, by_day],
+        &[
+            (midnight, start, start, 1),
+            (other + 604_800, other + 604_800, other + 604_800, 9),
+        ],
+    )?;
+    Ok(())
+}
+
+/// A day that an event lasts is one of the clock: from noon to noon, 23 hours where it goes forward.
+#[test]
+fn days_are_added_by_the_clock(rt: HostRuntime) -> Result<(), Fail> {
+    let over = Override {
+        id: When::Local(SATURDAY, NOON),
+        start: Some(When::Local(SATURDAY, NOON)),
+        days: 1,
+    };
+    let start = seconds(SATURDAY, NOON) + 18_000;
+    merges(
+        &rt,
+        rt.alloc(),
+        &[],
+        &[over],
+        &[(start, start, start + 82_800, 0)],
+    )?;
+    Ok(())
+}
