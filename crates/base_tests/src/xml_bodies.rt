@@ -140,61 +140,60 @@ fn text_beside_text_is_one(rt: HostRuntime) -> Result<(), Fail> {
     Ok(())
 }
 
+/// Bodies, and the place and the reason of the first fault of each.
+const FAULTS: [(&[u8], u64, Why); 34] = [
+    (b"", 0, Why::Cut),
+    (b" ", 1, Why::Cut),
+    (b"<a>", 3, Why::Cut),
+    (b"<a", 2, Why::Cut),
+    (b"<a></a", 6, Why::Cut),
+    (b"<a>&am", 6, Why::Cut),
+    (b"<a><!-- x -", 11, Why::Cut),
+    (
+        b"<?xml version='1.0' encoding='latin1'?><a/>",
+        0,
+        Why::Encoding,
+    ),
+    (
+        b"\xEF\xBB\xBF<?xml encoding='UTF-16'?><a/>",
+        3,
+        Why::Encoding,
+    ),
+    (b"<!DOCTYPE a><a/>", 0, Why::Dtd),
+    (b"<a>&nbsp;</a>", 3, Why::Entity),
+    (b"<a>&#xFFFE;</a>", 3, Why::Entity),
+    (b"<a>&#0;</a>", 3, Why::Entity),
+    (b"<a b='x&y;'/>", 7, Why::Entity),
+    (b"<p:a/>", 0, Why::Prefix),
+    (b"<a p:b='1'/>", 0, Why::Prefix),
+    (b"<a><b xmlns:p='u'/><p:c/></a>", 19, Why::Prefix),
+    (b"<a b='1' b='2'/>", 0, Why::Syntax),
+    (
+        b"<a xmlns:p='u' xmlns:q='u' p:b='1' q:b='2'/>",
+        0,
+        Why::Syntax,
+    ),
+    (b"<a xmlns:p=''/>", 0, Why::Syntax),
+    (b"<a xmlns:xml='u'/>", 0, Why::Syntax),
+    (b"<a xmlns:xmlns='u'/>", 0, Why::Syntax),
+    (b"<a></b>", 3, Why::Syntax),
+    (b"<a/><b/>", 4, Why::Syntax),
+    (b"<a/>x", 4, Why::Syntax),
+    (b"x<a/>", 0, Why::Syntax),
+    (b"<a>]]></a>", 3, Why::Syntax),
+    (b"<a><!-- x -- y --></a>", 3, Why::Syntax),
+    (b"<a><?XML x?></a>", 3, Why::Syntax),
+    (b"<a b=1/>", 0, Why::Syntax),
+    (b"<a b='<'/>", 0, Why::Syntax),
+    (b"<a>\x01</a>", 3, Why::Syntax),
+    (b"<a>\xFF</a>", 3, Why::Syntax),
+    (b"<a b='1'c='2'/>", 0, Why::Syntax),
+];
+
 #[test]
 fn a_fault_has_its_place_and_reason(rt: HostRuntime) -> Result<(), Fail> {
-    let faults: [(&[u8], u64, Why); 34] = [
-        (b"", 0, Why::Cut),
-        (b" ", 1, Why::Cut),
-        (b"<a>", 3, Why::Cut),
-        (b"<a", 2, Why::Cut),
-        (b"<a></a", 6, Why::Cut),
-        (b"<a>&am", 6, Why::Cut),
-        (b"<a><!-- x -", 11, Why::Cut),
-        (
-            b"<?xml version='1.0' encoding='latin1'?><a/>",
-            0,
-            Why::Encoding,
-        ),
-        (
-            b"\xEF\xBB\xBF<?xml encoding='UTF-16'?><a/>",
-            3,
-            Why::Encoding,
-        ),
-        (b"<!DOCTYPE a><a/>", 0, Why::Dtd),
-        (b"<a>&nbsp;</a>", 3, Why::Entity),
-        (b"<a>&#xFFFE;</a>", 3, Why::Entity),
-        (b"<a>&#0;</a>", 3, Why::Entity),
-        (b"<a b='x&y;'/>", 7, Why::Entity),
-        (b"<p:a/>", 0, Why::Prefix),
-        (b"<a p:b='1'/>", 0, Why::Prefix),
-        (b"<a><b xmlns:p='u'/><p:c/></a>", 19, Why::Prefix),
-        (b"<a b='1' b='2'/>", 0, Why::Syntax),
-        (
-            b"<a xmlns:p='u' xmlns:q='u' p:b='1' q:b='2'/>",
-            0,
-            Why::Syntax,
-        ),
-        (b"<a xmlns:p=''/>", 0, Why::Syntax),
-        (b"<a xmlns:xml='u'/>", 0, Why::Syntax),
-        (b"<a xmlns:xmlns='u'/>", 0, Why::Syntax),
-        (b"<a></b>", 3, Why::Syntax),
-        (b"<a/><b/>", 4, Why::Syntax),
-        (b"<a/>x", 4, Why::Syntax),
-        (b"x<a/>", 0, Why::Syntax),
-        (b"<a>]]></a>", 3, Why::Syntax),
-        (b"<a><!-- x -- y --></a>", 3, Why::Syntax),
-        (b"<a><?XML x?></a>", 3, Why::Syntax),
-        (b"<a b=1/>", 0, Why::Syntax),
-        (b"<a b='<'/>", 0, Why::Syntax),
-        (b"<a>\x01</a>", 3, Why::Syntax),
-        (b"<a>\xFF</a>", 3, Why::Syntax),
-        (b"<a b='1'c='2'/>", 0, Why::Syntax),
-    ];
-    let mut place = 0;
-    'faults: while place < faults.len() {
-        let (body, at, why) = faults[place];
-        assert!(rt; has_fault(rt, body, at, why));
-        place += 1;
+    for (body, place, why) in FAULTS {
+        assert!(rt; has_fault(rt, body, place, why));
     }
     Ok(())
 }
@@ -202,14 +201,11 @@ fn a_fault_has_its_place_and_reason(rt: HostRuntime) -> Result<(), Fail> {
 /// So many start tags, one within another.
 fn nested(rt: HostRuntime, depth: usize) -> Result<Vec<u8>, Fail> {
     let mut body = Vec::new(rt.alloc());
-    let mut open = 0;
-    'opened: while open < depth {
+    for _ in 0..depth {
         body.extend_from_slice(b"<a>")?;
-        open += 1;
     }
-    'closed: while open > 0 {
+    for _ in 0..depth {
         body.extend_from_slice(b"</a>")?;
-        open -= 1;
     }
     Ok(body)
 }
@@ -227,16 +223,12 @@ fn an_element_is_at_most_32_deep(rt: HostRuntime) -> Result<(), Fail> {
 fn with_long_namespace(rt: HostRuntime, octets: usize, elements: usize) -> Result<Vec<u8>, Fail> {
     let mut body = Vec::new(rt.alloc());
     body.extend_from_slice(b"<a xmlns='")?;
-    let mut written = 0;
-    'written: while written < octets {
+    for _ in 0..octets {
         body.push(b'u')?;
-        written += 1;
     }
     body.extend_from_slice(b"'>")?;
-    let mut made = 0;
-    'made: while made < elements {
+    for _ in 0..elements {
         body.extend_from_slice(b"<b/>")?;
-        made += 1;
     }
     body.extend_from_slice(b"</a>")?;
     Ok(body)
