@@ -62,9 +62,6 @@ attributes_more attrs place attr old out new within here so_far now =
 
 -- Elements
 
-pub then_more : (old piece rest : List ℕ) {mid new : List ℕ} → mid ≡ old ++ piece → new ≡ mid ++ rest → new ≡ old ++ (piece ++ rest)
-then_more old piece rest first more = more ∙ ap (λ t. t ++ rest) first ∙ append_assoc old piece rest
-
 -- an element whose prefix was looked for
 abbrev element_by : List ℕ → List ℕ → List ℕ → List Attr → List ℕ → Option (List ℕ) → List ℕ
 element_by declarations space name attrs content found = elim found [

@@ -136,7 +136,3 @@ need_privileges-pieces path bits = sym (
     ∙ wanted_is (href path ++ (codes "</D:href>" ++ privileges_of bits))
     ∙ ap (λ text. need_privileges_front ++ text) (closed (href path ++ (codes "</D:href>" ++ privileges_of bits)) ∙ append_assoc (href path) (codes "</D:href>" ++ privileges_of bits) need_privileges_end)
     )
-
--- a buffer to which one piece and then a rest was appended
-pub then_more : (old piece rest : List ℕ) {mid new : List ℕ} → mid ≡ old ++ piece → new ≡ mid ++ rest → new ≡ old ++ (piece ++ rest)
-then_more old piece rest first more = more ∙ ap (λ t. t ++ rest) first ∙ append_assoc old piece rest

@@ -1,3 +1,4 @@
+pub mod Appending
 pub mod CutLemmas
 pub mod SegmentLemmas
 pub mod PathLemmas

@@ -1,6 +1,6 @@
 -- A path written piece by piece, and read back.
-use Rattle.std.proofs.Common.{◌≡◌, ℕ, List, [], ◌++◌, Result, Ok, Err, Some, IsTrue, ap, ◌∙◌, append_assoc, length, refl}
-use Rattle.std.specs.Prelude.{codes, OnOk}
+use Rattle.std.proofs.Common.{◌≡◌, ℕ, List, [], ◌++◌, Some, IsTrue, ap, ◌∙◌, append_assoc, length, refl}
+use Rattle.std.specs.Prelude.{codes}
 use Rattle.percent_encoding.specs.Percent.{percent_encode_byte}
 use Rattle.cal_model.specs.declared.path.Path.{Path}
 use Rattle.cal_model.specs.declared.path.Path.TheVariants.{Calendar, Object}
@@ -12,10 +12,6 @@ use Rattle.cal_model.proofs.Paths.PathLaws.{hrefs_are_read_back}
 -- what stands before a name, the name and a slash
 abbrev pub step : List ℕ → List ℕ → List ℕ
 step front name = front ++ (segment name ++ codes "/")
-
-pub on_ok_then : {E : Type 0} {X P Q : Type 0} (result : Result X E) → (P → Q) → OnOk result P → OnOk result Q
-on_ok_then (Ok x) next holds = next holds
-on_ok_then (Err e) next holds = holds
 
 pub written_calendar : (user calendar old middle new : List ℕ) → middle ≡ old ++ step (codes "/calendars/") user → new ≡ middle ++ step [] calendar → new ≡ old ++ href (Calendar user calendar)
 written_calendar user calendar old middle new first second =

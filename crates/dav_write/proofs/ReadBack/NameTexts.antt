@@ -1,73 +1,15 @@
 -- The texts of names: of characters of XML, and without the octets that mark anything in a tag.
-use Rattle.std.specs.Prelude.{◌≡◌, ℕ, ◌<◌, ◌≤◌, Bool, true, false, ◌&&◌, ◌||◌, ◌==◌, nat_lt, nat_le, List, [], ◌∷◌, ◌++◌, length, get_or, Some}
+use Rattle.std.specs.Prelude.{◌≡◌, ℕ, ◌≤◌, Bool, true, false, ◌&&◌, ◌||◌, ◌==◌, nat_le, List, [], ◌∷◌, ◌++◌, Some}
 use Rattle.std.specs.List.{list_any, list_all}
 use lib.Utf8.{encode}
-use Rattle.std.specs.Str.{chars, is_utf8, NoCharPasses, NonePass}
-use Rattle.std.proofs.Common.{inl, inr, arith, refl, sym, ap, subst, ◌∙◌}
-use Rattle.std.proofs.lemmas.Bool.{eqb-true, ltb-true, leb-true, le-leb, cases_Bool}
-use Rattle.std.proofs.lemmas.List.{get_or_default}
-use Rattle.std.proofs.lemmas.List.Folds.{list_any_none}
-use Rattle.std.proofs.lemmas.Str.{NoCharPasses-byte, encodes-chars, IsUtf8-from_is_utf8}
+use Rattle.std.specs.Str.{chars, is_utf8}
+use Rattle.std.proofs.Common.{inl, inr, arith, refl, ap, subst, ◌∙◌}
+use Rattle.std.proofs.lemmas.Bool.{leb-true, le-leb, cases_Bool}
 use Rattle.cal_base.specs.Texts.Octets.{colon}
 use Rattle.cal_base.specs.Lines.ContentLines.{pieces, onto_first}
 use Rattle.cal_base.specs.Xml.XmlNames.{QName, is_among, is_xml_character, is_xml_text, name_starts, name_followers, is_name_start, is_name_character, are_name_characters, is_plain_name, qname_of, qname_of_pieces}
-use Rattle.cal_base.proofs.Xml.XmlNameLemmas.{both_true, both_false, is_one_of, qname_of-lacks}
+use Rattle.cal_base.proofs.Xml.XmlNameLemmas.{both_true, both_false, is_one_of, qname_of-lacks, true_or, plain_name_lacks}
 use Rattle.dav_write.proofs.ReadBack.Characters.{xml_text_append}
-
-true_or : (one other : Bool) → one ≡ true → (one || other) ≡ true
-true_or true other e = refl
-true_or false other e = absurd cc
-
-is_one_of-small : (table : List ℕ) → list_all (λ other. nat_lt other 128) table ≡ true → (octet : ℕ) → is_one_of table octet ≡ true → octet < 128
-is_one_of-small [] t octet h = absurd cc
-is_one_of-small (other ∷ table) t octet h =
-    let small = both_true (nat_lt other 128) _ t in
-    elim (cases_Bool (octet == other)) [
-      | inl same ↦ omega (arith, eqb-true octet other same, ltb-true other 128 small.0)
-      | inr apart ↦ is_one_of-small table small.1 octet (subst (λ test. (test || is_one_of table octet) ≡ true) apart h)
-    ]
-
-is_one_of-apart : (table : List ℕ) → list_any is_name_character table ≡ false → (octet : ℕ) → is_name_character octet ≡ true → is_one_of table octet ≡ false
-is_one_of-apart [] t octet h = refl
-is_one_of-apart (other ∷ table) t octet h =
-    let no_name = both_false (is_name_character other) _ t in
-    elim (cases_Bool (octet == other)) [
-      | inl same ↦
-          let as_other : is_name_character other ≡ true = subst (λ (character : ℕ). is_name_character character ≡ true) (eqb-true octet other same) h in
-          absurd cc
-      | inr apart ↦ subst (λ test. (test || is_one_of table octet) ≡ false) (sym apart) (is_one_of-apart table no_name.1 octet h)
-    ]
-
--- Names
-
-all_lack : (table : List ℕ) → list_any is_name_character table ≡ false → (characters : List ℕ) → list_all is_name_character characters ≡ true → NonePass (is_one_of table) characters
-all_lack table t [] h = tt
-all_lack table t (character ∷ characters) h =
-    let each = both_true (is_name_character character) _ h in
-    (is_one_of-apart table t character each.0, all_lack table t characters each.1)
-
-characters_lack : (table : List ℕ) → list_any is_name_character table ≡ false → (characters : List ℕ) → are_name_characters characters ≡ true → NonePass (is_one_of table) characters
-characters_lack table t [] h = tt
-characters_lack table t (character ∷ characters) h =
-    let each = both_true (is_name_start character) _ h in
-    (is_one_of-apart table t character (true_or _ _ each.0), all_lack table t characters each.1)
-
--- a name has no octet of a table in which no name character stands
-pub plain_name_lacks : (table : List ℕ) → list_all (λ other. nat_lt other 128) table ≡ true → list_any is_name_character table ≡ false → (text : List ℕ) → is_plain_name text ≡ true → list_any (is_one_of table) text ≡ false
-plain_name_lacks table s t text h =
-    let each = both_true (is_utf8 text) _ h in
-    let lacks : NoCharPasses (is_one_of table) text = (chars text, encodes-chars text (IsUtf8-from_is_utf8 text each.0), characters_lack table t (chars text) each.1) in
-    list_any_none (is_one_of table) text (λ k d l. at k d l lacks)
-  where
-    at : (k d : ℕ) → k < length text → NoCharPasses (is_one_of table) text → is_one_of table (get_or text k d) ≡ false
-    at k d l lacks = elim (cases_Bool (is_one_of table (get_or text k d))) [
-      | inl found ↦
-          let same : get_or text k d ≡ get_or text k 0 = get_or_default text k d 0 l in
-          let small : get_or text k d < 128 = is_one_of-small table s (get_or text k d) found in
-          let fails : is_one_of table (get_or text k 0) ≡ false = NoCharPasses-byte (is_one_of table) text k lacks l (subst (λ (octet : ℕ). octet < 128) same small) in
-          ap (λ (octet : ℕ). is_one_of table octet) same ∙ fails
-      | inr none ↦ none
-    ]
 
 -- Characters of names are characters of XML
 

@@ -13,10 +13,10 @@ use Rattle.cal_base.specs.declared.element.Attr.{Attr}
 use Rattle.cal_base.specs.Xml.XmlNames.{is_plain_name, is_among, name_followers, is_name_start, is_name_character, are_name_characters}
 use Rattle.cal_base.specs.Xml.XmlScopes.{Scope, is_declaration, space_of, attribute_space, xml_space}
 use Rattle.cal_base.specs.Xml.CanonicalXml.{dav, caldav, attribute, declaration, known_prefix, written_attribute}
+use Rattle.cal_base.proofs.Xml.XmlEscapeLemmas.{differ}
 use Rattle.dav_write.proofs.ReadBack.Lookups.{same_text}
 use Rattle.dav_write.specs.Readable.{IsSpace, IsAttr, AreAttrs}
 use Rattle.dav_write.proofs.ReadBack.Spelling.{HasKnown}
-use Rattle.dav_write.proofs.ReadBack.TextSteps.{differ}
 use Rattle.dav_write.proofs.ReadBack.NameTexts.{in_wider, or_other}
 use Rattle.dav_write.proofs.ReadBack.Tags.{pairs_text}
 use Rattle.dav_write.proofs.ReadBack.Entries.{Entry, binds, gives, prefixed, entry_pair, IsPrefix, IsBinding, AreEntries, attrs_of}

@@ -10,7 +10,7 @@ use Rattle.cal_base.specs.Xml.XmlMarkup.{Tag, Markup, opening, closing, begins, 
 use Rattle.cal_base.specs.Xml.XmlFaults.{Fault, fault_at, inner_fault, first_inner, references_fault}
 use Rattle.cal_base.specs.Xml.CanonicalXml.{value_octet, attribute_text, attribute}
 use Rattle.cal_base.proofs.Xml.XmlNameLemmas.{qname_of-nil}
-use Rattle.cal_base.proofs.Xml.XmlTagLemmas.{pick, skip, markups-marked}
+use Rattle.cal_base.proofs.Xml.XmlTagLemmas.{pick, skip, markups-marked, markup_size-tag}
 use Rattle.dav_write.proofs.ReadBack.Spelling.{IsMarkup}
 use Rattle.dav_write.proofs.ReadBack.Characters.{xml_text_append}
 use Rattle.dav_write.proofs.ReadBack.ValueTexts.{value_text_fine}
@@ -38,13 +38,6 @@ size_pairs (pair ∷ pairs) rest (is, are) =
     let size_text : length (attribute pair.text pair.value ++ more) ≡ suc (length pair.text + (2 + (length value + (1 + length more)))) =
     ap (λ (text : List ℕ). length text) (pair_split pair more) ∙ omega (arith, length-append pair.text (61 ∷ 34 ∷ (value ++ 34 ∷ more)), length-append value (34 ∷ more)) in
     ap (tag_size None) split ∙ omega (arith, named, size_text, size_pairs pairs rest are)
-
-markup_size-tag : (first : ℕ) (more : List ℕ) → nat_eq 33 first ≡ false → nat_eq 63 first ≡ false → markup_size (60 ∷ first ∷ more) ≡ 1 + tag_size None (first ∷ more)
-markup_size-tag first more bang question =
-    let comment : begins (60 ∷ first ∷ more) (codes "<!--") ≡ false = rw bang refl in
-    let section : begins (60 ∷ first ∷ more) (codes "<![CDATA[") ≡ false = rw bang refl in
-    let instruction : begins (60 ∷ first ∷ more) (codes "<?") ≡ false = rw question refl in
-    skip _ _ _ comment ∙ (skip _ _ _ section ∙ skip _ _ _ instruction)
 
 -- References
 

@@ -6,9 +6,9 @@ use Rattle.std.specs.List.{list_any}
 use Rattle.std.specs.Str.{bytes_eq}
 use Rattle.cal_base.specs.declared.element.Attr.{Attr}
 use Rattle.cal_base.specs.Xml.XmlScopes.{Scope, space_of, attribute_space, has_repeat}
+use Rattle.cal_base.proofs.Xml.XmlEscapeLemmas.{differ}
 use Rattle.dav_write.proofs.ReadBack.Lookups.{text_same, space_of_cons, space_of_append}
 use Rattle.dav_write.proofs.ReadBack.Spelling.{HasKnown}
-use Rattle.dav_write.proofs.ReadBack.TextSteps.{differ}
 use Rattle.dav_write.proofs.ReadBack.Entries.{Entry, binds, gives, AreSpaces, bindings, is_same_prefix}
 use Rattle.dav_write.proofs.ReadBack.Prefixes.{Known, Own, view, y_of, y_apart, attr_entry, attr_entries}
 

@@ -14,26 +14,12 @@ use Rattle.cal_base.specs.Xml.CanonicalXml.{text_octet, xml_text}
 use Rattle.cal_base.proofs.Xml.XmlMarkupLemmas.{markups-append}
 use Rattle.cal_base.proofs.Xml.XmlNameLemmas.{both_false}
 use Rattle.cal_base.proofs.Xml.XmlTagLemmas.{skip, markups-marked}
-use Rattle.cal_base.proofs.Xml.XmlEscapeLemmas.{Plain, markups-character}
+use Rattle.cal_base.proofs.Xml.XmlEscapeLemmas.{Plain, markups-character, differ, high_plain}
 use Rattle.dav_write.proofs.ReadBack.Spelling.{IsMarkup, levels_of, scope_in, NoEnd, Alike, Grown, Spells}
 use Rattle.dav_write.proofs.ReadBack.Characters.{AreCharacters, characters_of, characters_same, one_text, behind_one}
 use Rattle.dav_write.proofs.ReadBack.Alikes.{spells_join, xml_text-append}
 use Rattle.dav_write.proofs.ReadBack.Steps.{sound_step, levels_step}
 use Rattle.dav_write.proofs.ReadBack.Frame.{TextStep}
-
-pub differ : (a b : ℕ) → (a ≡ b → ⊥) → nat_eq a b ≡ false
-differ a b h = elim (cases_Bool (nat_eq a b)) [
-  | inl same ↦ absurd (h (eqb-true a b same))
-  | inr apart ↦ apart
-]
-
-high_plain : (octet : ℕ) → 128 ≤ octet → Plain octet
-high_plain octet h = record {
-  tag = differ 60 octet (λ e. omega arith);
-  refers = differ 38 octet (λ e. omega arith);
-  bracket = differ 93 octet (λ e. omega arith);
-  return = differ 13 octet (λ e. omega arith);
-}
 
 -- an octet that is written as it is
 pub record Unescaped (octet : ℕ) : Type 0 where

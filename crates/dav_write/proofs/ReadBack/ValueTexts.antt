@@ -8,8 +8,9 @@ use Rattle.std.proofs.lemmas.Bool.{eqb-true, cases_Bool}
 use Rattle.cal_base.specs.Xml.XmlNames.{is_xml_text}
 use Rattle.cal_base.specs.Xml.CanonicalXml.{text_octet, value_octet, xml_text, attribute_text}
 use Rattle.cal_base.proofs.Xml.XmlNameLemmas.{both_false}
+use Rattle.cal_base.proofs.Xml.XmlEscapeLemmas.{differ}
 use Rattle.dav_write.proofs.ReadBack.Characters.{AreCharacters, characters_of, characters_same, one_text, behind_one, xml_text_append}
-use Rattle.dav_write.proofs.ReadBack.TextSteps.{differ, Kind, bracketed, escaped, unchanged, kind_of, unescaped_character}
+use Rattle.dav_write.proofs.ReadBack.TextSteps.{Kind, bracketed, escaped, unchanged, kind_of, unescaped_character}
 
 value_text_append : (text more : List ℕ) → attribute_text (text ++ more) ≡ attribute_text text ++ attribute_text more
 unfolding attribute_text

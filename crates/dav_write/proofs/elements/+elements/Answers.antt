@@ -1,9 +1,9 @@
 use Rattle.std.proofs.Common.{◌≡◌, ◌++◌, ◌<◌, length, map, codes, sym, ap, ◌∙◌}
 use Rattle.std.specs.List.{concat}
 use Rattle.std.proofs.lemmas.List.{take_all}
+use Rattle.dav_write.proofs.Appending.{then_more, on_ok_then}
 use Rattle.dav_write.specs.ElementTexts.{tag_front, end_tag, item_text}
-use Rattle.dav_write.proofs.PathLemmas.{on_ok_then}
-use Rattle.dav_write.proofs.ElementLemmas.{then_more, written_element-empty, written_element-filled, nothing_written, something_written, items_more}
+use Rattle.dav_write.proofs.ElementLemmas.{written_element-empty, written_element-filled, nothing_written, something_written, items_more}
 use Rattle.dav_write.proofs.elements.+elements.Goals as goal
 
 pub push_element-returns-then-not-has_content : goal.push_element-returns-then-not-has_content

@@ -1,6 +1,7 @@
 use Rattle.std.proofs.Common.{◌++◌, codes, sym, ap, ◌∙◌}
 use Rattle.cal_model.specs.Replies.Hrefs.{href}
-use Rattle.dav_write.proofs.PathLemmas.{step, on_ok_then}
+use Rattle.dav_write.proofs.Appending.{on_ok_then}
+use Rattle.dav_write.proofs.PathLemmas.{step}
 use Rattle.dav_write.proofs.paths.push_path.Goals as goal
 
 pub returns-in-Principal-clause-text : goal.returns-in-Principal-clause-text

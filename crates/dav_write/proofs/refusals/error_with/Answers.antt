@@ -1,6 +1,7 @@
 use Rattle.std.proofs.Common.{◌++◌, codes, [], sym, ap, ◌∙◌}
+use Rattle.dav_write.proofs.Appending.{then_more}
 use Rattle.dav_write.specs.ErrorTexts.{error_front}
-use Rattle.dav_write.proofs.ErrorLemmas.{then_more, error-empty, error-filled}
+use Rattle.dav_write.proofs.ErrorLemmas.{error-empty, error-filled}
 use Rattle.dav_write.proofs.refusals.error_with.Goals as goal
 use Rattle.dav_write.proofs.refusals.error_with.Goals.{then-is_empty+in_ok-extend_from_slice, else-is_empty+in_ok-push+in_ok-extend_from_slice-2+in_ok-extend_from_slice-3}
 

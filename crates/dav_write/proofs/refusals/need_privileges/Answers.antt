@@ -1,8 +1,9 @@
 use Rattle.std.proofs.Common.{◌++◌, codes, ap, ◌∙◌}
 use Rattle.cal_model.specs.Replies.Hrefs.{href}
 use Rattle.cal_model.specs.Refusals.RefusalReplies.{privileges_of}
+use Rattle.dav_write.proofs.Appending.{then_more}
 use Rattle.dav_write.specs.ErrorTexts.{need_privileges_front, need_privileges_end}
-use Rattle.dav_write.proofs.ErrorLemmas.{then_more, need_privileges-pieces}
+use Rattle.dav_write.proofs.ErrorLemmas.{need_privileges-pieces}
 use Rattle.dav_write.proofs.refusals.need_privileges.Goals as goal
 
 pub returns-clause-items : goal.returns-clause-items

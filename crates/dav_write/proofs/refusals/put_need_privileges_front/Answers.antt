@@ -1,7 +1,7 @@
 use Rattle.std.proofs.Common.{codes}
 use Rattle.cal_base.specs.Xml.CanonicalXml.{attribute_text}
+use Rattle.dav_write.proofs.Appending.{then_more}
 use Rattle.dav_write.specs.ErrorTexts.{error_front, need_privileges_front}
-use Rattle.dav_write.proofs.ErrorLemmas.{then_more}
 use Rattle.dav_write.proofs.refusals.put_need_privileges_front.Goals as goal
 
 pub returns-clause-items : goal.returns-clause-items

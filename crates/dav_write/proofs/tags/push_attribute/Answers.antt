@@ -1,6 +1,6 @@
 use Rattle.std.proofs.Common.{◌++◌, sym, ap, ◌∙◌}
 use Rattle.cal_base.specs.Xml.CanonicalXml.{known_prefix}
-use Rattle.dav_write.proofs.PathLemmas.{on_ok_then}
+use Rattle.dav_write.proofs.Appending.{on_ok_then}
 use Rattle.dav_write.proofs.ElementLemmas.{written_attribute-known, written_attribute-other}
 use Rattle.dav_write.proofs.tags.push_attribute.Goals as goal
 

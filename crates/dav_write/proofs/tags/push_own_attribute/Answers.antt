@@ -1,7 +1,6 @@
 use Rattle.std.proofs.Common.{◌++◌, codes, ap, ◌∙◌}
+use Rattle.dav_write.proofs.Appending.{then_more, on_ok_then}
 use Rattle.dav_write.specs.ElementTexts.{value_text, own_prefix}
-use Rattle.dav_write.proofs.PathLemmas.{on_ok_then}
-use Rattle.dav_write.proofs.ElementLemmas.{then_more}
 use Rattle.dav_write.proofs.tags.push_own_attribute.Goals as goal
 
 pub returns : goal.returns

@@ -1,5 +1,5 @@
 use Rattle.std.proofs.Common.{◌++◌, sym, ap, ◌∙◌, append-nil}
-use Rattle.dav_write.proofs.PathLemmas.{on_ok_then}
+use Rattle.dav_write.proofs.Appending.{on_ok_then}
 use Rattle.dav_write.proofs.ElementLemmas.{own_declaration-known, own_declaration-other}
 use Rattle.dav_write.proofs.tags.push_own_declaration.Goals as goal
 
