@@ -2,7 +2,7 @@
 """Times the programs over generated input, and prints the figures. It needs Python 3, and Debian's package `time` for the memory.
 
 Build the programs once before: `rt run` in crates/caldav_server and in each crate whose name ends in _bench.
-Words name the parts that are to run (scripts, lines, values, rules, bodies, busy, index, turns); without a word all do.
+Words name the parts that are to run (scripts, lines, values, rules, bodies, wire, busy, index, turns); without a word all do.
 """
 import os, re, resource, subprocess, sys, tempfile, time
 
@@ -15,6 +15,7 @@ TURNS = os.path.join(TOP, "crates/turns_bench/out/turns_bench")
 BODIES = os.path.join(TOP, "crates/xml_bench/out/xml_bench")
 VALUES = os.path.join(TOP, "crates/values_bench/out/values_bench")
 RULES = os.path.join(TOP, "crates/rules_bench/out/rules_bench")
+WIRE = os.path.join(TOP, "crates/wire_bench/out/wire_bench")
 USERS = b"user alice ba7816bf8f01cfea414140de5dae2223b00361a396177a9cb410ff61f20015ad\n"
 
 
@@ -221,9 +222,30 @@ def busy():
         print(f"{f'{count} times that all overlap':34} {seconds:8.4f} {seconds / count * 1e6:8.3f} {most:6.1f}  {answer}")
 
 
+def wire():
+    print(f"{'stream':34} {'piece':>8} {'octets':>9} {'seconds':>8} {'ns/octet':>9} {'MiB':>6}  answer")
+    chunked = b"PUT /a HTTP/1.1\r\nTransfer-Encoding: chunked\r\n\r\n"
+    head = b"GET / HTTP/1.1\r\nX: "
+    streams = {
+        "a head": head + b"a" * (16380 - len(head)) + b"\r\n\r\n",
+        "a body in one chunk": chunked + b"100000\r\n" + b"x" * 1048576 + b"\r\n0\r\n\r\n",
+        "a body in chunks of 4,096": chunked + (b"1000\r\n" + b"x" * 4096 + b"\r\n") * 256 + b"0\r\n\r\n",
+        "a body in chunks of 16": chunked + (b"10\r\n" + b"x" * 16 + b"\r\n") * 65536 + b"0\r\n\r\n",
+        "a body in chunks of 1": chunked + b"1\r\nx\r\n" * 1048576 + b"0\r\n\r\n",
+        "1,000 requests": (b"PUT /a HTTP/1.1\r\nContent-Length: 1000\r\n\r\n" + b"y" * 1000) * 1000,
+    }
+    for name, stream in streams.items():
+        for size in (1, 1000, len(stream)):
+            runs = [processor_run(WIRE, [str(size)], stream) for _ in range(3)]
+            best = min(taken for taken, _, _ in runs)
+            memory = max(most for _, most, _ in runs)
+            answer = runs[0][2].decode().strip()
+            print(f"{name:34} {size:8d} {len(stream):9d} {best:8.3f} {best / len(stream) * 1e9:9.1f} {memory:6.1f}  {answer}")
+
+
 PARTS = {
     "scripts": (scripts, SERVER), "lines": (lines, LINES), "values": (values, VALUES), "rules": (rules, RULES),
-    "bodies": (bodies, BODIES), "busy": (busy, BUSY), "index": (index, INDEX), "turns": (turns, TURNS),
+    "bodies": (bodies, BODIES), "wire": (wire, WIRE), "busy": (busy, BUSY), "index": (index, INDEX), "turns": (turns, TURNS),
 }
 chosen = sys.argv[1:] or list(PARTS)
 for name in chosen:
