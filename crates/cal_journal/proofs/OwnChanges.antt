@@ -1,14 +1,10 @@
 -- The request that an entry names asks for the entry's change, where it is accepted and names tell the users apart.
-use Rattle.std.proofs.Common.{◌≡◌, ℕ, ◌<◌, ◌≤◌, Bool, true, false, List, [], length, Option, Some, None, refl, sym, ap, ◌∙◌, subst, arith, inl, inr}
-use Rattle.std.specs.Prelude.{ℤ, option_and_then, slice_get, unwrap_or}
+use Rattle.std.proofs.Common.{◌≡◌, ℕ, Bool, true, false, [], length, Option, Some, None, refl, sym, ap, ◌∙◌, subst, inl, inr}
+use Rattle.std.specs.Prelude.{option_and_then, unwrap_or}
 use Rattle.std.proofs.lemmas.Bool.{cases_lt, false≢true}
 use Rattle.std.proofs.lemmas.Option.{slice_get_past}
-use Rattle.cal_model.specs.declared.path.Path.{Path}
-use Rattle.cal_model.specs.declared.path.Path.TheVariants as path
-use Rattle.cal_model.specs.declared.request.Content.{Content}
 use Rattle.cal_model.specs.declared.request.Content.TheVariants as content
 use Rattle.cal_model.specs.declared.request.Event.{Event}
-use Rattle.cal_model.specs.declared.request.Method.{Method}
 use Rattle.cal_model.specs.declared.request.Method.TheVariants as method
 use Rattle.cal_model.specs.Objects.ObjectReading.{first_there}
 use Rattle.cal_model.specs.Sight.Views.{whole_sight}
@@ -19,7 +15,7 @@ use Rattle.cal_model.specs.Serving.Outcomes.{Outcome, accepted, unchanged, outco
 use Rattle.cal_model.specs.Serving.EventReplies.{state_after}
 use Rattle.cal_model.specs.History.Journal.{Entry, asked, request_for, IsAcceptedAt}
 use Rattle.cal_model.proofs.History.ReplayLaws.{accepted-rows}
-use Rattle.cal_model.proofs.History.JournalLaws.{outcome-effect, state_after-accepted}
+use Rattle.cal_model.proofs.History.JournalLaws.{outcome-effect}
 
 abbrev is_made : Outcome → Bool
 is_made (accepted status state) = true

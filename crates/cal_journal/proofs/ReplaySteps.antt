@@ -1,5 +1,5 @@
 -- A journal entry by entry: what a further one does to the state and to the origins.
-use Rattle.std.proofs.Common.{◌≡◌, ℕ, zero, suc, ◌+◌, ◌<◌, List, [], ◌∷◌, ◌++◌, length, take, get_or, map, Option, Some, refl, sym, ap, ◌∙◌, subst, arith, add-one, length-take-le}
+use Rattle.std.proofs.Common.{◌≡◌, ℕ, zero, suc, ◌+◌, ◌<◌, List, [], ◌∷◌, ◌++◌, length, take, get_or, map, refl, sym, ap, ◌∙◌, subst, arith, length-take-le}
 use Rattle.std.proofs.lemmas.List.{length-map, take_more}
 use Rattle.cal_model.specs.State.ServerState.{Directory, ServerState, opening_state}
 use Rattle.cal_model.specs.State.UserNames.{AreToldApart}

@@ -1,11 +1,11 @@
 -- Who sent a request, from the answers of `find` and `admits`.
-use Rattle.std.proofs.Common.{◌≡◌, ℕ, Bool, true, false, List, Option, Some, None, refl, sym, ap, ◌∙◌}
+use Rattle.std.proofs.Common.{◌≡◌, ℕ, Bool, List, Option, Some, None, sym, ap, ◌∙◌}
 use Rattle.std.specs.Prelude.{bytes_eq, slice_get, option_and_then, if◌then◌else◌}
 use Rattle.std.specs.Option.{option_map}
 use Rattle.hex.specs.Hex.{encode_lower}
 use Rattle.sha2.specs.Sha256.{sha256}
 use Rattle.cal_model.specs.Users.UsersFile.{User, number_of}
-use Rattle.cal_model.specs.Users.Credentials.{Credentials, admitted_as, admitted_by, user_of_credentials, has_digest}
+use Rattle.cal_model.specs.Users.Credentials.{Credentials, admitted_as, admitted_by, user_of_credentials}
 
 -- nobody has the name
 pub user_of_credentials-unknown : (users : List User) (credentials : Credentials) → number_of users credentials.name ≡ None → user_of_credentials users credentials ≡ None

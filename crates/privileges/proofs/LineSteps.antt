@@ -1,5 +1,5 @@
 -- One line of a users file, and the lines behind it.
-use Rattle.std.proofs.Common.{◌≡◌, ℕ, ◌+◌, ◌<◌, List, [], ◌∷◌, length, Result, Ok, Err, refl, sym, ap, ◌∙◌, arith}
+use Rattle.std.proofs.Common.{◌≡◌, ℕ, ◌+◌, ◌<◌, List, [], ◌∷◌, length, Result, Ok, Err, refl, ap, ◌∙◌, arith}
 use Rattle.cal_base.specs.Lines.ContentLines.{pieces}
 use Rattle.cal_base.specs.Texts.Octets.{line_feed}
 use Rattle.cal_model.specs.Users.UsersFile.{User}

@@ -2,18 +2,18 @@
 use Rattle.std.proofs.Common.{◌≡◌, ℕ, zero, suc, ◌+◌, ◌-◌, ◌<◌, ◌≤◌, Bool, true, false, not, ◌&&◌, ◌||◌, cond, nat_lt, List, [], ◌∷◌, ◌++◌, length, drop, map, Option, Some, None, Result, Ok, Err, refl, sym, ap, ◌∙◌, arith, inl, inr, append_assoc, append-nil}
 use Rattle.std.specs.Prelude.{filter, is_some, is_none, bytes_eq, if◌then◌else◌}
 use Rattle.std.specs.Option.{option_map}
-use Rattle.std.specs.List.{AllByRecursion, filter_map, cons_option, position}
+use Rattle.std.specs.List.{AllByRecursion, filter_map, cons_option}
 use Rattle.std.proofs.lemmas.Bool.{cases_lt, lt-ltb, le-ltb, cases_Bool}
 use Rattle.std.proofs.lemmas.Bool.Decides.{same_from_decides}
 use Rattle.std.proofs.lemmas.List.{length_push}
 use Rattle.std.proofs.lemmas.Slice.Eq.{bytes_eq-Decides}
-use Rattle.cal_base.specs.Lines.ContentLines.{pieces, lesser, least}
+use Rattle.cal_base.specs.Lines.ContentLines.{pieces, least}
 use Rattle.cal_base.specs.Texts.Octets.{line_feed}
 use Rattle.cal_model.specs.Words.Lists.{is_empty}
 use Rattle.cal_model.specs.Users.UsersFile.{User, number_of, user_limit, user_of_line, is_silent, is_bad_line, Placed, placed_from, placed_lines, unended, without_last, last_of, placed_user, placed_users, places, repeated, users_fault, users_of}
-use Rattle.privileges.specs.LineReading.{is_welcome, with_user, after_line, read_line, read_on}
-use Rattle.privileges.proofs.Places.{or_last, position-push}
-use Rattle.privileges.proofs.FirstFaults.{joined, lesser-joined, joined-assoc, least-append, least-either, AtLeast, lesser-own, AtLeast-joined, joined-left, joined-right, least-past}
+use Rattle.privileges.specs.LineReading.{with_user, after_line, read_on}
+use Rattle.privileges.proofs.Places.{position-push}
+use Rattle.privileges.proofs.FirstFaults.{joined, joined-assoc, least-append, least-either, AtLeast, lesser-own, AtLeast-joined, joined-left, joined-right, least-past}
 
 -- The faults of the lines from a place on
 

@@ -1,12 +1,12 @@
 -- Lines that name no user, of three words that are not right, and of more.
-use Rattle.std.proofs.Common.{◌≡◌, ℕ, ◌<◌, Bool, true, false, not, ◌&&◌, cond, ◌==◌, List, [], ◌∷◌, length, Option, Some, None, refl, sym, ap, ◌∙◌, arith}
+use Rattle.std.proofs.Common.{◌≡◌, ℕ, ◌<◌, Bool, true, false, not, ◌&&◌, ◌==◌, List, [], ◌∷◌, length, Option, Some, None, refl, sym, ap, ◌∙◌, arith}
 use Rattle.std.specs.Prelude.{bytes_eq, codes, is_some, if◌then◌else◌}
 use Rattle.std.specs.Borrow.{Bor}
 use Rattle.std.specs.Option.{option_map}
 use Rattle.std.proofs.lemmas.Bool.{false≢true, cond_both}
 use Rattle.cal_base.specs.Lines.ContentLines.{pieces, onto_first}
 use Rattle.cal_base.specs.Texts.Octets.{space}
-use Rattle.cal_model.specs.Users.UsersFile.{User, user_of_words, user_of_line, is_user_name, is_digest}
+use Rattle.cal_model.specs.Users.UsersFile.{user_of_words, user_of_line, is_user_name, is_digest}
 use Rattle.privileges.specs.LineCuts.{both_texts, behind_cut}
 
 onto_first-some : (octet : ℕ) (them : List (List ℕ)) → 0 < length (onto_first octet them)

@@ -1,6 +1,4 @@
-//! Tests of the server's layer: `cal_model`'s calls, `dav_write`, `first_path`, `cal_book` and
-//! `cal_script`.
-//! Tests of the server's layer: `cal_model`'s calls, `http_wire`, `first_path`,
+//! Tests of the server's layer: `cal_model`'s calls, `privileges`, `cal_journal`, `first_path`,
 //! `cal_book` and `cal_script`.
 //!
 //! Given: the public calls of those crates. Gives: nothing; no crate stands on this one, so a test
@@ -12,14 +10,12 @@
 #[cfg(test)]
 mod book;
 #[cfg(test)]
-mod paths;
+mod journals;
 #[cfg(test)]
 mod requests;
 #[cfg(test)]
 mod script;
 #[cfg(test)]
-mod streams_read;
-#[cfg(test)]
 mod tags;
 #[cfg(test)]
-mod written_bodies;
+mod users;

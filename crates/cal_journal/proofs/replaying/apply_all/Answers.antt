@@ -1,4 +1,4 @@
-use Rattle.std.proofs.Common.{◌≡◌, ◌∙◌, ℕ, ◌+◌, refl, sym, ap, subst, arith, length, map, take}
+use Rattle.std.proofs.Common.{◌≡◌, ◌∙◌, ◌+◌, refl, sym, ap, subst, arith, map, take}
 use Rattle.std.proofs.lemmas.List.{take_all, length-map}
 use Rattle.cal_model.specs.State.ServerState.{ServerState}
 use Rattle.cal_model.specs.History.Journal.{replay}

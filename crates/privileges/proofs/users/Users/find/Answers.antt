@@ -1,4 +1,4 @@
-use Rattle.std.proofs.Common.{◌∙◌, sym, ap}
+use Rattle.std.proofs.Common.{◌∙◌, ap}
 use Rattle.cal_model.specs.State.ServerState.{directory_of, user_number}
 use Rattle.privileges.specs.ShownUsers.{shown_users}
 use Rattle.privileges.proofs.UserNumbers.{number_of-directory}
