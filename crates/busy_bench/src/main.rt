@@ -10,22 +10,26 @@ use freebusy::{BusyRow, busy_runs};
 use std::alloc::Global;
 use std::env;
 
-/// Longer than there can be times.
-const SECONDS: i64 = 5_000_000_000;
+/// A prime: below it the starts lie, in no order.
+const STARTS: i64 = 1_000_003;
 
-/// So many times of one length, each a second after the one before it. The classes take turns.
+/// Longer than the starts lie apart.
+const SECONDS: i64 = 2_000_000;
+
+/// So many times of one length that all overlap. The classes take turns.
 fn overlapping(alloc: Global, number: u32) -> Result<List<BusyRow>, NoMemory> {
     let mut rows = List::new(alloc);
-    for start in 0..number {
-        let class = match start % 3 {
+    for place in 0..number {
+        let class = match place % 3 {
             0 => Class::Tentative,
             1 => Class::Unavailable,
             _ => Class::Busy,
         };
+        let start = i64::from(place) * 48_271 % STARTS;
         rows.push(BusyRow {
             class,
-            start: start as i64,
-            end: start as i64 + SECONDS,
+            start,
+            end: start + SECONDS,
         })?;
     }
     Ok(rows)
