@@ -1,5 +1,5 @@
 -- The first start of a local day stands first among those of its day, where starts are sorted by day and those of one day stand as they stood.
-use Rattle.std.proofs.Common.{◌≡◌, ℕ, zero, suc, ◌+◌, ◌<◌, ◌≤◌, List, [], ◌∷◌, ◌++◌, length, map, get_or, refl, sym, ap, ◌∙◌, arith, Bool, true, false, ℤ, pos, ◌<ℤ◌, ◌≤ℤ◌, inl, inr, Less, Equal, Greater, nat_lt}
+use Rattle.std.proofs.Common.{◌≡◌, ℕ, zero, suc, ◌<◌, ◌≤◌, List, [], ◌∷◌, length, map, get_or, refl, sym, ap, ◌∙◌, arith, Bool, true, false, ℤ, pos, ◌<ℤ◌, ◌≤ℤ◌, inl, inr, Less, Equal, Greater, nat_lt}
 use Rattle.std.specs.Prelude.{All, AllPairs, filter, int_lt}
 use Rattle.std.specs.Cmp.{int_cmp_total}
 use Rattle.std.specs.Ordering.{int_cmp, is_lt}

@@ -1,6 +1,6 @@
 -- The rows of overrides beside starts by their days are those of the definition, and so are the rows that no name in order names.
 use Rattle.std.proofs.Common.{◌≡◌, ℕ, suc, ◌+◌, List, [], ◌∷◌, ◌++◌, length, map, refl, sym, ap, ◌∙◌, Bool, true, false, ℤ, inl, inr}
-use Rattle.std.specs.Prelude.{filter, flat_map, not, option_to_list, Option, Some, None, if◌then◌else◌}
+use Rattle.std.specs.Prelude.{filter, flat_map, not, option_to_list, Option, Some, None}
 use Rattle.std.proofs.lemmas.Bool.{cases_Bool}
 use Rattle.std.proofs.lemmas.List.{append_assoc, append-nil}
 use Rattle.std.proofs.lemmas.List.Elements.{filter-append}
@@ -13,8 +13,8 @@ use Rattle.cal_model.specs.declared.zone.ZoneTable.{ZoneTable}
 use Rattle.cal_model.specs.Words.Integers.{same_int}
 use Rattle.cal_model.specs.Words.Lists.{first_or_else}
 use Rattle.cal_model.specs.Recurrence.RecurrenceSet.{Reading}
-use Rattle.cal_model.specs.Instances.Alignment.{Aligned, at, on_day, align, reading_of, value_of, kind_of, names_start, midnight_of}
-use Rattle.cal_model.specs.Instances.Rows.{Numbered, numbered_from, has_id, overrides, own_start, end_from, row_of, id_of_override, override_row, is_named, ids_start, merged, merged_with}
+use Rattle.cal_model.specs.Instances.Alignment.{Aligned, at, on_day, align, reading_of, value_of, kind_of, midnight_of}
+use Rattle.cal_model.specs.Instances.Rows.{numbered_from, has_id, overrides, own_start, end_from, row_of, id_of_override, override_row, is_named, ids_start, merged, merged_with}
 use Rattle.override_merge.specs.declared.names.Names.{Names}
 use Rattle.override_merge.specs.declared.rows.Part.{Part}
 use Rattle.override_merge.specs.declared.rows.Part.TheVariants as part

@@ -1,10 +1,10 @@
 -- Names in order: a binary search in a rising list decides whether it has a number, and a start is named where its value or its day is there.
-use Rattle.std.proofs.Common.{◌≡◌, ℕ, zero, suc, ◌+◌, ◌<◌, ◌≤◌, List, [], ◌∷◌, length, get_or, refl, sym, ap, ◌∙◌, arith, Bool, true, false, ℤ, ◌<ℤ◌, ◌⊎◌, inl, inr, Less, Equal, Greater, Ordering, nat_lt, Result, Ok, Err}
-use Rattle.std.specs.Prelude.{AllPairs, All, Contains, is_ok, ◌||◌, ◌++◌, filter, map, option_to_list, Option, Some, None}
+use Rattle.std.proofs.Common.{◌≡◌, ℕ, ◌+◌, ◌≤◌, List, [], ◌∷◌, length, get_or, refl, sym, ap, ◌∙◌, arith, Bool, true, false, ℤ, ◌<ℤ◌, inl, inr, Less, Equal, Greater, nat_lt, Result, Ok, Err}
+use Rattle.std.specs.Prelude.{AllPairs, Contains, is_ok, ◌||◌, ◌++◌, filter, Option, Some, None}
 use Rattle.std.specs.Ordering.{int_cmp, ordering_index}
-use Rattle.std.specs.List.{list_any, HoldsAt}
+use Rattle.std.specs.List.{list_any}
 use Rattle.std.specs.List.Sorted.{IsSearchInRange, IsBinarySearchResult, IsPartitionPoint, IsNonDecreasingBy}
-use Rattle.std.proofs.lemmas.Int.{ints, by_lt_z}
+use Rattle.std.proofs.lemmas.Int.{ints}
 use Rattle.std.proofs.lemmas.List.{append_assoc}
 use Rattle.std.proofs.lemmas.Bool.{cases_Bool, ltb-true, ltb-false}
 use Rattle.cal_model.specs.Words.Integers.{same_int}
@@ -12,7 +12,7 @@ use Rattle.cal_model.proofs.Words.IntegerLemmas.{same_int-self, same_int-true}
 use Rattle.cal_model.specs.Recurrence.RecurrenceSet.{Reading}
 use Rattle.cal_model.specs.Instances.Alignment.{Aligned, at, on_day, align, names_start, midnight_of, reading_of}
 use Rattle.cal_model.specs.Instances.Starts.{ascending}
-use Rattle.cal_model.specs.Instances.Rows.{Numbered, numbered_from, has_id, named_by, is_named}
+use Rattle.cal_model.specs.Instances.Rows.{numbered_from, has_id, named_by, is_named}
 use Rattle.cal_model.specs.declared.object.Component.{Component}
 use Rattle.cal_model.specs.declared.object.Object.{Object}
 use Rattle.cal_model.specs.declared.zone.ZoneTable.{ZoneTable}

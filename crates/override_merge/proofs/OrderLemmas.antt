@@ -1,18 +1,18 @@
 -- Rows that are sorted by id, then component, those that agree in both as they stood, are in order.
-use Rattle.std.proofs.Common.{◌≡◌, ℕ, zero, suc, ◌+◌, ◌<◌, ◌≤◌, List, [], ◌∷◌, length, get_or, refl, sym, ap, ◌∙◌, arith, Bool, true, false, ℤ, ◌<ℤ◌, ◌⊎◌, inl, inr, Less, Equal, Greater, nat_lt, subst}
-use Rattle.std.specs.Prelude.{All, AllPairs, Contains, filter, nat_le, ◌==◌, ◌&&◌, int_lt, if◌then◌else◌}
+use Rattle.std.proofs.Common.{◌≡◌, ℕ, suc, ◌+◌, ◌<◌, ◌≤◌, List, [], ◌∷◌, length, get_or, refl, sym, ap, ◌∙◌, arith, Bool, true, false, ◌⊎◌, inl, inr, Less, Equal, Greater, nat_lt}
+use Rattle.std.specs.Prelude.{AllPairs, Contains, filter, nat_le, ◌==◌, ◌&&◌, int_lt, if◌then◌else◌}
 use Rattle.std.specs.Ordering.{int_cmp, nat_cmp, is_lt, ordering_then}
 use Rattle.std.specs.List.Sorted.{ties}
 use Rattle.std.proofs.lemmas.Int.{ints, by_lt_z}
 use Rattle.std.proofs.lemmas.Bool.{cases_Bool, ltb-true, ltb-false}
-use Rattle.std.proofs.lemmas.List.Elements.{All-head, All-tail, All-nil, All-cons, All-weaker, All-contains}
+use Rattle.std.proofs.lemmas.List.Elements.{All-nil, All-cons, All-weaker, All-contains}
 use Rattle.std.proofs.lemmas.List.Kept.{AllPairs-cons}
 use Rattle.cal_model.specs.declared.row.Row.{Row}
 use Rattle.cal_model.specs.Words.Integers.{same_int}
 use Rattle.cal_model.specs.Instances.Rows.{comes_before, put_row, in_order}
 use Rattle.cal_model.proofs.Words.IntegerLemmas.{same_int-self, same_int-true}
 use Rattle.cal_model.proofs.Instances.EachRowLemmas.{All-put_row}
-use Rattle.cal_model.proofs.Instances.RisingLists.{IsBefore, by_id, by_component, AllPairs-head, AllPairs-tail, Contains-split, Contains-here, Contains-there}
+use Rattle.cal_model.proofs.Instances.RisingLists.{IsBefore, by_id, by_component, AllPairs-head, AllPairs-tail, Contains-split, Contains-here}
 use Rattle.cal_model.proofs.Ranges.WindowLaws.{Contains-unfilter}
 
 -- Keys.

@@ -1,13 +1,12 @@
 -- Each object that was read has what a merge asks for: zones with short offsets, served stamps in zones that are there, and lengths of days and seconds that are short by themselves, since both bear one sign (RFC 5545, 3.3.6).
-use Rattle.std.proofs.Common.{◌≡◌, ℕ, ◌+◌, ◌*◌, ◌<◌, ◌≤◌, ◌^◌, List, [], ◌∷◌, ◌++◌, length, map, refl, sym, ap, ◌∙◌, subst, arith, Bool, true, false, ℤ, pos, neg_ℤ, ◌≤ℤ◌, suc}
-use Rattle.std.specs.Prelude.{All, nat_le, filter_map, flat_map, option_to_list, Option, Some, None, nat_abs}
+use Rattle.std.proofs.Common.{◌≡◌, ℕ, ◌*◌, ◌<◌, ◌≤◌, ◌^◌, List, [], ◌∷◌, ◌++◌, length, refl, sym, ap, subst, arith, Bool, true, false, pos, ◌≤ℤ◌, suc}
+use Rattle.std.specs.Prelude.{All, filter_map, flat_map, option_to_list, Option, Some, nat_abs}
 use Rattle.std.specs.List.{AllByRecursion as Each}
 use Rattle.std.specs.Prelude.{codes}
 use Rattle.std.proofs.lemmas.Int.{ints}
 use Rattle.std.proofs.lemmas.List.Elements.{All-weaker, All-from_recursion, All-head, All-tail, All-nil, All-cons}
 use Rattle.cal_base.specs.Lines.ContentLines.{placed_lines}
 use Rattle.cal_base.specs.declared.line.Line.{Line}
-use Rattle.cal_moment.specs.LengthTexts.{SpellsLength}
 use Rattle.cal_moment.specs.Texts.{signed}
 use Rattle.cal_moment.specs.declared.stamp.Length.{Length}
 use Rattle.cal_moment.specs.declared.stamp.Period.{Period}
@@ -19,18 +18,14 @@ use Rattle.cal_model.specs.declared.object.Extent.{Extent}
 use Rattle.cal_model.specs.declared.object.Extent.TheVariants as extent
 use Rattle.cal_model.specs.declared.object.Object.{Object}
 use Rattle.cal_model.specs.declared.zone.ZoneTable.{ZoneTable}
-use Rattle.cal_model.specs.Words.Limits.{first_date, last_date}
-use Rattle.cal_model.specs.Values.StampTexts.{is_known}
 use Rattle.cal_model.specs.Values.ValueTexts.{length_of}
 use Rattle.cal_model.specs.Ranges.Overlap.{seconds_of}
 use Rattle.cal_model.specs.Recurrence.RecurrenceSet.{every_moment}
 use Rattle.cal_model.specs.TimeZones.TableBounds.{IsTable}
-use Rattle.cal_model.specs.Objects.ComponentLines.{children_of, lines_of, one_of}
-use Rattle.cal_model.specs.Objects.ComponentReading.{component_of, extent_of}
-use Rattle.cal_model.specs.Objects.LineValues.{value_at}
+use Rattle.cal_model.specs.Objects.ComponentLines.{lines_of, one_of}
 use Rattle.cal_model.specs.Objects.ZoneReading.{zone_names, zones_of}
-use Rattle.cal_model.specs.Objects.ObjectFaults.{Child, children_in, kinds_among, component_of_child, object_of, stamps_of_period}
-use Rattle.cal_model.specs.Objects.ObjectFacts.{IsRead, IsReadObject, IsReadComponent, IsZone, IsKnown, IsServed, IsShort, lengths_of_extent, stamps_of_extent, component_stamps}
+use Rattle.cal_model.specs.Objects.ObjectFaults.{Child, children_in, kinds_among, component_of_child, stamps_of_period}
+use Rattle.cal_model.specs.Objects.ObjectFacts.{IsRead, IsReadComponent, IsZone, IsKnown, IsServed, IsShort, lengths_of_extent, stamps_of_extent, component_stamps}
 use Rattle.cal_model.proofs.Objects.ComponentStamps.{is_made}
 use Rattle.cal_model.proofs.Objects.ObjectFactLaws.{IsReadObject-read}
 use Rattle.cal_model.proofs.Objects.ReadingSteps.{read_from}
@@ -39,7 +34,7 @@ use Rattle.cal_model.proofs.Objects.ShortLengths.{extent_lengths}
 use Rattle.cal_model.proofs.TimeZones.ZoneTableLaws.{IsTable-table_of}
 use Rattle.cal_model.proofs.Values.LengthLaws.{SpellsLength-length_of}
 use Rattle.cal_model.proofs.Words.EachLemmas.{each-filter_map}
-use Rattle.override_merge.specs.Conversions.{IsRowTime, HasZone, IsConvertible, IsShortLength, IsConvertibleExtent, HasConvertibleRow, HasConvertibleRows}
+use Rattle.override_merge.specs.Conversions.{HasZone, IsConvertible, IsShortLength, IsConvertibleExtent, HasConvertibleRow, HasConvertibleRows}
 
 -- Lengths.
 

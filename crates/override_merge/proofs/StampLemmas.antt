@@ -1,19 +1,17 @@
 -- The stamps of an object that was read can be converted: those from which its components start, and that beside which its ids are aligned.
-use Rattle.std.proofs.Common.{◌≡◌, ℕ, ◌+◌, List, [], ◌∷◌, ◌++◌, refl, sym, ap, ◌∙◌, Bool, true, false, inl, inr}
-use Rattle.std.specs.Prelude.{All, filter, filter_map, flat_map, not, option_to_list, is_some, if◌then◌else◌, Option, Some, None}
-use Rattle.std.proofs.lemmas.Bool.{cases_Bool}
-use Rattle.std.proofs.lemmas.List.{append_assoc}
+use Rattle.std.proofs.Common.{◌≡◌, ℕ, ◌+◌, List, [], ◌∷◌, ◌++◌, refl, sym, ap, ◌∙◌, Bool, true, false}
+use Rattle.std.specs.Prelude.{All, filter, filter_map, not, option_to_list, is_some, if◌then◌else◌, Option, Some, None}
 use Rattle.std.proofs.lemmas.List.Elements.{All-head, All-tail, All-nil, All-cons, All-append}
 use Rattle.cal_moment.specs.declared.stamp.Stamp.{Stamp}
 use Rattle.cal_model.specs.declared.object.Component.{Component}
 use Rattle.cal_model.specs.declared.object.Extent.{Extent}
 use Rattle.cal_model.specs.declared.object.Extent.TheVariants as extent
 use Rattle.cal_model.specs.declared.object.Kind.{Kind}
-use Rattle.cal_model.specs.declared.object.Kind.TheVariants.{Event, Todo, Journal, FreeBusy}
+use Rattle.cal_model.specs.declared.object.Kind.TheVariants.{Todo, FreeBusy}
 use Rattle.cal_model.specs.declared.object.Object.{Object}
 use Rattle.cal_model.specs.Instances.Starts.{own_start_of}
 use Rattle.cal_model.specs.Instances.Rows.{Numbered, numbered_from, has_id, master_stamp, first_of, ids_start, own_start, start_or_due}
-use Rattle.override_merge.specs.Conversions.{IsConvertible, IsConvertibleExtent, HasConvertibleRow, HasConvertibleRows}
+use Rattle.override_merge.specs.Conversions.{IsConvertible, IsConvertibleExtent, HasConvertibleRow}
 use Rattle.override_merge.specs.IdStarts.{master_stamps_of, master_stamps, id_stamps}
 
 due_convertible : (zones : ℕ) (kind : Kind) (start : Option Stamp) (said : Extent) → All (IsConvertible zones) (option_to_list start) → IsConvertibleExtent zones said → All (IsConvertible zones) (option_to_list (start_or_due kind start said))

@@ -1,13 +1,9 @@
 -- The zones at hand: their offsets are short, and one more at the end of a list of them.
-use Rattle.std.proofs.Common.{◌≡◌, List, [], ◌∷◌, ◌++◌, map, refl, sym, ap, ◌∙◌, arith, ℤ, pos, ◌+ℤ◌, ◌-ℤ◌}
-use Rattle.std.specs.Prelude.{All}
+use Rattle.std.proofs.Common.{◌≡◌, List, [], ◌∷◌, ◌++◌, refl, ap, arith, ℤ, pos, ◌+ℤ◌, ◌-ℤ◌}
 use Rattle.std.proofs.lemmas.Int.{ints}
-use Rattle.std.proofs.lemmas.List.{append_assoc}
-use Rattle.std.proofs.lemmas.List.Elements.{All-map}
 use Rattle.cal_moment.specs.Calendar.{IsBetween}
 use Rattle.cal_model.specs.declared.local_times.LocalTimes.{LocalTimes}
 use Rattle.cal_model.specs.declared.zone.ZoneTable.{ZoneTable}
-use Rattle.cal_model.specs.Ranges.Nearness.{IsNear, HasShortOffsets}
 use Rattle.cal_model.specs.TimeZones.Zones.{local_at, instant_of}
 use Rattle.cal_model.proofs.TimeZones.NearTimes.{HasShortOffsets-table, instant_of-near, local_at-near}
 use Rattle.override_merge.specs.Conversions.{tables_of}

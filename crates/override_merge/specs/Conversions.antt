@@ -1,5 +1,5 @@
 -- Zones at hand for many conversions, and what can be converted in them: the stamps and lengths of a calendar object that was read.
-use Rattle.std.specs.Prelude.{◌≡◌, ℕ, ◌<◌, ◌^◌, All, List, map, length, option_to_list, ℤ, pos, neg_ℤ}
+use Rattle.std.specs.Prelude.{ℕ, ◌<◌, ◌^◌, All, List, map, length, option_to_list, ℤ, pos, neg_ℤ}
 use Rattle.cal_moment.specs.Calendar.{IsBetween}
 use Rattle.cal_moment.specs.declared.stamp.Length.{Length}
 use Rattle.cal_moment.specs.declared.stamp.Stamp.{Stamp}

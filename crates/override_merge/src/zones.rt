@@ -34,7 +34,8 @@ pub fn local_times<'a>(
 /// The local moment of some digits.
 pub fn local_of(digits: i64) -> Local
     requires { IsBetween (neg_ℤ (pos 180_000_000_000_000)) (pos 180_000_000_000_000) digits }
-    ensures { local_seconds result ≡ digits }
+    ensures value { local_seconds result ≡ digits }
+    ensures second { result.second < 86_400 }
 {
     Local {
         day: digits.div_euclid(DAY) as i32,

@@ -1,4 +1,4 @@
-use Rattle.std.proofs.Common.{◌≡◌, ◌∙◌, rules, of_calls, arith, ℤ, pos, FitsSigned, w64, to_z-of_z}
+use Rattle.std.proofs.Common.{◌∙◌, rules, of_calls, arith, ℤ, pos, FitsSigned, w64, to_z-of_z}
 use Rattle.std.specs.Prelude.{int_lt}
 use Rattle.std.proofs.lemmas.Fn.{always_returns_same}
 use Rattle.override_merge.proofs.DayLemmas.{partitioned, first_at, none_at}

@@ -1,4 +1,4 @@
-use Rattle.std.proofs.Common.{◌≡◌, ◌∙◌, rules, ℤ}
+use Rattle.std.proofs.Common.{rules, ℤ}
 use Rattle.std.proofs.lemmas.List.Sorted.{answers_always}
 use Rattle.override_merge.proofs.DayLemmas.{rises_by_day, starts_kept}
 use Rattle.override_merge.proofs.days.put_by_day.Goals as goal

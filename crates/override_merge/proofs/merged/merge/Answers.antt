@@ -2,7 +2,6 @@ use Rattle.std.proofs.Common.{◌≡◌, ◌∙◌, ap, subst, List, map}
 use Rattle.std.specs.Prelude.{IfOk, length, filter, flat_map, not}
 use Rattle.cal_model.specs.declared.row.Row.{Row}
 use Rattle.cal_model.specs.Instances.Rows.{in_order, override_row, overrides, is_named}
-use Rattle.override_merge.specs.Conversions.{tables_of}
 use Rattle.override_merge.proofs.StampLemmas.{ids_convertible}
 use Rattle.override_merge.proofs.MergeLemmas.{zones_count, merged_all, merged_with-ids}
 use Rattle.override_merge.proofs.merged.merge.Goals as goal

@@ -1,8 +1,8 @@
-use Rattle.std.proofs.Common.{◌≡◌, ◌∙◌, ◌++◌, ap, sym, subst, List}
-use Rattle.std.specs.Prelude.{filter, IfOk, AllPairs}
+use Rattle.std.proofs.Common.{◌≡◌, subst, List}
+use Rattle.std.specs.Prelude.{IfOk}
 use Rattle.cal_model.specs.declared.row.Row.{Row}
 use Rattle.cal_model.specs.Instances.Rows.{in_order}
-use Rattle.cal_model.proofs.Instances.RisingLists.{IsBelow, ascending-rising}
+use Rattle.cal_model.proofs.Instances.RisingLists.{ascending-rising}
 use Rattle.override_merge.specs.NamedStarts.{values_in, days_in, named_beside}
 use Rattle.override_merge.specs.Conversions.{tables_of}
 use Rattle.override_merge.proofs.MergeLemmas.{joined, merged_parts}

@@ -1,7 +1,6 @@
-use Rattle.std.proofs.Common.{◌≡◌, ◌+◌, ◌∙◌, ap, arith, length}
-use Rattle.std.specs.Prelude.{filter}
+use Rattle.std.proofs.Common.{◌+◌, ◌∙◌, ap, arith, length}
 use Rattle.std.proofs.lemmas.List.Elements.{All-head, All-tail}
-use Rattle.override_merge.specs.Conversions.{tables_of, HasConvertibleRow}
+use Rattle.override_merge.specs.Conversions.{HasConvertibleRow}
 use Rattle.override_merge.specs.Parts.{lies_in, own_row_by, own_rows_by}
 use Rattle.override_merge.proofs.MergeLemmas.{filter_more, zones_count}
 use Rattle.override_merge.proofs.merged.put_own_rows.Goals as goal

@@ -1,4 +1,4 @@
-use Rattle.std.proofs.Common.{◌≡◌, ◌∙◌, rules}
+use Rattle.std.proofs.Common.{◌∙◌, rules}
 use Rattle.std.proofs.lemmas.List.Sorted.{answers_always}
 use Rattle.cal_model.specs.declared.row.Row.{Row}
 use Rattle.override_merge.proofs.OrderLemmas.{sorted_in_order}

@@ -6,5 +6,5 @@ pub returns-in-Zoned-clause-near : goal.returns-in-Zoned-clause-near
 returns-in-Zoned-clause-near c =
     let digits_fit : FitsSigned w64 c.args.digits = search rules in
     let result_fits : FitsSigned w64 c.to_utc.result.0 = search (rules, c.to_utc.type_inv) in
-    let local = simp to_z-of_z at c.local_of.ensures in
+    let local = simp to_z-of_z at c.local_of.ensures.value in
     simp to_z-of_z (rw (c.to_utc.ensures.value, local) (instant_near c.index-zones-number.result c.args.digits))

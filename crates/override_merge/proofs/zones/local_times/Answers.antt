@@ -1,8 +1,5 @@
-use Rattle.std.proofs.Common.{◌≡◌, ◌∷◌, ◌++◌, ap, ◌∙◌, sym}
 use Rattle.std.proofs.lemmas.List.Elements.{All-tail}
-use Rattle.cal_model.specs.declared.zone.ZoneTable.{ZoneTable}
 use Rattle.cal_model.specs.TimeZones.TableBounds.{IsTable}
-use Rattle.override_merge.specs.Conversions.{tables_of}
 use Rattle.override_merge.proofs.ZoneLemmas.{tables_more}
 use Rattle.override_merge.proofs.zones.local_times.Goals as goal
 
