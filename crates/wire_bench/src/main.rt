@@ -10,7 +10,7 @@ ghost use Rattle.std.specs.Prelude.{◌<◌};
 use cal_base::{NoMemory, StdSource, read_up_to};
 use http_wire::{Next, Wire};
 use std::alloc::Global;
-use std::{env, io};
+use std::env;
 
 /// What was read so far.
 #[derive(Drop)]
