@@ -165,6 +165,15 @@ fn part_of(alloc: Global, part: &Part) -> Option<ZonePart>
     })
 }
 
+/// Puts a part behind others, where there is memory.
+fn put(list: &mut List<ZonePart>, part: ZonePart)
+    requires list { All IsPart list.old }
+    requires part { IsPart part }
+    ensures { All IsPart list.new }
+{
+    let _ = list.push(part);
+}
+
 /// The parts of a zone. Without memory there are fewer.
 fn parts_of(alloc: Global, parts: &[Part]) -> List<ZonePart>
     ensures { All IsPart result }
@@ -172,7 +181,7 @@ fn parts_of(alloc: Global, parts: &[Part]) -> List<ZonePart>
     let mut list = List::new(alloc);
     for part in parts {
         if let Some(part) = part_of(alloc, part) {
-            let _ = list.push(part);
+            put(&mut list, part);
         }
     }
     list
