@@ -1,6 +1,6 @@
 use Rattle.std.specs.Prelude.{All}
 use Rattle.cal_model.specs.TimeZones.TableBounds.{IsPart}
-use Rattle.calendar_tests.proofs.zone_tables.parts_of.Given as goal
+use Rattle.recurrence_tests.proofs.zone_tables.parts_of.Given as goal
 
 -- what was kept so far
 abbrev pub invariant-loop-part : goal.invariant-loop-part

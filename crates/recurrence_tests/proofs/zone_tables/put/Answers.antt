@@ -3,7 +3,7 @@ use Rattle.std.specs.Prelude.{OnOk, OnErr, Result}
 use Rattle.std.proofs.lemmas.List.Elements.{All-nil, All-cons, All-append}
 use Rattle.cal_model.specs.declared.zone.ZonePart.{ZonePart}
 use Rattle.cal_model.specs.TimeZones.TableBounds.{IsPart}
-use Rattle.calendar_tests.proofs.zone_tables.put.Goals as goal
+use Rattle.recurrence_tests.proofs.zone_tables.put.Goals as goal
 
 pushed : {T E : Type 0} (r : Result T E) (old new : List ZonePart) (x : ZonePart) → OnOk r (new ≡ old ++ x ∷ []) → OnErr r (new ≡ old) → All IsPart old → IsPart x → All IsPart new
 pushed (Ok u) old new x ok err all one = subst (All IsPart) (sym ok) (All-append IsPart old (x ∷ []) all (All-cons IsPart x [] one (All-nil IsPart)))
