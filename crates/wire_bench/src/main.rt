@@ -46,25 +46,25 @@ fn read_stream(
     stream: &[u8],
     size: usize,
     read: &mut Read,
-) -> Result<&'static str, NoMemory>
-    requires { 0 < size }
-{
+) -> Result<&'static str, NoMemory> {
     let mut wire = Wire::new(alloc);
-    for piece in stream.chunks(size) {
+    for piece in stream.chunks(at_least_one(size)) {
         wire.feed(alloc, piece)?;
         take_requests(alloc, &mut wire, read)?;
     }
     take_requests(alloc, &mut wire, read)
 }
 
-/// How many octets a piece has: the number that the word is, and without one all.
-fn piece_size(word: &str) -> usize
+/// A piece has an octet at least.
+fn at_least_one(size: usize) -> usize
     ensures { 0 < result }
 {
-    match word.parse::<usize>() {
-        Ok(size) if size > 0 => size,
-        _ => usize::MAX,
-    }
+    if size == 0 { 1 } else { size }
+}
+
+/// How many octets a piece has: the number that the word is, and without one all.
+fn piece_size(word: &str) -> usize {
+    word.parse::<usize>().unwrap_or(usize::MAX)
 }
 
 fn main(rt: HostRuntime) -> anyhow::Result<()> {
