@@ -141,12 +141,19 @@ fn read_on(
     Ok(b"no end")
 }
 
+/// A piece has an octet at least.
+fn at_least_one(size: usize) -> usize
+    ensures { 0 < result }
+{
+    if size == 0 { 1 } else { size }
+}
+
 /// What is read of a stream in pieces of so many octets, and that a fault stays.
 fn read_in_pieces(alloc: Global, stream: &[u8], size: usize) -> Result<Octets, NoMemory> {
     let mut out = Octets::new(alloc);
     let mut wire = Wire::new(alloc);
     let mut end: &[u8] = b"idle";
-    for piece in stream.chunks(size) {
+    for piece in stream.chunks(at_least_one(size)) {
         end = read_on(alloc, &mut wire, piece, &mut out)?;
     }
     out.extend_from_slice(end)?;
