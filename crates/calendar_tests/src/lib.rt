@@ -9,5 +9,3 @@ mod line_values;
 mod long_values;
 #[cfg(test)]
 mod plain_values;
-#[cfg(test)]
-mod rule_texts;
