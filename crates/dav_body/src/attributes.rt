@@ -27,12 +27,14 @@ impl<'a> Model for WrittenAttribute<'a> {
 }
 
 impl<'a> WrittenAttribute<'a> {
+    /// The name, which may be that of a declaration.
     pub fn name(&self) -> &WrittenName<'a>
         ensures { result.now ≡ self.now.name }
     {
         &self.name
     }
 
+    /// The value as it stands between the quotes.
     pub fn value(&self) -> &'a [u8]
         ensures { result.now ≡ self.now.value }
     {

@@ -96,6 +96,7 @@ fn is_bad_binding(binding: &Binding) -> bool
         || (!binding.prefix.is_empty() && binding.space.is_empty())
 }
 
+/// Whether one of some declarations cannot be made.
 pub fn has_bad_binding(bindings: &[Binding]) -> bool
     ensures { result ≡ list_any is_bad_binding bindings.now }
 {

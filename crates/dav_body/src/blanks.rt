@@ -3,18 +3,21 @@ ghost use Rattle.std.specs.Prelude.{◌≡◌, ◌≤◌, length};
 ghost use Rattle.cal_base.specs.Xml.XmlNames.{is_blank, are_blanks, begins_with_blank};
 ghost use Rattle.cal_base.specs.Xml.XmlMarkup.{without_first_blanks, without_last_blanks};
 
+/// White space: SPACE, TAB, LF or CR (XML 1.0, 2.3).
 pub fn is_blank(octet: u8) -> bool
     ensures { result ≡ is_blank octet }
 {
     octet == b' ' || octet == b'\t' || octet == b'\n' || octet == b'\r'
 }
 
+/// Whether a text is of blanks alone.
 pub fn are_blanks(text: &[u8]) -> bool
     ensures { result ≡ are_blanks text.now }
 {
     text.iter().all(|octet| is_blank(*octet))
 }
 
+/// Whether a text begins with a blank.
 pub fn begins_with_blank(text: &[u8]) -> bool
     ensures { result ≡ begins_with_blank text.now }
 {

@@ -6,6 +6,7 @@ ghost use Rattle.cal_base.specs.Xml.XmlNames.{is_among, name_followers, is_xml_c
 
 use std::str;
 
+/// A character that may stand in a body (XML 1.0, 2.2).
 pub fn is_xml_character(character: char) -> bool
     ensures { result ≡ is_xml_character character }
 {

@@ -5,6 +5,7 @@ ghost use Rattle.cal_base.specs.Xml.XmlMarkup.{is_quote, quote_after, tag_size, 
 
 use crate::ends::{begins, size_through};
 
+/// A single or a double quote.
 pub fn is_quote(octet: u8) -> bool
     ensures { result ≡ is_quote octet }
 {

@@ -3,6 +3,7 @@ ghost use Rattle.std.specs.Prelude.{◌≡◌, ◌≤◌, ◌<◌, ◌+◌, leng
 ghost use Rattle.cal_base.specs.Xml.XmlMarkup.{begins, ends, holds, inside, size_through};
 ghost use Rattle.dav_body.specs.Texts.{text_there};
 
+/// Whether a text begins with another.
 pub fn begins(text: &[u8], front: &[u8]) -> bool
     ensures value { result ≡ begins text.now front.now }
     ensures within { IsTrue result → length front.now ≤ length text.now }
@@ -10,6 +11,7 @@ pub fn begins(text: &[u8], front: &[u8]) -> bool
     text.starts_with(front)
 }
 
+/// Whether a text ends with another.
 pub fn ends(text: &[u8], end: &[u8]) -> bool
     ensures value { result ≡ ends text.now end.now }
     ensures within { IsTrue result → length end.now ≤ length text.now }

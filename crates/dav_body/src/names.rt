@@ -38,18 +38,21 @@ impl<'a> WrittenName<'a> {
         }
     }
 
+    /// The prefix, empty where there is none.
     pub fn prefix(&self) -> &'a [u8]
         ensures { result.now ≡ self.now.prefix }
     {
         self.prefix
     }
 
+    /// The name behind the prefix.
     pub fn local(&self) -> &'a [u8]
         ensures { result.now ≡ self.now.local }
     {
         self.local
     }
 
+    /// Whether two names are written alike, prefix and all.
     pub fn is_same(&self, other: &WrittenName<'_>) -> bool
         ensures { result ≡ is_same_name self.now other.now }
     {

@@ -28,18 +28,21 @@ impl<'a> Model for Tag<'a> {
 }
 
 impl<'a> Tag<'a> {
+    /// The name of the element.
     pub fn name(&self) -> &WrittenName<'a>
         ensures { result.now ≡ self.now.name }
     {
         &self.name
     }
 
+    /// The attributes as they are written, declarations too.
     pub fn attributes(&self) -> &[WrittenAttribute<'a>]
         ensures { result.now ≡ self.now.attributes }
     {
         self.attributes.as_slice()
     }
 
+    /// Whether the tag is that of an empty element.
     pub fn is_empty(&self) -> bool
         ensures { result ≡ self.now.is_empty }
     {
