@@ -64,14 +64,14 @@ any_each : {X : Type 0} (test : X → Bool) (xs : List X) → list_any test xs �
 any_each test [] e = tt
 any_each test (x ∷ xs) e = let both = or_none (test x) (list_any test xs) e in (both.0, any_each test xs both.1)
 
-any_append : {X : Type 0} (test : X → Bool) (xs ys : List X) → list_any test (xs ++ ys) ≡ false → (list_any test xs ≡ false) × (list_any test ys ≡ false)
+pub any_append : {X : Type 0} (test : X → Bool) (xs ys : List X) → list_any test (xs ++ ys) ≡ false → (list_any test xs ≡ false) × (list_any test ys ≡ false)
 any_append test xs ys e = or_none (list_any test xs) (list_any test ys) (sym (list_any-append test xs ys) ∙ e)
 
-any_flat : {X Y : Type 0} (test : Y → Bool) (make : X → List Y) (xs : List X) → list_any test (flat_map make xs) ≡ false → Each (λ x. list_any test (make x) ≡ false) xs
+pub any_flat : {X Y : Type 0} (test : Y → Bool) (make : X → List Y) (xs : List X) → list_any test (flat_map make xs) ≡ false → Each (λ x. list_any test (make x) ≡ false) xs
 any_flat test make [] e = tt
 any_flat test make (x ∷ xs) e = let both = any_append test (make x) (flat_map make xs) e in (both.0, any_flat test make xs both.1)
 
-any_filter : {X : Type 0} (kept test : X → Bool) (xs : List X) → list_any test (filter kept xs) ≡ false → list_any (λ x. kept x && test x) xs ≡ false
+pub any_filter : {X : Type 0} (kept test : X → Bool) (xs : List X) → list_any test (filter kept xs) ≡ false → list_any (λ x. kept x && test x) xs ≡ false
 any_filter kept test [] e = refl
 any_filter kept test (x ∷ xs) e = by (kept x) (λ h. any_filter kept test xs h) e
   where
@@ -95,7 +95,7 @@ all_made : {X Y : Type 0} (P : X → Type 0) (test : Y → Bool) (make : X → Y
 all_made P test make h [] k = refl
 all_made P test make h (x ∷ xs) k = and_true (test (make x)) (list_all test (map make xs)) (h x k.0) (all_made P test make h xs k.1)
 
-some_not_empty : {X : Type 0} (x : X) (xs : List X) → not (is_empty (x ∷ xs)) ≡ true
+pub some_not_empty : {X : Type 0} (x : X) (xs : List X) → not (is_empty (x ∷ xs)) ≡ true
 some_not_empty x xs = by (is_empty (x ∷ xs)) refl
   where
     by : (b : Bool) → is_empty (x ∷ xs) ≡ b → not b ≡ true
@@ -106,7 +106,7 @@ some_not_empty x xs = by (is_empty (x ∷ xs)) refl
     by false h = refl
 
 -- a list without elements
-empty_is : {X : Type 0} (xs : List X) → not (is_empty xs) ≡ false → xs ≡ []
+pub empty_is : {X : Type 0} (xs : List X) → not (is_empty xs) ≡ false → xs ≡ []
 empty_is [] e = refl
 empty_is (x ∷ xs) e = absurd (false≢true (sym e ∙ some_not_empty x xs))
 

@@ -56,12 +56,12 @@ offset_within text offset is =
 -- Stamps, as digits of the years 1 to 9999
 
 -- a moment of these years, as its digits in UTC
-moment_within : (z : ℤ) → IsCalendarMoment z → (31_622_400 ≤ moment_of_seconds z) × (moment_of_seconds z ≤ 315_569_519_999)
+pub moment_within : (z : ℤ) → IsCalendarMoment z → (31_622_400 ≤ moment_of_seconds z) × (moment_of_seconds z ≤ 315_569_519_999)
 moment_within z within =
     let back : seconds_since_1970 (moment_of_seconds z) ≡ z = seconds_since_1970-moment_of_seconds z within in
     (omega (arith, ints, back, within.0), omega (arith, ints, back, within.1))
 
-digits_of_moment : (m : ℕ) → 31_622_400 ≤ m → m ≤ 315_569_519_999 → IsWritten (record { day = day_since_1970 (day_of_moment m); second = second_of_day m })
+pub digits_of_moment : (m : ℕ) → 31_622_400 ≤ m → m ≤ 315_569_519_999 → IsWritten (record { day = day_since_1970 (day_of_moment m); second = second_of_day m })
 digits_of_moment m low high =
     let first : 366 ≤ day_of_moment m = omega arith in
     let last : day_of_moment m ≤ 3_652_424 = omega arith in
@@ -105,10 +105,10 @@ stamp_case true dated number text stamp is = utc_stamp_read text stamp is
 stamp_case false true number text stamp is = date_stamp_read text stamp is
 stamp_case false false number text stamp is = time_stamp_read number text stamp is
 
-stamp_read : (zones : List (List ℕ)) (line : Line) (text : List ℕ) (stamp : Stamp) → stamp_of zones line text ≡ Some stamp → HasDigits stamp
+pub stamp_read : (zones : List (List ℕ)) (line : Line) (text : List ℕ) (stamp : Stamp) → stamp_of zones line text ≡ Some stamp → HasDigits stamp
 stamp_read zones line text stamp is = stamp_case (is_one_of utc_names line) (is_date_text line text) (line_zone zones line) text stamp is
 
-grammar_read : (zones : List (List ℕ)) (line : Line) (stamps : List Stamp) → stamps_in_grammar zones line ≡ Some stamps → Each HasDigits stamps
+pub grammar_read : (zones : List (List ℕ)) (line : Line) (stamps : List Stamp) → stamps_in_grammar zones line ≡ Some stamps → Each HasDigits stamps
 unfolding stamps_in_grammar
 grammar_read zones line stamps is = each_read HasDigits (stamp_of zones line) (stamp_read zones line) (items_of line) stamps is
 
@@ -130,7 +130,7 @@ period_case : (utc : Bool) (number : Option ℕ) (text : List ℕ) (period : Per
 period_case true number text period is = period_parts utc_stamp utc_stamp_read (cut 47 text) period is
 period_case false number text period is = period_parts (time_stamp number) (time_stamp_read number) (cut 47 text) period is
 
-periods_read : (zones : List (List ℕ)) (line : Line) (periods : List Period) → periods_in_grammar zones line ≡ Some periods → Each (λ (p : Period). HasDigits p.start) periods
+pub periods_read : (zones : List (List ℕ)) (line : Line) (periods : List Period) → periods_in_grammar zones line ≡ Some periods → Each (λ (p : Period). HasDigits p.start) periods
 unfolding periods_in_grammar
 periods_read zones line periods is =
     each_read (λ (p : Period). HasDigits p.start) (period_of zones line) (λ text period made. period_case (is_one_of utc_names line) (line_zone zones line) text period made) (items_of line) periods is
@@ -145,11 +145,11 @@ if_else : {X : Type 0} (P : X → Type 0) (b : Bool) (xs ys : List X) → Each P
 if_else P true xs ys these those = these
 if_else P false xs ys these those = those
 
-stamps_in_digits : (line : Line) → Each HasDigits (stamps_in [] line)
+pub stamps_in_digits : (line : Line) → Each HasDigits (stamps_in [] line)
 stamps_in_digits line =
     if_else HasDigits (is_of_periods line) [] (unwrap_or (stamps_in_grammar [] line) []) tt (or_none HasDigits (stamps_in_grammar [] line) (grammar_read [] line))
 
-periods_in_digits : (line : Line) → Each (λ (p : Period). HasDigits p.start) (periods_in [] line)
+pub periods_in_digits : (line : Line) → Each (λ (p : Period). HasDigits p.start) (periods_in [] line)
 periods_in_digits line =
     if_else (λ (p : Period). HasDigits p.start) (is_of_periods line) (unwrap_or (periods_in_grammar [] line) []) [] (or_none (λ (p : Period). HasDigits p.start) (periods_in_grammar [] line) (periods_read [] line)) tt
 
@@ -157,7 +157,7 @@ all_lines : {P : Line → Type 0} → ((line : Line) → P line) → (lines : Li
 all_lines fact [] = tt
 all_lines fact (line ∷ lines) = (fact line, all_lines fact lines)
 
-stamps_at_digits : (name : List ℕ) (lines : List Line) → Each HasDigits (stamps_at [] name lines)
+pub stamps_at_digits : (name : List ℕ) (lines : List Line) → Each HasDigits (stamps_at [] name lines)
 stamps_at_digits name lines = each-flat_map HasDigits (stamps_in []) (all_of name lines) (all_lines stamps_in_digits (all_of name lines))
 
 first_digits : (stamps : List Stamp) (stamp : Stamp) → Each HasDigits stamps → first stamps ≡ Some stamp → HasDigits stamp
