@@ -9,3 +9,4 @@ pub mod Pieces
 pub mod QuotedCuts
 pub mod ReadBack
 pub mod ReadingInOrder
+mod PlaceSteps

@@ -1,6 +1,6 @@
 -- The reading of a text by its logical lines, one after another, and of a logical line by its physical lines: what the private
 -- functions do. That it is the reading of the whole text is a theorem.
-use Rattle.std.specs.Prelude.{ℕ, Bool, true, false, ◌&&◌, nat_lt, if◌then◌else◌, List, [], ◌∷◌, ◌++◌, length, drop, flat_map, Option, Some, None, Result, Ok, Err}
+use Rattle.std.specs.Prelude.{ℕ, zero, suc, Bool, true, false, ◌&&◌, ◌||◌, nat_lt, if◌then◌else◌, List, [], ◌∷◌, ◌++◌, length, drop, flat_map, Option, Some, None, Result, Ok, Err}
 use Rattle.std.specs.Option.{option_or, option_to_list}
 use Rattle.cal_base.specs.declared.line.Line.{Line}
 use Rattle.cal_base.specs.Lines.ContentLines.{Physical, continues, is_refused, unfolded, place_of, line_of}
@@ -48,3 +48,26 @@ read_open done place text refused (group ∷ groups) =
     if continues group
     then read_text done place (text ++ flat_map (λ (fold : Physical). drop 1 fold.text) group) (option_or refused (first_refused group)) groups
     else read_text done place text refused (group ∷ groups)
+
+-- Places
+
+-- the place of the logical line of a number, the empty ones left out, or 0 where there is none
+abbrev pub place_among : ℕ → List (List Physical) → ℕ
+place_among number [] = 0
+place_among zero (group ∷ groups) = if nat_lt 0 (length (unfolded group)) then place_of group else place_among zero groups
+place_among (suc number) (group ∷ groups) = if nat_lt 0 (length (unfolded group)) then place_among number groups else place_among (suc number) groups
+
+-- the same where the first logical line is there already: its place, and whether it has a text
+abbrev pub place_text : ℕ → ℕ → Bool → List (List Physical) → ℕ
+place_text zero place has groups = if has then place else place_among zero groups
+place_text (suc number) place has groups = if has then place_among number groups else place_among (suc number) groups
+
+-- whether the physical lines that continue a line have a text
+abbrev pub have_text : List Physical → Bool
+have_text folds = nat_lt 0 (length (flat_map (λ (fold : Physical). drop 1 fold.text) folds))
+
+-- the same where it is there in part
+abbrev pub place_open : ℕ → ℕ → Bool → List (List Physical) → ℕ
+place_open number place has [] = place_text number place has []
+place_open number place has (group ∷ groups) =
+    if continues group then place_text number place (has || have_text group) groups else place_text number place has (group ∷ groups)

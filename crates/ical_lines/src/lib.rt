@@ -11,5 +11,5 @@ mod split;
 mod unquoted;
 mod write;
 
-pub use split::{LineFault, split_lines};
+pub use split::{LineFault, line_place, split_lines};
 pub use write::write_line;

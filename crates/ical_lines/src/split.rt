@@ -1,11 +1,11 @@
 //! Splitting a text into its content lines.
-ghost use Rattle.std.specs.Prelude.{◌≡◌, ℕ, ◌+◌, ◌-◌, ◌<◌, ◌^◌, List, [], All, length, Option, None, Some, IfOk, IsErrOf, Ok, Err};
-ghost use Rattle.std.specs.Option.{option_or, option_to_list};
+ghost use Rattle.std.specs.Prelude.{◌≡◌, ℕ, ◌+◌, ◌-◌, ◌<◌, ◌^◌, List, [], All, get_or, length, slice_get, Option, None, Some, IfOk, IsErrOf, Ok, Err};
+ghost use Rattle.std.specs.Option.{option_map_or, option_or, option_to_list};
 ghost use Rattle.cal_base.specs.declared.line.Line.{Line};
 ghost use Rattle.cal_base.specs.Texts.Octets.{line_feed};
-ghost use Rattle.cal_base.specs.Lines.ContentLines.{pieces, physical_from, groups, read_lines};
+ghost use Rattle.cal_base.specs.Lines.ContentLines.{Placed, pieces, physical_from, groups, logical_lines, place_of, placed_lines, line_fault, read_lines};
 ghost use Rattle.cal_base.specs.Lines.LineGrammar.{IsReadLine, LinesAreTheGrammar};
-ghost use Rattle.ical_lines.specs.GroupReading.{refused_place, text_fault, text_lines, read_groups, read_text};
+ghost use Rattle.ical_lines.specs.GroupReading.{place_among, place_text, refused_place, text_fault, text_lines, read_groups, read_text};
 
 use crate::line_text::read_line;
 use crate::physical::{begins_with_blank, first_physical, is_refused};
@@ -129,4 +129,42 @@ fn unless_refused(line: Option<Line>, refused: Option<u64>) -> Result<Option<Lin
         Some(place) => Err(LineFault::At { place }),
         None => Ok(line),
     }
+}
+
+/// Whether the first logical line of octets has a text, and what stands behind it.
+fn first_logical(octets: &[u8]) -> (bool, &[u8])
+    requires some { 0 < length octets.now }
+    ensures shorter { length result.1.now < length octets.now }
+    ensures places { (number place : ℕ) → place_among number (groups (physical_from place (pieces line_feed octets.now))) ≡ place_text number place result.0 (groups (physical_from (place + (length octets.now - length result.1.now)) (pieces line_feed result.1.now))) }
+{
+    let (text, mut rest) = first_physical(octets);
+    let mut has_text = !text.is_empty();
+    'more: while begins_with_blank(rest) {
+        let (text, behind) = first_physical(rest);
+        has_text = has_text || 1 < text.len();
+        rest = behind;
+    }
+    (has_text, rest)
+}
+
+/// The place in a text of the logical line of a number, counted from 0, the empty ones left out, or
+/// 0 where there is no such line. It reads no line: it is for the place of a fault that was found.
+pub fn line_place(octets: &[u8], number: usize) -> u64
+    ensures logical { result ≡ place_of (get_or (logical_lines octets.now) number []) }
+    ensures placed { line_fault octets.now ≡ None → result ≡ option_map_or (λ (line : Placed). line.place) (slice_get (placed_lines octets.now) number) 0 }
+{
+    let mut left = number;
+    let mut rest = octets;
+    'logical: while !rest.is_empty() {
+        let place = (octets.len() - rest.len()) as u64;
+        let (has_text, behind) = first_logical(rest);
+        if has_text {
+            if left == 0 {
+                return place;
+            }
+            left -= 1;
+        }
+        rest = behind;
+    }
+    0
 }
