@@ -1,5 +1,5 @@
 -- The steps in which the place of a logical line is found.
-use Rattle.std.proofs.Common.{◌≡◌, ℕ, zero, suc, Bool, true, false, cond, ◌||◌, nat_lt, List, [], ◌∷◌, ◌++◌, get_or, length, drop, flat_map, filter, refl, sym, ap, ap₂, ◌∙◌, ◌==◌, ◌-◌, append-nil, arith, le-leb, map, filter_map, Option, Some, None, slice_get}
+use Rattle.std.proofs.Common.{◌≡◌, ℕ, zero, suc, Bool, true, false, cond, ◌||◌, nat_lt, List, [], ◌∷◌, ◌++◌, get_or, length, drop, flat_map, filter, refl, sym, ap, ◌∙◌, ◌-◌, append-nil, arith, le-leb, map, filter_map, Option, Some, None, slice_get}
 use Rattle.std.proofs.lemmas.Bool.{cond-true, cond-false}
 use Rattle.cal_base.specs.Texts.Octets.{line_feed}
 use Rattle.std.specs.Option.{option_map, option_map_or}

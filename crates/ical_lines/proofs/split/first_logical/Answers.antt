@@ -1,5 +1,5 @@
-use Rattle.std.proofs.Common.{◌≡◌, ℕ, ◌+◌, ◌-◌, ◌||◌, nat_lt, length, arith, refl, sym, ap, ◌∙◌}
-use Rattle.ical_lines.proofs.PlaceSteps.{start_step, fold_step, end_step}
+use Rattle.std.proofs.Common.{◌≡◌, ◌+◌, ◌-◌, ◌||◌, nat_lt, length, arith, refl, sym, ◌∙◌}
+use Rattle.ical_lines.proofs.PlaceSteps.{fold_step, end_step}
 use Rattle.ical_lines.proofs.split.first_logical.Goals as goal
 
 pub more-preserved-then-has_text : goal.more-preserved-then-has_text

@@ -1,6 +1,6 @@
-use Rattle.std.proofs.Common.{◌≡◌, ◌+◌, ◌-◌, length, arith, refl, sym, ap, ◌∙◌}
+use Rattle.std.proofs.Common.{◌-◌, length, sym, ap, ◌∙◌}
 use Rattle.cal_base.specs.Texts.Octets.{line_feed}
-use Rattle.cal_base.specs.Lines.ContentLines.{pieces, physical_from, groups, place_of, logical_lines}
+use Rattle.cal_base.specs.Lines.ContentLines.{pieces, physical_from, groups}
 use Rattle.ical_lines.specs.GroupReading.{place_among}
 use borrow.Author.Tests.{true-eqb}
 use Rattle.std.proofs.lemmas.List.{nil_from_length}
