@@ -10,10 +10,10 @@ more-preserved-then-has_text c =
     record {
       shorter = omega arith;
       places = λ number place.
-        let at = place + (length c.args.octets.now - length c.more.rest.now) in
-        let next : at + (length c.more.rest.now - length behind) ≡ place + (length c.args.octets.now - length behind) = omega arith in
-        let same : c.more.has_text ≡ (c.more.has_text || nat_lt 1 (length text)) = rw (c.if-has_text.true) refl in
-        rw (← next) (fold_step _ number place at _ c.more.rest.now text behind c.more.has_text c.more.has_text (c.more.invariant.places number place) (c.first_physical-in-more.ensures.line at) blank same);
+          let at = place + (length c.args.octets.now - length c.more.rest.now) in
+          let next : at + (length c.more.rest.now - length behind) ≡ place + (length c.args.octets.now - length behind) = omega arith in
+          let same : c.more.has_text ≡ (c.more.has_text || nat_lt 1 (length text)) = rw (c.if-has_text.true) refl in
+          rw (← next) (fold_step _ number place at _ c.more.rest.now text behind c.more.has_text c.more.has_text (c.more.invariant.places number place) (c.first_physical-in-more.ensures.line at) blank same);
     }
 
 pub more-preserved : goal.more-preserved
@@ -24,10 +24,10 @@ more-preserved c =
     record {
       shorter = omega arith;
       places = λ number place.
-        let at = place + (length c.args.octets.now - length c.more.rest.now) in
-        let next : at + (length c.more.rest.now - length behind) ≡ place + (length c.args.octets.now - length behind) = omega arith in
-        let same : nat_lt 1 (length text) ≡ (c.more.has_text || nat_lt 1 (length text)) = rw (c.if-has_text.false) refl in
-        rw (← next) (fold_step _ number place at _ c.more.rest.now text behind c.more.has_text (nat_lt 1 (length text)) (c.more.invariant.places number place) (c.first_physical-in-more.ensures.line at) blank same);
+          let at = place + (length c.args.octets.now - length c.more.rest.now) in
+          let next : at + (length c.more.rest.now - length behind) ≡ place + (length c.args.octets.now - length behind) = omega arith in
+          let same : nat_lt 1 (length text) ≡ (c.more.has_text || nat_lt 1 (length text)) = rw (c.if-has_text.false) refl in
+          rw (← next) (fold_step _ number place at _ c.more.rest.now text behind c.more.has_text (nat_lt 1 (length text)) (c.more.invariant.places number place) (c.first_physical-in-more.ensures.line at) blank same);
     }
 
 pub returns-clause-places : goal.returns-clause-places
