@@ -34,7 +34,8 @@ every_alone : {X : Type 0} → (o : Option X) → every (o ∷ []) ≡ option_ma
 every_alone {X} None = refl
 every_alone {X} (Some x) = refl
 
-no_value : {X : Type 0} → (read : List ℕ → Option X) (text : List ℕ) → ¬ IsIn (Reads read) text → read text ≡ None
+-- a text outside a grammar says no value
+pub no_value : {X : Type 0} → (read : List ℕ → Option X) (text : List ℕ) → ¬ IsIn (Reads read) text → read text ≡ None
 no_value {X} read text outside = elim (cases_Option (read text)) [ inl none ↦ none | inr some ↦ absurd (outside some) ]
 
 module _ (zones : List (List ℕ)) (line : Line) where

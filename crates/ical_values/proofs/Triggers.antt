@@ -1,5 +1,5 @@
 -- What a TRIGGER says, by its parameter VALUE.
-use Rattle.std.proofs.Common.{◌≡◌, ℕ, Bool, true, false, if◌then◌else◌, List, codes, Some, option_map, sym, ap, ◌∙◌}
+use Rattle.std.proofs.Common.{◌≡◌, ℕ, Bool, true, false, if◌then◌else◌, List, codes, Some, None, option_map, sym, ap, ◌∙◌}
 use Rattle.cal_base.specs.declared.line.Line.{Line}
 use Rattle.cal_moment.specs.BadPlace.{IsBadAt}
 use Rattle.cal_moment.specs.declared.stamp.Length.{Length}
@@ -11,6 +11,7 @@ use Rattle.cal_model.specs.Values.ValueTexts.{length_of, moment_of}
 use Rattle.cal_model.proofs.Values.BadValueLaws.{bad_by_same}
 use Rattle.cal_model.proofs.Values.CutLemmas.{option_map_some}
 use Rattle.ical_values.specs.LineTexts.{trigger_by_value}
+use Rattle.ical_values.proofs.ReadLines.{no_value}
 
 -- by a test of VALUE, whichever the text
 by_test : (line : Line) (text : List ℕ) (at : Bool) → param_is (codes "VALUE") (codes "DATE-TIME") line ≡ at → trigger_by_value line text ≡ (if at then option_map At (moment_of text) else option_map (From (related_of line)) (length_of text))
@@ -36,3 +37,6 @@ bad_trigger_from line place test =
     (λ text is. (From (related_of line) is.0, by_test line text false test ∙ ap (option_map (From (related_of line))) is.1))
     (λ text is. let found = option_map_some (From (related_of line)) (length_of text) is.0 (sym (by_test line text false test) ∙ is.1) in (found.0, found.1))
     line.value place
+
+pub no_trigger : (line : Line) (place : ℕ) → IsBadAt (Reads (trigger_by_value line)) line.value place → trigger_of line ≡ None
+no_trigger line place bad = no_value (trigger_by_value line) line.value bad.outside

@@ -135,6 +135,7 @@ pub fn read_periods_of_any_zone(
     zones: &ZoneNames,
 ) -> Result<List<Period>, ValueFault>
     ensures ok { IfOk result (λ periods. periods_in_grammar zones.now line.now ≡ Some periods) }
+    ensures outside { (place : ℕ) → IsErrOf result (ValueFault.Bad place) → periods_in_grammar zones.now line.now ≡ None }
     ensures bad { (place : ℕ) → IsErrOf result (ValueFault.Bad place) → IsBadAt (Reads (periods_by_value zones.now line.now)) line.now.value place }
 {
     let form = period_form(line, zones);

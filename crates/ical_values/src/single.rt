@@ -22,6 +22,7 @@ const DAY_SECONDS: i64 = 86_400;
 /// COMPLETED, CREATED, DTSTAMP and LAST-MODIFIED.
 pub fn read_moment(text: &[u8]) -> Result<Utc, Bad>
     ensures ok { IfOk result (λ moment. moment_of text.now ≡ Some moment) }
+    ensures outside { IfErr result (λ _. moment_of text.now ≡ None) }
     ensures bad { IfErr result (λ fault. IsBadAt (Reads moment_of) text.now fault.place) }
 {
     match read_date_time(text) {
@@ -43,6 +44,7 @@ pub fn read_duration(text: &[u8]) -> Result<Length, Bad>
     ensures ok { IfOk result (λ length. length_of text.now ≡ Some length) }
     ensures days { IfOk result (λ length. IsBetween (neg_ℤ (pos 6_999_999_993)) (pos 6_999_999_993) length.days) }
     ensures seconds { IfOk result (λ length. IsBetween (neg_ℤ (pos 10_800_000_000_000)) (pos 10_800_000_000_000) length.seconds) }
+    ensures outside { IfErr result (λ _. length_of text.now ≡ None) }
     ensures bad { IfErr result (λ fault. IsBadAt (Reads length_of) text.now fault.place) }
 {
     match read_length(text) {
@@ -55,6 +57,7 @@ pub fn read_duration(text: &[u8]) -> Result<Length, Bad>
 pub fn read_utc_offset(text: &[u8]) -> Result<i32, Bad>
     ensures ok { IfOk result (λ seconds. offset_of text.now ≡ Some seconds) }
     ensures range { IfOk result (IsBetween (neg_ℤ (pos 86399)) (pos 86399)) }
+    ensures outside { IfErr result (λ _. offset_of text.now ≡ None) }
     ensures bad { IfErr result (λ fault. IsBadAt (Reads offset_of) text.now fault.place) }
 {
     match read_offset(text) {
@@ -67,6 +70,7 @@ pub fn read_utc_offset(text: &[u8]) -> Result<i32, Bad>
 /// where RELATED is END, from the end (RFC 5545, 3.8.6.3).
 pub fn read_trigger(line: &Line) -> Result<Trigger, Bad>
     ensures ok { IfOk result (λ trigger. trigger_of line.now ≡ Some trigger) }
+    ensures outside { IfErr result (λ _. trigger_of line.now ≡ None) }
     ensures bad { IfErr result (λ fault. IsBadAt (Reads (trigger_by_value line.now)) line.now.value fault.place) }
 {
     let text = line.value.as_slice();

@@ -172,6 +172,7 @@ impl Items for StampForm {
 /// the stamp then has the number behind the last. Takes no memory.
 pub fn read_stamp(line: &Line, zones: &ZoneNames) -> Result<Stamp, Bad>
     ensures ok { IfOk result (λ stamp. stamp_of zones.now line.now line.now.value ≡ Some stamp) }
+    ensures outside { IfErr result (λ _. stamp_of zones.now line.now line.now.value ≡ None) }
     ensures bad { IfErr result (λ fault. IsBadAt (Reads (stamp_by_value zones.now line.now)) line.now.value fault.place) }
 {
     match read_form(line.value.as_slice(), stamp_form(line, zones)) {
@@ -189,6 +190,7 @@ pub fn read_stamps_of_any_zone(
     zones: &ZoneNames,
 ) -> Result<List<Stamp>, ValueFault>
     ensures ok { IfOk result (λ stamps. stamps_in_grammar zones.now line.now ≡ Some stamps) }
+    ensures outside { (place : ℕ) → IsErrOf result (ValueFault.Bad place) → stamps_in_grammar zones.now line.now ≡ None }
     ensures bad { (place : ℕ) → IsErrOf result (ValueFault.Bad place) → IsBadAt (Reads (stamps_by_value zones.now line.now)) line.now.value place }
 {
     let form = stamp_form(line, zones);
