@@ -1,1 +1,6 @@
+pub mod AskedLemmas
+pub mod DateStarts
+pub mod DigitLemmas
+pub mod StartsInRange
 pub mod UndatedLemmas
+pub mod WindowedRows

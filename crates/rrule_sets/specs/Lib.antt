@@ -1,1 +1,3 @@
 pub mod UndatedRows
+pub mod DigitRanges
+pub mod PeriodSpans
