@@ -1,13 +1,17 @@
 -- Of a rule's set, the start itself aside, the starts whose local digits lie in a range are those of the moments with these digits, since a moment that exists has its own digits as local time.
-use Rattle.std.proofs.Common.{◌≡◌, ℕ, ◌+◌, ◌*◌, ◌<◌, ◌≤◌, List, [], ◌∷◌, map, refl, sym, ap, ◌∙◌, Bool, true, false, ℤ, inl, inr}
+use Rattle.std.proofs.Common.{◌≡◌, ℕ, ◌+◌, ◌*◌, ◌<◌, ◌≤◌, List, [], ◌∷◌, map, refl, sym, ap, ◌∙◌, arith, Bool, true, false, ℤ, pos, neg_ℤ, ◌<ℤ◌, ◌≤ℤ◌, inl, inr}
 use Rattle.std.specs.Prelude.{All, filter, nat_le, nat_lt, int_le, int_lt, ◌&&◌, if◌then◌else◌}
-use Rattle.std.proofs.lemmas.Bool.{cases_Bool}
+use Rattle.std.proofs.lemmas.Int.{ints}
+use Rattle.std.proofs.lemmas.Bool.{cases_Bool, leb-true, leb-false, ltb-true, ltb-false}
 use Rattle.std.proofs.lemmas.List.Elements.{All-head, All-tail}
 use Rattle.cal_moment.specs.Calendar.{seconds_since_1970}
 use Rattle.cal_moment.specs.declared.stamp.Stamp.{Stamp}
 use Rattle.cal_model.specs.declared.rule.Rule.{Rule}
 use Rattle.cal_model.specs.declared.zone.ZoneTable.{ZoneTable}
-use Rattle.cal_model.specs.Recurrence.NextPassing.{end_day}
+use Rattle.cal_moment.specs.declared.stamp.Local.{Local}
+use Rattle.cal_model.specs.Values.LocalTimes.{local_seconds, moment_of_local}
+use Rattle.cal_model.proofs.Walks.KeptLemmas.{seconds_of_written}
+use Rattle.cal_model.specs.Recurrence.NextPassing.{IsWritten, end_day}
 use Rattle.cal_model.specs.Recurrence.RecurrenceSet.{Reading, later_moments, every_moment, first_moment}
 use Rattle.cal_model.specs.Walks.KeptMoments.{starts_by, starts_between}
 use Rattle.cal_model.specs.Instances.Alignment.{reading_of}
@@ -49,3 +53,25 @@ module _ (zones : List ZoneTable) (s : Stamp) (range : Digits) (low high : ℕ) 
   pub later_starts_in : (rule : Rule) (start : ℕ) → filter (starts_in zones s range) (starts_by (reading_of zones s) (later_moments rule start (reading_of zones s) every_moment)) ≡ starts_between rule start (reading_of zones s) low high
   later_starts_in rule start =
       starts_in_moments (later_moments rule start (reading_of zones s) every_moment) (later_moments-All IsOfRules rule start (reading_of zones s) every_moment every_moment-of_rules) (later_moments-exist every_moment rule start (reading_of zones s))
+
+-- Digits of moments.
+
+pub written_digits : (l : Local) (digits : ℤ) → local_seconds l ≡ digits → l.second < 86_400 → neg_ℤ (pos 62_135_596_800) <ℤ digits → digits <ℤ pos 4_165_516_800 → IsWritten l
+written_digits l digits e second late early =
+    record { from_first = omega (arith, ints, e, second, late); to_last = omega (arith, ints, e, second, early); second_below = second }
+
+pub cut_from : (l : Local) (digits : ℤ) (m : ℕ) → IsWritten l → local_seconds l ≡ digits → nat_le (moment_of_local l) m ≡ int_le digits (seconds_since_1970 m)
+cut_from l digits m written e =
+    let number : seconds_since_1970 (moment_of_local l) ≡ digits = seconds_of_written l written ∙ e in
+    elim (cases_Bool (nat_le (moment_of_local l) m)) [
+      | inl w ↦ (let le = leb-true _ _ w in let v : int_le digits (seconds_since_1970 m) ≡ true = rw (← number) (let at_or_before : seconds_since_1970 (moment_of_local l) ≤ℤ seconds_since_1970 m = omega (arith, ints, le) in grind (arith, ints, at_or_before)) in w ∙ sym v)
+      | inr w ↦ (let lt = leb-false _ _ w in let v : int_le digits (seconds_since_1970 m) ≡ false = rw (← number) (let behind : seconds_since_1970 m <ℤ seconds_since_1970 (moment_of_local l) = omega (arith, ints, lt) in grind (arith, ints, behind)) in w ∙ sym v)
+    ]
+
+pub cut_before : (l : Local) (digits : ℤ) (m : ℕ) → IsWritten l → local_seconds l ≡ digits → nat_lt m (moment_of_local l) ≡ int_lt (seconds_since_1970 m) digits
+cut_before l digits m written e =
+    let number : seconds_since_1970 (moment_of_local l) ≡ digits = seconds_of_written l written ∙ e in
+    elim (cases_Bool (nat_lt m (moment_of_local l))) [
+      | inl w ↦ (let lt = ltb-true _ _ w in let v : int_lt (seconds_since_1970 m) digits ≡ true = rw (← number) (let before : seconds_since_1970 m <ℤ seconds_since_1970 (moment_of_local l) = omega (arith, ints, lt) in grind (arith, ints, before)) in w ∙ sym v)
+      | inr w ↦ (let le = ltb-false _ _ w in let v : int_lt (seconds_since_1970 m) digits ≡ false = rw (← number) (let behind : seconds_since_1970 (moment_of_local l) ≤ℤ seconds_since_1970 m = omega (arith, ints, le) in grind (arith, ints, behind)) in w ∙ sym v)
+    ]

@@ -12,7 +12,8 @@ use Rattle.cal_model.specs.Recurrence.RecurrenceSet.{Reading, every_moment, late
 use Rattle.cal_model.specs.Instances.Alignment.{reading_of, value_of, written_moment}
 use Rattle.cal_model.specs.Instances.Starts.{ascending, is_excepted, is_date, date_start, period_starts, plain_starts, recurring_starts, rule_starts}
 use Rattle.cal_model.proofs.Instances.RisingLists.{IsBelow, Contains-split, Contains-there, ascending-is, ascending-rising, ascending-has, ascending-only}
-use Rattle.cal_model.proofs.Ranges.WindowLaws.{Contains-filter, Contains-unfilter, AllPairs-filter}
+use Rattle.std.proofs.lemmas.List.Kept.{AllPairs-filter}
+use Rattle.cal_model.proofs.Ranges.WindowLaws.{Contains-filter, Contains-unfilter}
 use Rattle.cal_model.specs.Walks.KeptMoments.{starts_by, starts_between}
 use Rattle.rrule_sets.specs.declared.range.Digits.{Digits}
 use Rattle.rrule_sets.specs.DigitRanges.{starts_in}

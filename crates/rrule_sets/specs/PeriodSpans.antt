@@ -1,5 +1,6 @@
 -- RDATE periods as the starts and ends of instances.
-use Rattle.std.specs.Prelude.{Bool, ℕ, List, ℤ}
+use Rattle.std.specs.Prelude.{◌≡◌, ◌⊎◌, Bool, ℕ, List, map, filter, ℤ, ◌≤ℤ◌, ◌<ℤ◌}
+use Rattle.cal_model.specs.Words.Integers.{same_int}
 use Rattle.cal_moment.specs.declared.stamp.Period.{Period}
 use Rattle.cal_moment.specs.declared.stamp.PeriodEnd.{PeriodEnd}
 use Rattle.cal_moment.specs.declared.stamp.PeriodEnd.TheVariants.{At, After}
@@ -24,3 +25,11 @@ period_span zones s p = (date_start zones s p.start, end_of_period zones s (date
 
 abbrev pub span_starts_in : List ZoneTable → Stamp → Digits → ℤ × ℤ → Bool
 span_starts_in zones s range span = starts_in zones s range span.0
+
+-- one span is not after another: by start, then end
+abbrev pub IsNotAfter : ℤ × ℤ → ℤ × ℤ → Type 0
+IsNotAfter a b = (a.0 <ℤ b.0) ⊎ ((a.0 ≡ b.0) × (a.1 ≤ℤ b.1))
+
+-- the ends of the spans that begin at a start
+abbrev pub ends_at : ℤ → List (ℤ × ℤ) → List ℤ
+ends_at r spans = map (λ (span : ℤ × ℤ). span.1) (filter (λ (span : ℤ × ℤ). same_int r span.0) spans)

@@ -99,6 +99,16 @@ fn time_of_day(stamp: Stamp) -> i64
     written - midnight_of(written)
 }
 
+/// The digits of a local day at the time of day of a stamp.
+fn at_time_of(midnight: i64, stamp: Stamp) -> i64
+    requires midnight { IsBetween (neg_ℤ (pos 1_099_511_627_776)) (pos 1_099_511_627_776) midnight }
+    requires stamp { IsBetween (neg_ℤ (pos 1_099_511_627_776)) (pos 1_099_511_627_776) (alignment.written_value stamp) }
+    ensures value { result ≡ midnight +ℤ (alignment.written_value stamp -ℤ alignment.midnight_of (alignment.written_value stamp)) }
+    ensures near { IsBetween (neg_ℤ (pos 1_150_000_000_000)) (pos 1_150_000_000_000) result }
+{
+    midnight + time_of_day(stamp)
+}
+
 /// The start that an RDATE gives beside the start of its component: a local day is read at the time of
 /// day of that.
 fn start_on(zones: &[LocalTimes<'_>], stamp: Stamp, name: Aligned) -> i64
@@ -108,7 +118,7 @@ fn start_on(zones: &[LocalTimes<'_>], stamp: Stamp, name: Aligned) -> i64
 {
     match name {
         Aligned::At(value) => value,
-        Aligned::OnDay(midnight) => instant_beside(zones, stamp, midnight + time_of_day(stamp)),
+        Aligned::OnDay(midnight) => instant_beside(zones, stamp, at_time_of(midnight, stamp)),
     }
 }
 

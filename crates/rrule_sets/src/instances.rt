@@ -1,25 +1,17 @@
 //! The instances of a master in a range of digits: their starts and ends, EXDATEs taken off.
 
 use crate::asked::{clock_beside, put_dates, put_period_starts, put_periods, put_rules, put_start};
+use crate::ends::{exceptions, last_end, recurs, spans_in_order};
 use crate::range::{Digits, moment_at};
 use cal_base::{List, NoMemory, Steps};
-use cal_model::{Component, Kind, LocalTimes, Row, Rules};
+use cal_model::{Component, LocalTimes, Row, Rules};
 use cal_moment::Stamp;
 use override_merge::ends::end_of_extent;
-use override_merge::names::{Names, is_among, is_named, names_of, put_name, rising};
-use override_merge::stamps::{align, kind_of, written_value};
+use override_merge::names::{is_among, is_named, rising};
+use override_merge::stamps::{kind_of, value_of, written_value};
 use override_merge::zones::local_of;
 use std::alloc::Global;
 use std::sync::ledger::Ledger;
-
-/// Whether a component has the starts of its rules, RDATEs and EXDATEs: it has DTSTART and is no
-/// VFREEBUSY.
-fn recurs(component: &Component) -> bool {
-    match component.kind {
-        Kind::FreeBusy => false,
-        _ => component.start.is_some(),
-    }
-}
 
 /// The starts that keep the length of their component, and the RDATE periods, both in order.
 #[derive(Drop)]
@@ -27,15 +19,6 @@ pub struct Asked {
     pub plain: List<i64>,
     /// The start and the end of each.
     pub periods: List<(i64, i64)>,
-}
-
-/// Pairs in order.
-fn pairs_in_order(pairs: List<(i64, i64)>) -> Result<List<(i64, i64)>, NoMemory> {
-    let mut items = pairs.into_vec();
-    match items.sort() {
-        Ok(()) => Ok(List::from_vec(items)),
-        Err(_) => Err(NoMemory),
-    }
 }
 
 /// What a component starts with in a range, EXDATEs aside.
@@ -50,50 +33,47 @@ fn what_is_asked<R: Rules, L: Ledger>(
 ) -> Result<Asked, NoMemory> {
     let mut plain = List::new(alloc);
     let mut periods = List::new(alloc);
-    let own = override_merge::stamps::value_of(zones, stamp);
+    let own = value_of(zones, stamp);
     put_start(zones, stamp, range, own, &mut plain)?;
     if recurs(component) {
         let clock = clock_beside(zones, stamp);
         let (low, high) = (moment_at(range.low), moment_at(range.high));
         let start = local_of(written_value(stamp));
-        put_rules(alloc, body, component.rules.as_slice(), start, &clock, low, high, &mut plain, steps)?;
-        put_dates(zones, stamp, range, component.dates.as_slice(), &mut plain, steps)?;
-        put_periods(zones, stamp, range, component.periods.as_slice(), &mut periods, steps)?;
+        put_rules(
+            alloc,
+            body,
+            component.rules.as_slice(),
+            start,
+            &clock,
+            low,
+            high,
+            &mut plain,
+            steps,
+        )?;
+        put_dates(
+            zones,
+            stamp,
+            range,
+            component.dates.as_slice(),
+            &mut plain,
+            steps,
+        )?;
+        put_periods(
+            zones,
+            stamp,
+            range,
+            component.periods.as_slice(),
+            &mut periods,
+            steps,
+        )?;
         if let Stamp::Date(_) = stamp {
             put_period_starts(&periods, &mut plain)?;
         }
     }
     Ok(Asked {
         plain: rising(plain)?,
-        periods: pairs_in_order(periods)?,
+        periods: spans_in_order(periods)?,
     })
-}
-
-/// What the EXDATEs of a component name beside its start.
-fn exceptions(
-    alloc: Global,
-    zones: &[LocalTimes<'_>],
-    stamp: Stamp,
-    except: &[Stamp],
-) -> Result<Names, NoMemory> {
-    let mut values = List::new(alloc);
-    let mut days = List::new(alloc);
-    let mut rest = except;
-    'except: while let Some((date, behind)) = rest.split_first() {
-        put_name(align(zones, *date, stamp), &mut values, &mut days)?;
-        rest = behind;
-    }
-    names_of(values, days)
-}
-
-/// The latest end of the periods that begin at a start, or the start where there is none.
-fn last_end(periods: &[(i64, i64)], start: i64) -> i64 {
-    let behind = periods.partition_point(|period| period.0 <= start);
-    if behind > 0 && periods[behind - 1].0 == start {
-        periods[behind - 1].1
-    } else {
-        start
-    }
 }
 
 /// All starts of what was asked, in order, each once.
@@ -117,7 +97,11 @@ pub fn instances<R: Rules, L: Ledger>(
 ) -> Result<List<Row>, NoMemory> {
     let asked = what_is_asked(alloc, body, zones, stamp, component, range, steps)?;
     let starts = all_starts(alloc, &asked)?;
-    let except = if recurs(component) { component.except.as_slice() } else { &[] };
+    let except = if recurs(component) {
+        component.except.as_slice()
+    } else {
+        &[]
+    };
     let excepted = exceptions(alloc, zones, stamp, except)?;
     let mut rows = List::new(alloc);
     for start in starts.as_slice() {

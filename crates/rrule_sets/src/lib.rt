@@ -4,13 +4,14 @@
 //! no date, and whether one of its rules recurs by seconds or minutes, so that it is not expanded.
 #![tactic(auto)]
 
-pub mod asked;
+mod asked;
+mod ends;
 mod fine;
-
-pub mod range;
+mod instances;
+mod range;
 mod undated;
-
+mod window;
 
 pub use fine::has_fine_rule;
 pub use undated::undated_rows;
-
+pub use window::window_rows;

@@ -68,7 +68,15 @@ fn needed<L: Ledger>(
         if component.recurrence_id.is_some() {
             steps.tick();
         }
-        range = with_override(zones, ids, object, Part::Window(window), component, number, range);
+        range = with_override(
+            zones,
+            ids,
+            object,
+            Part::Window(window),
+            component,
+            number,
+            range,
+        );
         if !behind.is_empty() {
             number += 1;
         }
@@ -108,7 +116,9 @@ fn master_rows<R: Rules, L: Ledger>(
     };
     let component = &components[number as usize];
     match own_start(component) {
-        Some(stamp) => instances(alloc, body, zones, ids, stamp, component, number, range, steps),
+        Some(stamp) => instances(
+            alloc, body, zones, ids, stamp, component, number, range, steps,
+        ),
         None => Ok(List::new(alloc)),
     }
 }
@@ -131,5 +141,12 @@ pub fn window_rows<L: Ledger>(
     let range = needed(zones, ids, object, window, steps);
     let components = object.components.as_slice();
     let rows = master_rows(alloc, &PeriodStep, zones, ids, components, range, steps)?;
-    merged_rows(alloc, zones, ids, object, rows.as_slice(), Part::Window(window))
+    merged_rows(
+        alloc,
+        zones,
+        ids,
+        object,
+        rows.as_slice(),
+        Part::Window(window),
+    )
 }
