@@ -1,5 +1,6 @@
 -- One more of what is asked for.
-use Rattle.std.proofs.Common.{◌≡◌, ℕ, ◌+◌, ◌≤◌, List, [], ◌∷◌, ◌++◌, map, sym, ap, ◌∙◌, arith, Bool, ℤ}
+use Rattle.std.proofs.Common.{◌≡◌, ℕ, ◌+◌, ◌≤◌, List, [], ◌∷◌, ◌++◌, map, sym, ap, ◌∙◌, arith, Bool, ℤ, inl, inr}
+use Rattle.std.proofs.lemmas.Bool.{cases_Bool}
 use Rattle.std.specs.Prelude.{filter, flat_map, sum, fold}
 use Rattle.std.proofs.lemmas.List.{append_assoc}
 use Rattle.std.proofs.lemmas.List.Elements.{filter-append}
@@ -25,3 +26,10 @@ sum-cons x xs = let from = sum_from (0 + x) xs in omega (arith, from)
 -- the steps of one more part
 pub counted_more : (before next here : ℕ) (behind : List ℕ) (all : ℕ) → next ≤ before + here → before + sum (here ∷ behind) ≤ all → next + sum behind ≤ all
 counted_more before next here behind all step rest = let e = sum-cons here behind in omega (arith, step, rest, e)
+
+-- one more item, as far as it is kept, and what is made of it
+pub mapped_more : {X Y : Type 0} (p : X → Bool) (f : X → Y) (done whole : List Y) (x : X) (behind : List X) → done ++ map f (filter p (x ∷ behind)) ≡ whole → (done ++ map f (filter p (x ∷ []))) ++ map f (filter p behind) ≡ whole
+mapped_more p f done whole x behind e = elim (cases_Bool (p x)) [
+  | inl w ↦ (let all = rw w at e in rw w (append_assoc done (f x ∷ []) (map f (filter p behind)) ∙ all))
+  | inr w ↦ (let all = rw w at e in rw w (append_assoc done [] (map f (filter p behind)) ∙ all))
+]

@@ -24,7 +24,7 @@ short_tables (z ∷ zs) = All-cons HasShortOffsets z.table.now (tables_of zs) (H
 abbrev pub IsNearRow : ℤ → Type 0
 IsNearRow = IsBetween (neg_ℤ (pos 1_200_000_000_000)) (pos 1_200_000_000_000)
 
-near_instant : (zones : List ZoneTable) (s : Stamp) (l : ℤ) → All HasShortOffsets zones → IsBetween (neg_ℤ (pos 1_150_000_000_000)) (pos 1_150_000_000_000) l → IsNearRow ((reading_of zones s).instant l)
+pub near_instant : (zones : List ZoneTable) (s : Stamp) (l : ℤ) → All HasShortOffsets zones → IsBetween (neg_ℤ (pos 1_150_000_000_000)) (pos 1_150_000_000_000) l → IsNearRow ((reading_of zones s).instant l)
 near_instant zones s l short near = let by = instant-near zones s l short in (omega (arith, ints, by, near), omega (arith, ints, by, near))
 
 near_time : (d w : ℤ) → IsRowTime d → IsBetween (neg_ℤ (pos 1_150_000_000_000)) (pos 1_150_000_000_000) (d +ℤ (w -ℤ midnight_of w))

@@ -1,10 +1,11 @@
 -- Of a rule's set, the start itself aside, the starts whose local digits lie in a range are those of the moments with these digits, since a moment that exists has its own digits as local time.
-use Rattle.std.proofs.Common.{◌≡◌, ℕ, ◌+◌, ◌*◌, ◌<◌, ◌≤◌, List, [], ◌∷◌, map, refl, sym, ap, ◌∙◌, arith, Bool, true, false, ℤ, pos, neg_ℤ, ◌<ℤ◌, ◌≤ℤ◌, inl, inr}
-use Rattle.std.specs.Prelude.{All, filter, nat_le, nat_lt, int_le, int_lt, ◌&&◌, if◌then◌else◌}
+use Rattle.std.proofs.Common.{◌≡◌, ℕ, ◌+◌, ◌*◌, ◌<◌, ◌≤◌, List, [], ◌∷◌, ◌++◌, map, refl, sym, ap, ap₂, ◌∙◌, arith, Bool, true, false, ℤ, pos, neg_ℤ, ◌<ℤ◌, ◌≤ℤ◌, inl, inr}
+use Rattle.std.specs.Prelude.{All, filter, flat_map, nat_le, nat_lt, int_le, int_lt, ◌&&◌, if◌then◌else◌}
 use Rattle.std.proofs.lemmas.Int.{ints}
 use Rattle.std.proofs.lemmas.Bool.{cases_Bool, leb-true, leb-false, ltb-true, ltb-false}
 use Rattle.std.proofs.lemmas.List.Elements.{All-head, All-tail}
-use Rattle.cal_moment.specs.Calendar.{seconds_since_1970}
+use Rattle.cal_moment.specs.Calendar.{moment_of_seconds, seconds_since_1970}
+use Rattle.cal_moment.proofs.CalendarLaws.{moment_of_seconds-seconds_since_1970}
 use Rattle.cal_moment.specs.declared.stamp.Stamp.{Stamp}
 use Rattle.cal_model.specs.declared.rule.Rule.{Rule}
 use Rattle.cal_model.specs.declared.zone.ZoneTable.{ZoneTable}
@@ -14,7 +15,10 @@ use Rattle.cal_model.proofs.Walks.KeptLemmas.{seconds_of_written}
 use Rattle.cal_model.specs.Recurrence.NextPassing.{IsWritten, end_day}
 use Rattle.cal_model.specs.Recurrence.RecurrenceSet.{Reading, later_moments, every_moment, first_moment}
 use Rattle.cal_model.specs.Walks.KeptMoments.{starts_by, starts_between}
-use Rattle.cal_model.specs.Instances.Alignment.{reading_of}
+use Rattle.cal_moment.specs.declared.stamp.Stamp.TheVariants.{Date, Floating, Zoned, Utc}
+use Rattle.cal_model.specs.Instances.Alignment.{reading_of, written_moment}
+use Rattle.cal_model.specs.Instances.Starts.{is_date}
+use Rattle.rrule_sets.specs.AskedStarts.{later_starts}
 use Rattle.cal_model.proofs.Recurrence.SetStretches.{later_moments-exist, later_moments-All, All-between}
 use Rattle.cal_model.proofs.Ranges.WindowStretches.{local-instant}
 use Rattle.rrule_sets.specs.declared.range.Digits.{Digits}
@@ -30,7 +34,7 @@ pub record IsOfRules (m : ℕ) : Type 0 where
   pub from : first_moment ≤ m
   pub before : m < 86_400 * end_day
 
-every_moment-of_rules : All IsOfRules every_moment
+pub every_moment-of_rules : All IsOfRules every_moment
 unfolding every_moment
 every_moment-of_rules = All-between IsOfRules first_moment (86_400 * end_day) (λ m from before. record { from = from; before = before })
 
@@ -75,3 +79,28 @@ cut_before l digits m written e =
       | inl w ↦ (let lt = ltb-true _ _ w in let v : int_lt (seconds_since_1970 m) digits ≡ true = rw (← number) (let before : seconds_since_1970 m <ℤ seconds_since_1970 (moment_of_local l) = omega (arith, ints, lt) in grind (arith, ints, before)) in w ∙ sym v)
       | inr w ↦ (let le = ltb-false _ _ w in let v : int_lt (seconds_since_1970 m) digits ≡ false = rw (← number) (let behind : seconds_since_1970 (moment_of_local l) ≤ℤ seconds_since_1970 m = omega (arith, ints, le) in grind (arith, ints, behind)) in w ∙ sym v)
     ]
+
+-- a written moment counts the seconds that its digits write
+pub moment_of_written : (l : Local) (digits : ℤ) → IsWritten l → local_seconds l ≡ digits → moment_of_local l ≡ moment_of_seconds digits
+moment_of_written l digits written e = sym (moment_of_seconds-seconds_since_1970 (moment_of_local l)) ∙ ap moment_of_seconds (seconds_of_written l written ∙ e)
+
+-- and lies by a moment whose digits come no earlier
+pub written_by : (l : Local) (digits : ℤ) (n : ℕ) → IsWritten l → local_seconds l ≡ digits → digits ≤ℤ seconds_since_1970 n → moment_of_local l ≤ n
+written_by l digits n written e le = let number = seconds_of_written l written in omega (arith, ints, number, e, le)
+
+-- the starts of rules between two moments are those in the range that these cut
+pub rules_between : (zones : List ZoneTable) (s : Stamp) (range : Digits) (low high start : ℕ) (reading : Reading) → IsCutBy range low high → start ≡ written_moment s → reading ≡ reading_of zones s → (rules : List Rule) →
+    flat_map (λ (rule : Rule). starts_between rule start reading low high) rules ≡ flat_map (later_starts zones s range) rules
+rules_between zones s range low high start reading cut e r rules =
+    ap₂ (λ (m : ℕ) (clock : Reading). flat_map (λ (rule : Rule). starts_between rule m clock low high) rules) e r ∙ each rules
+  where
+    each : (rules : List Rule) → flat_map (λ (rule : Rule). starts_between rule (written_moment s) (reading_of zones s) low high) rules ≡ flat_map (later_starts zones s range) rules
+    each [] = refl
+    each (rule ∷ rules) = ap₂ (λ (xs ys : List ℤ). xs ++ ys) (sym (later_starts_in zones s range low high cut rule (written_moment s))) (each rules)
+
+-- a reading is that of days beside a DATE alone
+pub dated-is : (zones : List ZoneTable) (s : Stamp) → (reading_of zones s).dated ≡ is_date s
+dated-is zones (Date d) = refl
+dated-is zones (Floating l) = refl
+dated-is zones (Zoned l n) = refl
+dated-is zones (Utc u) = refl

@@ -1,23 +1,24 @@
 -- The starts of a component in a range: of its rules only the moments in the range are asked for.
-use Rattle.std.proofs.Common.{◌≡◌, ℕ, zero, suc, List, [], ◌∷◌, ◌++◌, map, refl, sym, ap, ap₂, ◌∙◌, arith, Bool, true, false, ℤ, ◌⊎◌, inl, inr}
+use Rattle.std.proofs.Common.{◌≡◌, ℕ, List, [], ◌∷◌, ◌++◌, map, refl, sym, ap, ap₂, subst, ◌∙◌, arith, Bool, true, false, ℤ, ◌⊎◌, inl, inr}
 use Rattle.std.specs.Prelude.{All, AllPairs, Contains, filter, flat_map, not, if◌then◌else◌}
 use Rattle.std.proofs.lemmas.Bool.{cases_Bool}
+use Rattle.std.proofs.lemmas.List.{append_assoc, append-nil}
 use Rattle.std.proofs.lemmas.List.Elements.{filter-append, Contains-append_left, Contains-append_right, Contains-append_cases}
 use Rattle.cal_moment.specs.Calendar.{seconds_since_1970}
 use Rattle.cal_moment.specs.declared.stamp.Stamp.{Stamp}
 use Rattle.cal_model.specs.declared.rule.Rule.{Rule}
 use Rattle.cal_model.specs.declared.zone.ZoneTable.{ZoneTable}
 use Rattle.cal_model.specs.declared.object.Component.{Component}
-use Rattle.cal_model.specs.Recurrence.RecurrenceSet.{Reading, every_moment, later_moments}
+use Rattle.cal_model.specs.Recurrence.RecurrenceSet.{every_moment, later_moments}
 use Rattle.cal_model.specs.Instances.Alignment.{reading_of, value_of, written_moment}
 use Rattle.cal_model.specs.Instances.Starts.{ascending, is_excepted, is_date, date_start, period_starts, plain_starts, recurring_starts, rule_starts}
 use Rattle.cal_model.proofs.Instances.RisingLists.{IsBelow, Contains-split, Contains-there, ascending-is, ascending-rising, ascending-has, ascending-only}
 use Rattle.std.proofs.lemmas.List.Kept.{AllPairs-filter}
 use Rattle.cal_model.proofs.Ranges.WindowLaws.{Contains-filter, Contains-unfilter}
-use Rattle.cal_model.specs.Walks.KeptMoments.{starts_by, starts_between}
+use Rattle.cal_model.specs.Walks.KeptMoments.{starts_by}
 use Rattle.rrule_sets.specs.declared.range.Digits.{Digits}
 use Rattle.rrule_sets.specs.DigitRanges.{starts_in}
-use Rattle.rrule_sets.proofs.DigitLemmas.{IsCutBy, later_starts_in}
+use Rattle.rrule_sets.specs.AskedStarts.{later_starts}
 
 -- two lists have the same members
 pub record SameMembers (xs ys : List ℤ) : Type 0 where
@@ -27,6 +28,22 @@ pub record SameMembers (xs ys : List ℤ) : Type 0 where
 pub ascending-members : (xs ys : List ℤ) → SameMembers xs ys → ascending xs ≡ ascending ys
 ascending-members xs ys same =
     ascending-is (ascending xs) ys (ascending-rising xs) (λ z c. same.to z (ascending-only z xs c)) (λ z c. ascending-has z xs (same.from z c))
+
+pub same_appended : (xs ys xs' ys' : List ℤ) → SameMembers xs xs' → SameMembers ys ys' → SameMembers (xs ++ ys) (xs' ++ ys')
+same_appended xs ys xs' ys' first second = record {
+  to = λ z c. elim (Contains-append_cases xs ys z c) [ inl a ↦ Contains-append_left xs' ys' z (first.to z a) | inr b ↦ Contains-append_right xs' ys' z (second.to z b) ];
+  from = λ z c. elim (Contains-append_cases xs' ys' z c) [ inl a ↦ Contains-append_left xs ys z (first.from z a) | inr b ↦ Contains-append_right xs ys z (second.from z b) ];
+}
+
+pub same_members : (xs : List ℤ) → SameMembers xs xs
+same_members xs = record { to = λ z c. c; from = λ z c. c }
+
+pub same_joined : (xs ys zs : List ℤ) → SameMembers xs ys → SameMembers ys zs → SameMembers xs zs
+same_joined xs ys zs a b = record { to = λ z c. b.to z (a.to z c); from = λ z c. a.from z (b.from z c) }
+
+-- a list in order has its own members
+pub same_ascending : (xs : List ℤ) → SameMembers (ascending xs) xs
+same_ascending xs = record { to = λ z c. ascending-only z xs c; from = λ z c. ascending-has z xs c }
 
 -- what is kept of a rising list is that of what is kept
 pub filter-ascending : (keep : ℤ → Bool) (xs : List ℤ) → filter keep (ascending xs) ≡ ascending (filter keep xs)
@@ -57,30 +74,22 @@ recurring_starts-kept keep moments zones s c =
 
 -- Ranges of digits.
 
-module _ (zones : List ZoneTable) (s : Stamp) (range : Digits) (low high : ℕ) (cut : IsCutBy range low high) where
-  abbrev pub in_range : ℤ → Bool
+module _ (zones : List ZoneTable) (s : Stamp) (range : Digits) where
+  abbrev in_range : ℤ → Bool
   in_range r = starts_in zones s range r
 
-  own : List ℤ
-  own = if in_range (value_of zones s) then value_of zones s ∷ [] else []
-
-  -- the starts of a rule in the range: its own start, and those of its moments there
-  of_rule : (rule : Rule) (value : ℤ) → value ≡ (reading_of zones s).instant (seconds_since_1970 (written_moment s)) →
-      filter in_range (rule_starts every_moment zones s rule) ≡ filter in_range (value ∷ []) ++ starts_between rule (written_moment s) (reading_of zones s) low high
-  of_rule rule value e = elim (cases_Bool (in_range ((reading_of zones s).instant (seconds_since_1970 (written_moment s))))) [
-    | inl w ↦ rw (e, w) (ap (λ rest. (reading_of zones s).instant (seconds_since_1970 (written_moment s)) ∷ rest) (later_starts_in zones s range low high cut rule (written_moment s)))
-    | inr w ↦ rw (e, w) (later_starts_in zones s range low high cut rule (written_moment s))
-  ]
-
-  -- what is asked for: the start itself, the moments of the rules in the range, and the dates and periods that start there
-  abbrev pub between : Rule → List ℤ
-  between rule = starts_between rule (written_moment s) (reading_of zones s) low high
-
-  abbrev pub own_in_range : List ℤ
+  abbrev own_in_range : List ℤ
   own_in_range = filter in_range (value_of zones s ∷ [])
 
-  abbrev pub asked : Component → List ℤ
-  asked c = (own_in_range ++ flat_map between c.rules) ++ (filter in_range (map (date_start zones s) c.dates) ++ filter in_range (period_starts zones s c))
+  abbrev between : Rule → List ℤ
+  between rule = later_starts zones s range rule
+
+  -- the starts of a rule in the range: its own start, and those of its moments there
+  of_rule : (rule : Rule) (value : ℤ) → value ≡ (reading_of zones s).instant (seconds_since_1970 (written_moment s)) → filter in_range (rule_starts every_moment zones s rule) ≡ filter in_range (value ∷ []) ++ between rule
+  of_rule rule value e = elim (cases_Bool (in_range ((reading_of zones s).instant (seconds_since_1970 (written_moment s))))) [
+    | inl w ↦ rw (e, w) refl
+    | inr w ↦ rw (e, w) refl
+  ]
 
   module _ (value : value_of zones s ≡ (reading_of zones s).instant (seconds_since_1970 (written_moment s))) where
     rules_to : (rules : List Rule) (z : ℤ) → in_range z ≡ true → Contains (flat_map (rule_starts every_moment zones s) rules) z → Contains (own_in_range ++ flat_map between rules) z
@@ -107,66 +116,35 @@ module _ (zones : List ZoneTable) (s : Stamp) (range : Digits) (low high : ℕ) 
       | inr others ↦ (let both = rules_from rules z others in (both.0, Contains-append_right (rule_starts every_moment zones s rule) (flat_map (rule_starts every_moment zones s) rules) z both.1))
     ]
 
-    dates_of : (c : Component) → List ℤ
-    dates_of c = map (date_start zones s) c.dates
-
-    to : (c : Component) (z : ℤ) → Contains (filter in_range (plain_starts every_moment zones s c ++ period_starts zones s c)) z → Contains (asked c) z
-    to c z m =
-        let both = Contains-unfilter in_range z (plain_starts every_moment zones s c ++ period_starts zones s c) m in
-        elim (Contains-append_cases (plain_starts every_moment zones s c) (period_starts zones s c) z both.1) [
-          | inl plain ↦ elim (Contains-append_cases (value_of zones s ∷ flat_map (rule_starts every_moment zones s) c.rules) (map (date_start zones s) c.dates ++ (if is_date s then period_starts zones s c else [])) z plain) [
-            | inl first ↦ front (elim (Contains-split (value_of zones s) z (flat_map (rule_starts every_moment zones s) c.rules) first) [
-              | inl e ↦ Contains-append_left own_in_range (flat_map between c.rules) z (Contains-filter in_range z (value_of zones s ∷ []) both.0 (0, omega arith, e))
-              | inr later ↦ rules_to c.rules z both.0 later
-            ])
-            | inr rest ↦ elim (Contains-append_cases (map (date_start zones s) c.dates) (if is_date s then period_starts zones s c else []) z rest) [
-              | inl date ↦ of_dates (Contains-filter in_range z (map (date_start zones s) c.dates) both.0 date)
-              | inr period ↦ of_periods (Contains-filter in_range z (period_starts zones s c) both.0 (if_period (is_date s) period))
-            ]
-          ]
-          | inr period ↦ of_periods (Contains-filter in_range z (period_starts zones s c) both.0 period)
-        ]
-      where
-        if_period : (b : Bool) → Contains (if b then period_starts zones s c else []) z → Contains (period_starts zones s c) z
-        if_period true m = m
-        if_period false m = let below = m.1 in absurd (omega (arith, below))
-
-        front : Contains (own_in_range ++ flat_map between c.rules) z → Contains (asked c) z
-        front m = Contains-append_left (own_in_range ++ flat_map between c.rules) (filter in_range (map (date_start zones s) c.dates) ++ filter in_range (period_starts zones s c)) z m
-
-        of_dates : Contains (filter in_range (map (date_start zones s) c.dates)) z → Contains (asked c) z
-        of_dates m = Contains-append_right (own_in_range ++ flat_map between c.rules) (filter in_range (map (date_start zones s) c.dates) ++ filter in_range (period_starts zones s c)) z (Contains-append_left (filter in_range (map (date_start zones s) c.dates)) (filter in_range (period_starts zones s c)) z m)
-
-        of_periods : Contains (filter in_range (period_starts zones s c)) z → Contains (asked c) z
-        of_periods m = Contains-append_right (own_in_range ++ flat_map between c.rules) (filter in_range (map (date_start zones s) c.dates) ++ filter in_range (period_starts zones s c)) z (Contains-append_right (filter in_range (map (date_start zones s) c.dates)) (filter in_range (period_starts zones s c)) z m)
-
-    from : (c : Component) (z : ℤ) → Contains (asked c) z → Contains (filter in_range (plain_starts every_moment zones s c ++ period_starts zones s c)) z
-    from c z m = elim (Contains-append_cases (own_in_range ++ flat_map between c.rules) (filter in_range (map (date_start zones s) c.dates) ++ filter in_range (period_starts zones s c)) z m) [
-      | inl first ↦ elim (Contains-append_cases own_in_range (flat_map between c.rules) z first) [
+    -- the start itself and those of the rules
+    of_rules : (rules : List Rule) → SameMembers (own_in_range ++ flat_map between rules) (filter in_range (value_of zones s ∷ flat_map (rule_starts every_moment zones s) rules))
+    of_rules rules = record {
+      to = λ z c. elim (Contains-append_cases own_in_range (flat_map between rules) z c) [
         | inl own ↦ (let both = Contains-unfilter in_range z (value_of zones s ∷ []) own in
-            all both.0 (plain (elim (Contains-split (value_of zones s) z [] both.1) [
-              | inl e ↦ Contains-append_left (value_of zones s ∷ flat_map (rule_starts every_moment zones s) c.rules) (map (date_start zones s) c.dates ++ (if is_date s then period_starts zones s c else [])) z (0, omega arith, e)
-              | inr none ↦ (let below = none.1 in absurd (omega (arith, below)))
-            ])))
-        | inr later ↦ (let both = rules_from c.rules z later in
-            all both.0 (plain (Contains-append_left (value_of zones s ∷ flat_map (rule_starts every_moment zones s) c.rules) (map (date_start zones s) c.dates ++ (if is_date s then period_starts zones s c else [])) z (Contains-there (value_of zones s) z (flat_map (rule_starts every_moment zones s) c.rules) both.1))))
-      ]
-      | inr rest ↦ elim (Contains-append_cases (filter in_range (map (date_start zones s) c.dates)) (filter in_range (period_starts zones s c)) z rest) [
-        | inl date ↦ (let both = Contains-unfilter in_range z (map (date_start zones s) c.dates) date in
-            all both.0 (plain (Contains-append_right (value_of zones s ∷ flat_map (rule_starts every_moment zones s) c.rules) (map (date_start zones s) c.dates ++ (if is_date s then period_starts zones s c else [])) z (Contains-append_left (map (date_start zones s) c.dates) (if is_date s then period_starts zones s c else []) z both.1))))
-        | inr period ↦ (let both = Contains-unfilter in_range z (period_starts zones s c) period in
-            all both.0 (Contains-append_right (plain_starts every_moment zones s c) (period_starts zones s c) z both.1))
-      ]
-    ]
-      where
-        plain : Contains (plain_starts every_moment zones s c) z → Contains (plain_starts every_moment zones s c ++ period_starts zones s c) z
-        plain m = Contains-append_left (plain_starts every_moment zones s c) (period_starts zones s c) z m
+            Contains-filter in_range z (value_of zones s ∷ flat_map (rule_starts every_moment zones s) rules) both.0 (Contains-append_left (value_of zones s ∷ []) (flat_map (rule_starts every_moment zones s) rules) z both.1))
+        | inr later ↦ (let both = rules_from rules z later in
+            Contains-filter in_range z (value_of zones s ∷ flat_map (rule_starts every_moment zones s) rules) both.0 (Contains-there (value_of zones s) z (flat_map (rule_starts every_moment zones s) rules) both.1))
+      ];
+      from = λ z c.
+          let both = Contains-unfilter in_range z (value_of zones s ∷ flat_map (rule_starts every_moment zones s) rules) c in
+          elim (Contains-split (value_of zones s) z (flat_map (rule_starts every_moment zones s) rules) both.1) [
+            | inl e ↦ Contains-append_left own_in_range (flat_map between rules) z (Contains-filter in_range z (value_of zones s ∷ []) both.0 (0, omega arith, e))
+            | inr later ↦ rules_to rules z both.0 later
+          ];
+    }
 
-        all : in_range z ≡ true → Contains (plain_starts every_moment zones s c ++ period_starts zones s c) z → Contains (filter in_range (plain_starts every_moment zones s c ++ period_starts zones s c)) z
-        all lies m = Contains-filter in_range z (plain_starts every_moment zones s c ++ period_starts zones s c) lies m
-
-    -- The starts of a component that recurs, in a range of nominal starts: what is asked for, in order, each once, without the exceptions.
-    pub recurring_starts-in_range : (c : Component) → filter in_range (recurring_starts every_moment zones s c) ≡ filter (λ r. not (is_excepted zones s c r)) (ascending (asked c))
-    recurring_starts-in_range c =
-        recurring_starts-kept in_range every_moment zones s c
-        ∙ ap (filter (λ r. not (is_excepted zones s c r))) (ascending-members (filter in_range (plain_starts every_moment zones s c ++ period_starts zones s c)) (asked c) (record { to = to c; from = from c }))
+    -- what is asked of rules, dates and days are the plain starts in the range
+    pub plain-in_range : (c : Component) (days : List ℤ) → days ≡ filter in_range (if is_date s then period_starts zones s c else []) →
+        SameMembers (own_in_range ++ flat_map between c.rules ++ filter in_range (map (date_start zones s) c.dates) ++ days) (filter in_range (plain_starts every_moment zones s c))
+    plain-in_range c days e =
+        let dated = filter in_range (map (date_start zones s) c.dates) in
+        let by_day = if is_date s then period_starts zones s c else [] in
+        let later = map (date_start zones s) c.dates ++ by_day in
+        let front = own_in_range ++ flat_map between c.rules in
+        let first = value_of zones s ∷ flat_map (rule_starts every_moment zones s) c.rules in
+        let left : front ++ dated ++ days ≡ front ++ filter in_range later =
+            ap (λ (ds : List ℤ). front ++ dated ++ ds) e ∙ (append_assoc front dated (filter in_range by_day) ∙ ap (λ (rest : List ℤ). front ++ rest) (sym (filter-append in_range (map (date_start zones s) c.dates) by_day))) in
+        let right : filter in_range (first ++ later) ≡ filter in_range first ++ filter in_range later = filter-append in_range first later in
+        subst (λ (xs : List ℤ). SameMembers xs (filter in_range (first ++ later))) (sym left)
+        (subst (λ (ys : List ℤ). SameMembers (front ++ filter in_range later) ys) (sym right)
+        (same_appended front (filter in_range later) (filter in_range first) (filter in_range later) (of_rules c.rules) (same_members (filter in_range later))))

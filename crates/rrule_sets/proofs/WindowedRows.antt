@@ -2,6 +2,7 @@
 use Rattle.std.proofs.Common.{◌≡◌, ℕ, ◌≤◌, List, [], ◌∷◌, ◌++◌, map, length, refl, sym, ap, ap₂, ◌∙◌, arith, Bool, true, false, ℤ, inl, inr}
 use Rattle.std.specs.Prelude.{All, Contains, filter, flat_map, not, option_to_list, Option, Some, None, if◌then◌else◌}
 use Rattle.std.proofs.lemmas.Bool.{cases_Bool}
+use Rattle.std.proofs.lemmas.List.{append-nil}
 use Rattle.std.proofs.lemmas.List.Elements.{All-head, All-tail, filter-append}
 use Rattle.cal_moment.specs.declared.stamp.Stamp.{Stamp}
 use Rattle.cal_model.specs.declared.object.Object.{Object}
@@ -61,10 +62,13 @@ module _ (moments : List ℕ) (object : Object) (ids : Stamp) (window : ℤ) (ke
   KeepsWindow = (r : ℤ) → keep r ≡ false → filter lies (row_at moments object ids (starts moments object) r) ≡ []
 
   -- and one on a day that an override names whose own row lies there
-  abbrev pub KeepsNamed : Type 0
-  KeepsNamed =
-      (n : Numbered) (s : Stamp) (midnight r : ℤ) → Contains (starts moments object) r → lies (row_of r (value_of object.zones s) (end_from object.zones n.component (value_of object.zones s)) n.number (kind_of ids) (kind_of s)) ≡ true →
+  abbrev pub KeepsNamedBy : Numbered → Type 0
+  KeepsNamedBy n =
+      (s : Stamp) (midnight r : ℤ) → own_start n.component ≡ Some s → Contains (starts moments object) r → lies (row_of r (value_of object.zones s) (end_from object.zones n.component (value_of object.zones s)) n.number (kind_of ids) (kind_of s)) ≡ true →
       All (λ x. x ≡ on_day midnight → names_start (reading_of object.zones ids) r (on_day midnight) ≡ true → keep r ≡ true) (named_by object.zones ids n)
+
+  abbrev pub KeepsNamed : Type 0
+  KeepsNamed = All KeepsNamedBy (overrides object)
 
   -- the id of such an override
   same_id : (x : Aligned) → ((midnight r : ℤ) → Contains (starts moments object) r → x ≡ on_day midnight → names_start (reading_of object.zones ids) r (on_day midnight) ≡ true → keep r ≡ true) →
@@ -74,7 +78,7 @@ module _ (moments : List ℕ) (object : Object) (ids : Stamp) (window : ℤ) (ke
       ap (first_or_else ((reading_of object.zones ids).instant midnight)) (sym (filter_within keep (λ r. names_start (reading_of object.zones ids) r (on_day midnight)) (starts moments object) (λ r c named. h midnight r c refl named)))
 
   -- whether a row lies in a window doesn't depend on its id
-  module _ (named : KeepsNamed) (n : Numbered) (s : Stamp) where
+  module _ (n : Numbered) (s : Stamp) where
     abbrev made : List ℤ → Aligned → Row
     made all x = row_of (id_of_override object ids all x) (value_of object.zones s) (end_from object.zones n.component (value_of object.zones s)) n.number (kind_of ids) (kind_of s)
 
@@ -89,21 +93,18 @@ module _ (moments : List ℕ) (object : Object) (ids : Stamp) (window : ℤ) (ke
           | inr w ↦ rw w rest
         ]
 
-  own_rows_of : KeepsNamed → (n : Numbered) (ss : List Stamp) →
-      filter lies (flat_map (λ s. override_row_from object ids (starts moments object) n s (value_of object.zones s)) ss) ≡ filter lies (flat_map (λ s. override_row_from object ids kept_starts n s (value_of object.zones s)) ss)
-  own_rows_of named n [] = refl
-  own_rows_of named n (s ∷ ss) =
-      rw (
-        filter-append lies (override_row_from object ids (starts moments object) n s (value_of object.zones s)) (flat_map (λ s. override_row_from object ids (starts moments object) n s (value_of object.zones s)) ss),
-        filter-append lies (override_row_from object ids kept_starts n s (value_of object.zones s)) (flat_map (λ s. override_row_from object ids kept_starts n s (value_of object.zones s)) ss),
-      )
-      (ap₂ (λ xs ys. xs ++ ys) (rows_by named n s (named_by object.zones ids n) (λ midnight r c w. named n s midnight r c w)) (own_rows_of named n ss))
+  own_rows_of : (n : Numbered) → KeepsNamedBy n → (own : Option Stamp) → own_start n.component ≡ own →
+      filter lies (flat_map (λ s. override_row_from object ids (starts moments object) n s (value_of object.zones s)) (option_to_list own)) ≡ filter lies (flat_map (λ s. override_row_from object ids kept_starts n s (value_of object.zones s)) (option_to_list own))
+  own_rows_of n named None e = refl
+  own_rows_of n named (Some s) e =
+      rw (append-nil (override_row_from object ids (starts moments object) n s (value_of object.zones s)), append-nil (override_row_from object ids kept_starts n s (value_of object.zones s)))
+      (rows_by n s (named_by object.zones ids n) (λ midnight r c w. named s midnight r e c w))
 
-  own_rows_from : KeepsNamed → (ns : List Numbered) → filter lies (flat_map (override_row object ids (starts moments object)) ns) ≡ filter lies (flat_map (override_row object ids kept_starts) ns)
-  own_rows_from named [] = refl
-  own_rows_from named (n ∷ ns) =
+  own_rows_from : (ns : List Numbered) → All KeepsNamedBy ns → filter lies (flat_map (override_row object ids (starts moments object)) ns) ≡ filter lies (flat_map (override_row object ids kept_starts) ns)
+  own_rows_from [] named = refl
+  own_rows_from (n ∷ ns) named =
       rw (filter-append lies (override_row object ids (starts moments object) n) (flat_map (override_row object ids (starts moments object)) ns), filter-append lies (override_row object ids kept_starts n) (flat_map (override_row object ids kept_starts) ns))
-      (ap₂ (λ xs ys. xs ++ ys) (own_rows_of named n (option_to_list (own_start n.component))) (own_rows_from named ns))
+      (ap₂ (λ xs ys. xs ++ ys) (own_rows_of n (All-head KeepsNamedBy n ns named) (own_start n.component) refl) (own_rows_from ns (All-tail KeepsNamedBy n ns named)))
 
   -- The rows of a window are made of the starts that are kept.
   pub rows_in-kept : KeepsWindow → KeepsNamed → ids_start object ≡ Some ids → length (masters object) ≤ 1 →
@@ -112,7 +113,7 @@ module _ (moments : List ℕ) (object : Object) (ids : Stamp) (window : ℤ) (ke
       ++ filter lies (filter (λ (r : Row). not (is_named object ids r.id)) (flat_map (row_at moments object ids kept_starts) kept_starts)))
   rows_in-kept within named start one =
       rows_in-parts moments object ids window start one
-      ∙ ap in_order (ap₂ (λ xs ys. xs ++ ys) (own_rows_from named (overrides object)) kept)
+      ∙ ap in_order (ap₂ (λ xs ys. xs ++ ys) (own_rows_from (overrides object) named) kept)
     where
       all_rows : List Row
       all_rows = flat_map (row_at moments object ids (starts moments object)) (starts moments object)

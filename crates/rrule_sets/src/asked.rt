@@ -1,13 +1,6 @@
-//! The starts of a component in a range of digits, before EXDATEs are taken off.
-ghost use Rattle.std.specs.Prelude.{◌≡◌, ℕ, ◌+◌, ◌*◌, ◌<◌, ◌≤◌, ◌++◌, ◌∷◌, List, [], length, filter, flat_map, map, sum, count_by, All, OnOk, false, pos, neg_ℤ, ℤ, ◌-ℤ◌, ◌+ℤ◌};
+//! The starts that a component and its RDATEs give in a range of digits (RFC 5545, 3.8.5.2).
+ghost use Rattle.std.specs.Prelude.{◌≡◌, ℕ, ◌+◌, ◌*◌, ◌<◌, ◌≤◌, ◌++◌, ◌∷◌, List, [], length, filter, map, All, OnOk, pos, neg_ℤ, ℤ, ◌-ℤ◌, ◌+ℤ◌, if◌then◌else◌};
 ghost use Rattle.cal_moment.specs.Calendar.{IsBetween};
-ghost use Rattle.cal_model.specs.declared.rule.Rule.{Rule};
-ghost use Rattle.cal_model.specs.Recurrence.NextPassing.{IsWritten, IsUsable, end_day, is_fine};
-ghost use Rattle.cal_model.specs.Recurrence.RecurrenceSet.{every_moment};
-ghost use Rattle.cal_model.specs.Values.LocalTimes.{moment_of_local};
-ghost use Rattle.cal_model.specs.Walks.Budgets.{last_period, passes_by};
-ghost use Rattle.cal_model.specs.Walks.Clocks.{reading_by, IsClock};
-ghost use Rattle.cal_model.specs.Walks.KeptMoments.{starts_between};
 ghost use Rattle.cal_model.specs.Instances.Alignment as alignment;
 ghost use Rattle.cal_model.specs.Instances.Starts as spec;
 ghost use Rattle.override_merge.specs.AlignedStamps.{aligned_by, HasDigits};
@@ -17,29 +10,12 @@ ghost use Rattle.rrule_sets.specs.PeriodSpans.{IsConvertibleEnd, IsConvertiblePe
 
 use crate::range::{Digits, holds};
 use cal_base::{List, NoMemory, Steps};
-use cal_model::walk::clock::Clock;
-use cal_model::walk::starts::rule_starts;
-use cal_model::{LocalTimes, Rule, Rules};
-use cal_moment::{Local, Period, PeriodEnd, Stamp};
+use cal_model::LocalTimes;
+use cal_moment::{Period, PeriodEnd, Stamp};
 use override_merge::ends::plus_length;
 use override_merge::stamps::{Aligned, align, midnight_of, written_value};
 use override_merge::zones::{instant_beside, local_beside};
-use std::alloc::Global;
 use std::sync::ledger::Ledger;
-
-/// The clock beside which a stamp is written.
-pub fn clock_beside<'a>(zones: &[LocalTimes<'a>], stamp: Stamp) -> Clock<'a>
-    requires { HasZone (length zones.now) stamp }
-    ensures clock { IsClock result }
-    ensures reading { reading_by result ≡ alignment.reading_of (tables_of zones.now) stamp }
-{
-    match stamp {
-        Stamp::Date(_) => Clock::Date,
-        Stamp::Floating(_) => Clock::Floating,
-        Stamp::Zoned(_, number) => Clock::Zoned(zones[number as usize].table),
-        Stamp::Utc(_) => Clock::Utc,
-    }
-}
 
 /// Puts a start behind the others, if its digits lie in a range.
 pub fn put_start(
@@ -55,36 +31,6 @@ pub fn put_start(
 {
     if holds(range, local_beside(zones, stamp, start)) {
         out.push(start)?;
-    }
-    Ok(())
-}
-
-/// Puts the later starts of rules between two moments behind the others.
-pub fn put_rules<R: Rules, L: Ledger>(
-    alloc: Global,
-    body: &R,
-    rules: &[Rule],
-    start: Local,
-    clock: &Clock,
-    low: Local,
-    high: Local,
-    out: &mut List<i64>,
-    steps: &mut Steps<L>,
-) -> Result<(), NoMemory>
-    requires start { IsWritten start }
-    requires low { IsWritten low }
-    requires high { IsWritten high }
-    requires low_before_end { moment_of_local low ≤ 86_400 * end_day }
-    requires clock { IsClock clock.now }
-    requires usable { All IsUsable rules.now }
-    requires coarse { All (λ (rule : Rule). is_fine rule.freq ≡ false) rules.now }
-    ensures steps { steps.new ≤ steps.old + sum (map (λ (rule : Rule). 1 + count_by (passes_by rule (moment_of_local start) (reading_by clock.now).dated (last_period rule (moment_of_local high))) every_moment) rules.now) }
-    ensures starts { OnOk result (out.new ≡ out.old ++ flat_map (λ (rule : Rule). starts_between rule (moment_of_local start) (reading_by clock.now) (moment_of_local low) (moment_of_local high)) rules.now) }
-{
-    let mut rest = rules;
-    'rules: while let Some((rule, behind)) = rest.split_first() {
-        rule_starts(alloc, body, rule, start, clock, low, high, out, steps)?;
-        rest = behind;
     }
     Ok(())
 }
@@ -231,4 +177,18 @@ pub fn put_period_starts(periods: &List<(i64, i64)>, out: &mut List<i64>) -> Res
         rest = behind;
     }
     Ok(())
+}
+
+/// Puts the starts of periods behind others, where they count as local days: beside a DATE.
+pub fn put_days(
+    stamp: Stamp,
+    periods: &List<(i64, i64)>,
+    out: &mut List<i64>,
+) -> Result<(), NoMemory>
+    ensures { OnOk result (out.new ≡ out.old ++ (if spec.is_date stamp then map (λ (period : ℤ × ℤ). period.0) periods.now else [])) }
+{
+    match stamp {
+        Stamp::Date(_) => put_period_starts(periods, out),
+        _ => Ok(()),
+    }
 }

@@ -8,6 +8,8 @@ mod asked;
 mod ends;
 mod fine;
 mod instances;
+mod later;
+mod needed;
 mod range;
 mod undated;
 mod window;

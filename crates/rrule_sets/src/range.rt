@@ -1,5 +1,5 @@
 //! Ranges of local digits.
-ghost use Rattle.std.specs.Prelude.{◌≡◌, ℕ, ◌*◌, ◌<◌, ◌≤◌, nat_le, nat_lt, int_le, int_lt};
+ghost use Rattle.std.specs.Prelude.{◌≡◌, ℕ, ◌*◌, ◌<◌, ◌≤◌, ◌<ℤ◌, ◌≤ℤ◌, pos, neg_ℤ, nat_le, nat_lt, int_le, int_lt};
 ghost use Rattle.cal_moment.specs.Calendar.{seconds_since_1970};
 ghost use Rattle.cal_model.specs.Recurrence.NextPassing.{IsWritten, end_day};
 ghost use Rattle.cal_model.specs.Recurrence.RecurrenceSet.{first_moment};
@@ -11,7 +11,7 @@ use cal_moment::Local;
 use override_merge::zones::local_of;
 
 /// The digits of `FIRST`, 1 January of the year 1, and of `END`, 1 January 2102.
-const FIRST_DIGITS: i64 = -62_135_596_800;
+pub const FIRST_DIGITS: i64 = -62_135_596_800;
 
 const END_DIGITS: i64 = 4_165_516_800;
 
@@ -35,6 +35,8 @@ pub fn moment_at(digits: i64) -> Local
     ensures within { moment_of_local result ≤ 86_400 * end_day }
     ensures from { (m : ℕ) → first_moment ≤ m → m < 86_400 * end_day → nat_le (moment_of_local result) m ≡ int_le digits (seconds_since_1970 m) }
     ensures before { (m : ℕ) → first_moment ≤ m → m < 86_400 * end_day → nat_lt m (moment_of_local result) ≡ int_lt (seconds_since_1970 m) digits }
+    ensures by { (n : ℕ) → neg_ℤ (pos 62_135_596_800) <ℤ digits → digits ≤ℤ seconds_since_1970 n → moment_of_local result ≤ n }
+    ensures early { digits ≤ℤ neg_ℤ (pos 62_135_596_800) → moment_of_local result ≡ first_moment }
 {
     if digits <= FIRST_DIGITS {
         FIRST

@@ -9,7 +9,7 @@ use Rattle.std.proofs.lemmas.List.Elements.{All-head, All-tail}
 use Rattle.cal_model.specs.declared.rule.Rule.{Rule}
 use Rattle.cal_model.specs.Recurrence.NextPassing.{IsUsable, is_fine}
 use Rattle.rrule_sets.proofs.AskedLemmas.{more, counted_more}
-use Rattle.rrule_sets.proofs.asked.put_rules.Goals as goal
+use Rattle.rrule_sets.proofs.later.put_rules.Goals as goal
 
 pub rule_starts-requires-clause-rule : goal.rule_starts-requires-clause-rule
 rule_starts-requires-clause-rule g c =

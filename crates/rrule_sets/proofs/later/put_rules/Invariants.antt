@@ -7,7 +7,7 @@ use Rattle.cal_model.specs.Values.LocalTimes.{moment_of_local}
 use Rattle.cal_model.specs.Walks.Budgets.{last_period, passes_by}
 use Rattle.cal_model.specs.Walks.Clocks.{reading_by}
 use Rattle.cal_model.specs.Walks.KeptMoments.{starts_between}
-use Rattle.rrule_sets.proofs.asked.put_rules.Given as goal
+use Rattle.rrule_sets.proofs.later.put_rules.Given as goal
 
 -- the starts so far, and those of the rules that are left; the steps so far, and what these may take
 abbrev pub invariant-rules : goal.invariant-rules
