@@ -1,7 +1,7 @@
 -- One more of what is asked for.
 use Rattle.std.proofs.Common.{◌≡◌, ℕ, ◌+◌, ◌≤◌, List, [], ◌∷◌, ◌++◌, map, sym, ap, ◌∙◌, arith, Bool, ℤ, inl, inr}
 use Rattle.std.proofs.lemmas.Bool.{cases_Bool}
-use Rattle.std.specs.Prelude.{filter, flat_map, sum, fold}
+use Rattle.std.specs.Prelude.{filter, flat_map, sum, fold, OnOk, Result, Ok, Err}
 use Rattle.std.proofs.lemmas.List.{append_assoc}
 use Rattle.std.proofs.lemmas.List.Elements.{filter-append}
 
@@ -33,3 +33,8 @@ mapped_more p f done whole x behind e = elim (cases_Bool (p x)) [
   | inl w ↦ (let all = rw w at e in rw w (append_assoc done (f x ∷ []) (map f (filter p behind)) ∙ all))
   | inr w ↦ (let all = rw w at e in rw w (append_assoc done [] (map f (filter p behind)) ∙ all))
 ]
+
+-- what follows of two facts at Ok
+pub on_ok_both : {A E : Type 0} (P Q R : Type 0) (r : Result A E) → (P → Q → R) → OnOk r P → OnOk r Q → OnOk r R
+on_ok_both P Q R (Ok x) f p q = f p q
+on_ok_both P Q R (Err e) f p q = tt

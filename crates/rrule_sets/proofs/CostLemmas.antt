@@ -13,7 +13,7 @@ use Rattle.cal_model.specs.declared.rule.Rule.{Rule}
 use Rattle.cal_model.specs.Instances.Alignment.{written_moment}
 use Rattle.cal_model.specs.Instances.Starts.{is_date}
 use Rattle.cal_model.specs.Instances.Rows.{Numbered, has_id, numbered_from}
-use Rattle.cal_model.specs.Ranges.Cost.{component_cost, cost_up_to, dates_of, passing_up_to, rule_cost}
+use Rattle.cal_model.specs.Ranges.Cost.{component_cost, cost, dates_of, last_day, passing_up_to, rule_cost}
 use Rattle.cal_model.specs.Recurrence.RecurrenceSet.{every_moment}
 use Rattle.cal_model.specs.Walks.Budgets.{last_period, passes_by}
 use Rattle.cal_model.specs.Walks.KeptMoments.{number_of}
@@ -108,3 +108,7 @@ parts_cost day number (c ∷ cs) =
       | inl w ↦ rw w (let id : 1 ≤ component_cost every_moment day c = rw w at (ids_within day c) in omega (arith, rest, all, id))
       | inr w ↦ rw w (let more = sum-cons (component_cost every_moment day c) (map (λ (n : Numbered). component_cost every_moment day n.component) (masters_from (number + 1) cs)) in omega (arith, rest, all, more))
     ]
+
+-- the overrides that were looked at, and what the master took
+pub window_counted : (object : Object) (window : ℤ) (before looked made : ℕ) → looked ≡ before + overrides_in object.components → made ≤ looked + masters_cost (last_day object window) (masters_from 0 object.components) → made + 1 ≤ before + cost object window
+window_counted object window before looked made a b = let parts = parts_cost (last_day object window) 0 object.components in omega (arith, a, b, parts)

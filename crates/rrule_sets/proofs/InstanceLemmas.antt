@@ -115,24 +115,24 @@ module _ (zones : List ZoneTable) (s : Stamp) (c : Component) (number : ℕ) (ra
   starts_then : (b : Bool) → recurs c ≡ b → own_start c ≡ Some s → starts_from every_moment zones c (own_start c) ≡ (if b then recurring_starts every_moment zones s c else value_of zones s ∷ [])
   starts_then b e own = ap (starts_from every_moment zones c) own ∙ ap (λ (v : Bool). if v then recurring_starts every_moment zones s c else value_of zones s ∷ []) e
 
-  module _ (yes : recurs c ≡ true) where
+  module _ (it_does : recurs c ≡ true) where
     end_same : (r : ℤ) → in_range r ≡ true → end_by zones s c.extent plain spans r ≡ end_of_instance every_moment zones s c r
     end_same r lies =
-        let plain_there : list_any (same_int r) plain ≡ list_any (same_int r) (plain_starts every_moment zones s c) = ap (list_any (same_int r)) (plain_then true yes) ∙ any_kept in_range r (plain_starts every_moment zones s c) lies in
-        let last = latest_kept in_range r (map (period_span zones s) c.periods) spans lies (spans_then true yes) in
+        let plain_there : list_any (same_int r) plain ≡ list_any (same_int r) (plain_starts every_moment zones s c) = ap (list_any (same_int r)) (plain_then true it_does) ∙ any_kept in_range r (plain_starts every_moment zones s c) lies in
+        let last = latest_kept in_range r (map (period_span zones s) c.periods) spans lies (spans_then true it_does) in
         ap₂ (λ (b : Bool) (end : ℤ). if b then end_of_extent zones s c.extent r else end) plain_there (last ∙ ap (latest_of r) (ends_of_periods zones s r c.periods))
 
     members : SameMembers (plain ++ firsts) (filter in_range (plain_starts every_moment zones s c ++ period_starts zones s c))
     members =
-        let of_spans = firsts_kept in_range (map (period_span zones s) c.periods) spans (spans_then true yes) in
+        let of_spans = firsts_kept in_range (map (period_span zones s) c.periods) spans (spans_then true it_does) in
         let of_periods : SameMembers firsts (filter in_range (period_starts zones s c)) = subst (λ (xs : List ℤ). SameMembers firsts (filter in_range xs)) (firsts_of_periods zones s c.periods) of_spans in
-        let of_plain : SameMembers plain (filter in_range (plain_starts every_moment zones s c)) = subst (λ (xs : List ℤ). SameMembers xs (filter in_range (plain_starts every_moment zones s c))) (sym (plain_then true yes)) (same_ascending (filter in_range (plain_starts every_moment zones s c))) in
+        let of_plain : SameMembers plain (filter in_range (plain_starts every_moment zones s c)) = subst (λ (xs : List ℤ). SameMembers xs (filter in_range (plain_starts every_moment zones s c))) (sym (plain_then true it_does)) (same_ascending (filter in_range (plain_starts every_moment zones s c))) in
         subst (λ (ys : List ℤ). SameMembers (plain ++ firsts) ys) (sym (filter-append in_range (plain_starts every_moment zones s c) (period_starts zones s c)))
         (same_appended plain firsts (filter in_range (plain_starts every_moment zones s c)) (filter in_range (period_starts zones s c)) of_plain of_periods)
 
     recurring : filter (λ r. not (has_name (reading_of zones s) r excepted)) (ascending (plain ++ firsts)) ≡ filter in_range (recurring_starts every_moment zones s c)
     recurring =
-        filter_agree (λ r. not (has_name (reading_of zones s) r excepted)) (λ r. not (is_excepted zones s c r)) (λ r. ap not (named_then true yes r)) (ascending (plain ++ firsts))
+        filter_agree (λ r. not (has_name (reading_of zones s) r excepted)) (λ r. not (is_excepted zones s c r)) (λ r. ap not (named_then true it_does r)) (ascending (plain ++ firsts))
         ∙ (ap (filter (λ r. not (is_excepted zones s c r))) (ascending-members (plain ++ firsts) (filter in_range (plain_starts every_moment zones s c ++ period_starts zones s c)) members)
         ∙ sym (recurring_starts-kept in_range every_moment zones s c))
 
@@ -142,11 +142,11 @@ module _ (zones : List ZoneTable) (s : Stamp) (c : Component) (number : ℕ) (ra
         ∙ (map_each (row_by zones s c.extent plain spans number) (instance_row zones s c number) (filter in_range (recurring_starts every_moment zones s c))
         (All-weaker (λ r. in_range r ≡ true) (λ r. row_by zones s c.extent plain spans number r ≡ instance_row zones s c number r) (λ r lies. row_same r (end_same r lies))
         (filter in_range (recurring_starts every_moment zones s c)) (filter_passes in_range (recurring_starts every_moment zones s c)))
-        ∙ ap (λ (starts : List ℤ). map (instance_row zones s c number) (filter in_range starts)) (sym (starts_then true yes own)))
+        ∙ ap (λ (starts : List ℤ). map (instance_row zones s c number) (filter in_range starts)) (sym (starts_then true it_does own)))
 
-  module _ (no : recurs c ≡ false) where
+  module _ (it_does_not : recurs c ≡ false) where
     no_spans : spans ≡ []
-    no_spans = none_of spans (λ span there. (let back = Contains-permutation spans [] span (IsPermutation-sym [] spans (spans_then false no)) there in let below = back.1 in omega (arith, below)))
+    no_spans = none_of spans (λ span there. (let back = Contains-permutation spans [] span (IsPermutation-sym [] spans (spans_then false it_does_not)) there in let below = back.1 in omega (arith, below)))
 
     end_of_one : (r : ℤ) → r ≡ value_of zones s → plain ≡ r ∷ [] → end_by zones s c.extent plain spans r ≡ end_of_instance every_moment zones s c r
     end_of_one r e only =
@@ -161,15 +161,15 @@ module _ (zones : List ZoneTable) (s : Stamp) (c : Component) (number : ℕ) (ra
     one_made xs all false out e = ap (λ (starts : List ℤ). map (row_by zones s c.extent plain spans number) (filter (λ r. not (has_name (reading_of zones s) r excepted)) (ascending starts))) (all ∙ e)
     one_made xs all true lies e =
         ap (λ (starts : List ℤ). map (row_by zones s c.extent plain spans number) (filter (λ r. not (has_name (reading_of zones s) r excepted)) (ascending starts))) (all ∙ e)
-        ∙ (ap (λ (b : Bool). map (row_by zones s c.extent plain spans number) (if not b then value_of zones s ∷ [] else [])) (named_then false no (value_of zones s))
+        ∙ (ap (λ (b : Bool). map (row_by zones s c.extent plain spans number) (if not b then value_of zones s ∷ [] else [])) (named_then false it_does_not (value_of zones s))
         ∙ ap (λ (row : Row). row ∷ []) (row_same (value_of zones s) (end_of_one (value_of zones s) refl (only_one lies))))
       where
         only_one : in_range (value_of zones s) ≡ true → plain ≡ value_of zones s ∷ []
-        only_one lies = plain_then false no ∙ ap (λ (b : Bool). ascending (if b then value_of zones s ∷ [] else [])) lies
+        only_one lies = plain_then false it_does_not ∙ ap (λ (b : Bool). ascending (if b then value_of zones s ∷ [] else [])) lies
 
     plain_alone : (b : Bool) → in_range (value_of zones s) ≡ b → plain ++ firsts ≡ (if b then value_of zones s ∷ [] else [])
     plain_alone b lies =
-        ap₂ (λ (xs : List ℤ) (ys : List (ℤ × ℤ)). xs ++ map (λ (span : ℤ × ℤ). span.0) ys) (plain_then false no ∙ ap (λ (v : Bool). ascending (if v then value_of zones s ∷ [] else [])) lies) no_spans
+        ap₂ (λ (xs : List ℤ) (ys : List (ℤ × ℤ)). xs ++ map (λ (span : ℤ × ℤ). span.0) ys) (plain_then false it_does_not ∙ ap (λ (v : Bool). ascending (if v then value_of zones s ∷ [] else [])) lies) no_spans
         ∙ alone b
       where
         alone : (v : Bool) → ascending (if v then value_of zones s ∷ [] else []) ++ [] ≡ (if v then value_of zones s ∷ [] else [])
@@ -179,13 +179,13 @@ module _ (zones : List ZoneTable) (s : Stamp) (c : Component) (number : ℕ) (ra
     of_one : own_start c ≡ Some s → made ≡ instances_in zones s c number range
     of_one own =
         one_made (if in_range (value_of zones s) then value_of zones s ∷ [] else []) (plain_alone (in_range (value_of zones s)) refl) (in_range (value_of zones s)) refl refl
-        ∙ ap (λ (starts : List ℤ). map (instance_row zones s c number) (filter in_range starts)) (sym (starts_then false no own))
+        ∙ ap (λ (starts : List ℤ). map (instance_row zones s c number) (filter in_range starts)) (sym (starts_then false it_does_not own))
 
   -- the rows that are made of what is asked for are those of the instances in the range
   pub instances_found : own_start c ≡ Some s → made ≡ instances_in zones s c number range
   instances_found own = elim (cases_Bool (recurs c)) [
-    | inl yes ↦ of_recurring yes own
-    | inr no ↦ of_one no own
+    | inl it_does ↦ of_recurring it_does own
+    | inr it_does_not ↦ of_one it_does_not own
   ]
 
 -- What a component that recurs is asked for.
@@ -199,28 +199,28 @@ pub plain_asked : (zones : List ZoneTable) (s : Stamp) (range : Digits) (c : Com
     own ≡ filter (starts_in zones s range) (value_of zones s ∷ []) → spans ≡ filter (span_starts_in zones s range) (map (period_span zones s) c.periods) →
     plain ≡ own ++ flat_map (later_starts zones s range) c.rules ++ filter (starts_in zones s range) (map (date_start zones s) c.dates) ++ (if is_date s then map (λ (span : ℤ × ℤ). span.0) spans else []) →
     ascending plain ≡ ascending (filter (starts_in zones s range) (plain_of zones s c))
-plain_asked zones s range c own plain spans value yes own_is spans_are plain_is =
+plain_asked zones s range c own plain spans value it_does own_is spans_are plain_is =
     let days = if is_date s then map (λ (span : ℤ × ℤ). span.0) spans else [] in
     let later = flat_map (later_starts zones s range) c.rules in
     let dates = filter (starts_in zones s range) (map (date_start zones s) c.dates) in
     let first = filter (starts_in zones s range) (value_of zones s ∷ []) in
     let days_are : days ≡ filter (starts_in zones s range) (if is_date s then period_starts zones s c else []) =
-        ap (λ (xs : List (ℤ × ℤ)). if is_date s then map (λ (span : ℤ × ℤ). span.0) xs else []) spans_are ∙ days_of zones s range c (is_date s) in
+    ap (λ (xs : List (ℤ × ℤ)). if is_date s then map (λ (span : ℤ × ℤ). span.0) xs else []) spans_are ∙ days_of zones s range c (is_date s) in
     let all : plain ≡ first ++ later ++ dates ++ days = plain_is ∙ ap (λ (xs : List ℤ). xs ++ later ++ dates ++ days) own_is in
     ap ascending all
     ∙ (ascending-members (first ++ later ++ dates ++ days) (filter (starts_in zones s range) (plain_starts every_moment zones s c)) (plain-in_range zones s range value c days days_are)
-    ∙ ap (λ (b : Bool). ascending (filter (starts_in zones s range) (if b then plain_starts every_moment zones s c else value_of zones s ∷ []))) (sym yes))
+    ∙ ap (λ (b : Bool). ascending (filter (starts_in zones s range) (if b then plain_starts every_moment zones s c else value_of zones s ∷ []))) (sym it_does))
 
 pub spans_asked : (zones : List ZoneTable) (s : Stamp) (range : Digits) (c : Component) (old new : List (ℤ × ℤ)) → recurs c ≡ true → old ≡ [] → new ≡ old ++ filter (span_starts_in zones s range) (map (period_span zones s) c.periods) →
     new ≡ filter (span_starts_in zones s range) (spans_of zones s c)
-spans_asked zones s range c old new yes empty e =
+spans_asked zones s range c old new it_does empty e =
     e ∙ (ap (λ (xs : List (ℤ × ℤ)). xs ++ filter (span_starts_in zones s range) (map (period_span zones s) c.periods)) empty
-    ∙ ap (λ (b : Bool). filter (span_starts_in zones s range) (if b then map (period_span zones s) c.periods else [])) (sym yes))
+    ∙ ap (λ (b : Bool). filter (span_starts_in zones s range) (if b then map (period_span zones s) c.periods else [])) (sym it_does))
 
 pub plain_alone_asked : (zones : List ZoneTable) (s : Stamp) (range : Digits) (c : Component) (own : List ℤ) → recurs c ≡ false → own ≡ filter (starts_in zones s range) (value_of zones s ∷ []) →
     ascending own ≡ ascending (filter (starts_in zones s range) (plain_of zones s c))
-plain_alone_asked zones s range c own no e =
-    ap ascending e ∙ ap (λ (b : Bool). ascending (filter (starts_in zones s range) (if b then plain_starts every_moment zones s c else value_of zones s ∷ []))) (sym no)
+plain_alone_asked zones s range c own it_does_not e =
+    ap ascending e ∙ ap (λ (b : Bool). ascending (filter (starts_in zones s range) (if b then plain_starts every_moment zones s c else value_of zones s ∷ []))) (sym it_does_not)
 
 pub no_spans_asked : (zones : List ZoneTable) (s : Stamp) (range : Digits) (c : Component) (old : List (ℤ × ℤ)) → recurs c ≡ false → old ≡ [] → old ≡ filter (span_starts_in zones s range) (spans_of zones s c)
-no_spans_asked zones s range c old no e = e ∙ ap (λ (b : Bool). filter (span_starts_in zones s range) (if b then map (period_span zones s) c.periods else [])) (sym no)
+no_spans_asked zones s range c old it_does_not e = e ∙ ap (λ (b : Bool). filter (span_starts_in zones s range) (if b then map (period_span zones s) c.periods else [])) (sym it_does_not)

@@ -3,7 +3,6 @@ pub mod DateStarts
 pub mod DigitLemmas
 pub mod EndLemmas
 pub mod InstanceLemmas
-pub mod MasterLemmas
 pub mod NearLemmas
 pub mod NeededLemmas
 pub mod ReadLemmas

@@ -41,16 +41,16 @@ use Rattle.rrule_sets.proofs.InstanceLemmas.{firsts_of_periods}
 -- The start of a component that recurs.
 
 recurring_start_of : (kind : Kind) (start : Option Stamp) (said : Extent) (s : Stamp) → recurs_of kind start ≡ true → own_start_of kind start said ≡ Some s → start ≡ Some s
-recurring_start_of FreeBusy start said s yes own = absurd cc
-recurring_start_of Event None said s yes own = absurd cc
-recurring_start_of Event (Some x) said s yes own = own
-recurring_start_of Todo None said s yes own = absurd cc
-recurring_start_of Todo (Some x) said s yes own = own
-recurring_start_of Journal None said s yes own = absurd cc
-recurring_start_of Journal (Some x) said s yes own = own
+recurring_start_of FreeBusy start said s it_does own = absurd cc
+recurring_start_of Event None said s it_does own = absurd cc
+recurring_start_of Event (Some x) said s it_does own = own
+recurring_start_of Todo None said s it_does own = absurd cc
+recurring_start_of Todo (Some x) said s it_does own = own
+recurring_start_of Journal None said s it_does own = absurd cc
+recurring_start_of Journal (Some x) said s it_does own = own
 
 pub recurring_start : (c : Component) (s : Stamp) → recurs c ≡ true → own_start c ≡ Some s → c.start ≡ Some s
-recurring_start c s yes own = recurring_start_of c.kind c.start c.extent s yes own
+recurring_start c s it_does own = recurring_start_of c.kind c.start c.extent s it_does own
 
 pub served_start : (start : Option Stamp) (s : Stamp) → start ≡ Some s → All IsServed (option_to_list start) → IsServed s
 served_start start s e all = All-head IsServed s [] (rw e at all)
@@ -121,20 +121,20 @@ module _ (zones : List ZoneTable) (s : Stamp) (c : Component) (count : ℕ) (sho
 
   pub plain_near : All IsNearRow (plain_of zones s c)
   plain_near = elim (cases_Bool (recurs c)) [
-    | inl yes ↦ (let served = served_start c.start s (recurring_start c s yes own) is.served in
+    | inl it_does ↦ (let served = served_start c.start s (recurring_start c s it_does own) is.served in
         let value = value_near zones s short written in
-        rw yes
+        rw it_does
         (All-append IsNearRow (value_of zones s ∷ flat_map (rule_starts every_moment zones s) c.rules) (map (date_start zones s) c.dates ++ (if is_date s then period_starts zones s c else []))
         (All-cons IsNearRow (value_of zones s) (flat_map (rule_starts every_moment zones s) c.rules) value
         (All-flat_map IsNearRow (rule_starts every_moment zones s) c.rules (All-everywhere (λ rule. All IsNearRow (rule_starts every_moment zones s rule)) (λ rule. rule_near zones s rule short served value) c.rules)))
         (All-append IsNearRow (map (date_start zones s) c.dates) (if is_date s then period_starts zones s c else []) dates_near (if_dated (is_date s)))))
-    | inr no ↦ rw no (All-cons IsNearRow (value_of zones s) [] (value_near zones s short written) (All-nil IsNearRow))
+    | inr it_does_not ↦ rw it_does_not (All-cons IsNearRow (value_of zones s) [] (value_near zones s short written) (All-nil IsNearRow))
   ]
 
   spans_near : All (λ (span : ℤ × ℤ). IsNearRow span.0) (spans_of zones s c)
   spans_near = elim (cases_Bool (recurs c)) [
-    | inl yes ↦ rw yes (All-map (λ (span : ℤ × ℤ). IsNearRow span.0) (period_span zones s) c.periods (All-weaker (IsConvertiblePeriod count) (λ (p : Period). IsNearRow (date_start zones s p.start)) (λ p there. date_start_near zones s p.start short there.start.near) c.periods is.periods))
-    | inr no ↦ rw no (All-nil (λ (span : ℤ × ℤ). IsNearRow span.0))
+    | inl it_does ↦ rw it_does (All-map (λ (span : ℤ × ℤ). IsNearRow span.0) (period_span zones s) c.periods (All-weaker (IsConvertiblePeriod count) (λ (p : Period). IsNearRow (date_start zones s p.start)) (λ p there. date_start_near zones s p.start short there.start.near) c.periods is.periods))
+    | inr it_does_not ↦ rw it_does_not (All-nil (λ (span : ℤ × ℤ). IsNearRow span.0))
   ]
 
   -- and so do those that are asked for in a range

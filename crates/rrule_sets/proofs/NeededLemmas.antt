@@ -1,6 +1,8 @@
 -- The digits that a window needs, component by component.
-use Rattle.std.proofs.Common.{◌≡◌, ℕ, ◌+◌, List, [], ◌∷◌, ◌++◌, length, refl, sym, subst, arith, ℤ, pos, ◌+ℤ◌, ◌*ℤ◌, ◌≤ℤ◌}
-use Rattle.std.specs.Prelude.{All, flat_map, option_to_list, Option}
+use Rattle.std.proofs.Common.{◌≡◌, ℕ, ◌+◌, List, [], ◌∷◌, ◌++◌, length, refl, sym, subst, arith, ℤ, pos, ◌+ℤ◌, ◌*ℤ◌, ◌≤ℤ◌, inl, inr}
+use Rattle.std.specs.Prelude.{All, flat_map, int_lt, option_to_list, Option}
+use Rattle.std.specs.Int.{int_max}
+use Rattle.std.proofs.lemmas.Bool.{cases_Bool}
 use Rattle.std.proofs.lemmas.Int.{ints}
 use Rattle.std.proofs.lemmas.List.Elements.{All-nil, All-append, All-weaker}
 use Rattle.cal_moment.specs.declared.stamp.Stamp.{Stamp}
@@ -11,12 +13,16 @@ use Rattle.cal_model.proofs.Words.AllLemmas.{All-left, All-right}
 use Rattle.rrule_sets.specs.declared.range.Digits.{Digits}
 use Rattle.rrule_sets.specs.NeededDigits.{HasDay, HasRange, HasWindow, days_needed}
 
+-- the greater of two numbers is no more than what both are
+pub max_least : (x y z : ℤ) → x ≤ℤ z → y ≤ℤ z → int_max x y ≤ℤ z
+max_least x y z a b = elim (cases_Bool (int_lt y x)) [ inl w ↦ rw w a | inr w ↦ rw w b ]
+
 abbrev pub EndsBefore : ℤ → ℤ → Type 0
 EndsBefore z midnight = (midnight +ℤ pos 86400) ≤ℤ z
 
 -- What a range has so far, where some components are left: whatever has it and the days of those has the days of all, and it ends no later than the window and these days.
 pub record IsNeededSoFar (zones : List ZoneTable) (ids : Stamp) (window : ℤ) (all rest : List Component) (range : Digits) : Type 0 where
-  pub window : HasWindow window range
+  pub has_window : HasWindow window range
   pub days : (wide : Digits) → HasRange wide range → All (HasDay wide) (flat_map (days_needed zones ids window) rest) → All (HasDay wide) (flat_map (days_needed zones ids window) all)
   pub least : (z : ℤ) → ((window +ℤ pos 1) *ℤ window_seconds) ≤ℤ z → All (EndsBefore z) (flat_map (days_needed zones ids window) all) → (range.high ≤ℤ z) × All (EndsBefore z) (flat_map (days_needed zones ids window) rest)
 
@@ -29,7 +35,7 @@ has_day wide range midnight a b = let af = a.from in let at_end = a.to in let bf
 module _ (zones : List ZoneTable) (ids : Stamp) (window : ℤ) where
   pub needed_first : (all : List Component) (range : Digits) → range.low ≡ window *ℤ window_seconds → range.high ≡ (window +ℤ pos 1) *ℤ window_seconds → IsNeededSoFar zones ids window all all range
   needed_first all range low high = record {
-    window = record { from = omega (arith, ints, low); to = omega (arith, ints, high) };
+    has_window = record { from = omega (arith, ints, low); to = omega (arith, ints, high) };
     days = λ wide has days. days;
     least = λ z by days. (omega (arith, ints, high, by), days);
   }
@@ -37,7 +43,7 @@ module _ (zones : List ZoneTable) (ids : Stamp) (window : ℤ) where
   pub needed_more : (all : List Component) (c : Component) (cs : List Component) (range wide : Digits) (day : Option ℤ) → IsNeededSoFar zones ids window all (c ∷ cs) range → option_to_list day ≡ days_needed zones ids window c →
       HasRange wide range → All (HasDay wide) (option_to_list day) → ((z : ℤ) → range.high ≤ℤ z → All (EndsBefore z) (option_to_list day) → wide.high ≤ℤ z) → IsNeededSoFar zones ids window all cs wide
   needed_more all c cs range wide day so_far is has there least = record {
-    window = (let own = so_far.window in let of = own.from in let ot = own.to in let hf = has.from in let ht = has.to in record { from = omega (arith, ints, of, hf); to = omega (arith, ints, ot, ht) });
+    has_window = (let own = so_far.has_window in let of = own.from in let ot = own.to in let hf = has.from in let ht = has.to in record { from = omega (arith, ints, of, hf); to = omega (arith, ints, ot, ht) });
     days = λ wider more days. so_far.days wider (has_range wider wide range more has)
         (All-append (HasDay wider) (days_needed zones ids window c) (flat_map (days_needed zones ids window) cs)
         (subst (All (HasDay wider)) is (All-weaker (HasDay wide) (HasDay wider) (λ midnight here. has_day wider wide midnight more here) (option_to_list day) there)) days);

@@ -143,7 +143,7 @@ module _ (zones : List ZoneTable) (s : Stamp) (range : Digits) where
         let front = own_in_range ++ flat_map between c.rules in
         let first = value_of zones s ∷ flat_map (rule_starts every_moment zones s) c.rules in
         let left : front ++ dated ++ days ≡ front ++ filter in_range later =
-            ap (λ (ds : List ℤ). front ++ dated ++ ds) e ∙ (append_assoc front dated (filter in_range by_day) ∙ ap (λ (rest : List ℤ). front ++ rest) (sym (filter-append in_range (map (date_start zones s) c.dates) by_day))) in
+        ap (λ (ds : List ℤ). front ++ dated ++ ds) e ∙ (append_assoc front dated (filter in_range by_day) ∙ ap (λ (rest : List ℤ). front ++ rest) (sym (filter-append in_range (map (date_start zones s) c.dates) by_day))) in
         let right : filter in_range (first ++ later) ≡ filter in_range first ++ filter in_range later = filter-append in_range first later in
         subst (λ (xs : List ℤ). SameMembers xs (filter in_range (first ++ later))) (sym left)
         (subst (λ (ys : List ℤ). SameMembers (front ++ filter in_range later) ys) (sym right)

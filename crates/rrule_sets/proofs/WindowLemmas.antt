@@ -35,9 +35,9 @@ use Rattle.cal_model.proofs.Words.IntegerLemmas.{same_int-self, same_int-true}
 use Rattle.override_merge.specs.Conversions.{HasRowTimes, IsRowTime}
 use Rattle.override_merge.specs.NamedStarts.{days_in, named_beside}
 use Rattle.rrule_sets.specs.declared.range.Digits.{Digits}
-use Rattle.rrule_sets.specs.AskedStarts.{instance_row, instances_in}
+use Rattle.rrule_sets.specs.AskedStarts.{IsExpandable, instance_row, instances_in}
 use Rattle.rrule_sets.specs.DigitRanges.{in_digits, starts_in}
-use Rattle.rrule_sets.specs.MasterRows.{rows_of_master}
+use Rattle.rrule_sets.specs.MasterRows.{masters_from, rows_of_master}
 use Rattle.rrule_sets.specs.NeededDigits.{EndsBy, HasDay, HasWindow, days_needed, days_of_start, id_days}
 use Rattle.rrule_sets.proofs.WindowedRows.{KeepsNamed, KeepsNamedBy, KeepsWindow, rows_in-kept}
 
@@ -156,8 +156,8 @@ module _ (object : Object) (ids : Stamp) (window : ℤ) (range : Digits) (aligne
       let inside = row_there true n s (row_of r (value_of object.zones s) (end_from object.zones n.component (value_of object.zones s)) n.number (kind_of ids) (kind_of s)) stands own refl there in
       let same : same_int (window_at ((reading_of object.zones s).local (value_of object.zones s))) window ≡ true = ap (λ (w : ℤ). same_int w window) inside ∙ same_int-self window in
       let all : days_needed object.zones ids window n.component ≡ id_days object.zones ids n.component =
-          ap (λ (start : Option Stamp). flat_map (days_of_start object.zones ids window n.component) (option_to_list start)) own
-          ∙ (append-nil (days_of_start object.zones ids window n.component s) ∙ ap (λ (b : Bool). if b then id_days object.zones ids n.component else []) same) in
+      ap (λ (start : Option Stamp). flat_map (days_of_start object.zones ids window n.component) (option_to_list start)) own
+      ∙ (append-nil (days_of_start object.zones ids window n.component s) ∙ ap (λ (b : Bool). if b then id_days object.zones ids n.component else []) same) in
       named_days midnight r (named_by object.zones ids n) (subst (All (HasDay range)) all days)
 
   pub keeps_named : All (HasDay range) (flat_map (days_needed object.zones ids window) object.components) → KeepsNamed every_moment object ids window keep
@@ -191,10 +191,10 @@ module _ (object : Object) (ids : Stamp) (range : Digits) where
       let made = instances_in object.zones s n.component n.number range in
       let first : rows_of_master object.zones range n ++ [] ≡ made = append-nil (rows_of_master object.zones range n) ∙ (ap (λ (own : Option Stamp). flat_map (λ s. instances_in object.zones s n.component n.number range) (option_to_list own)) e ∙ append-nil made) in
       let kept : kept_of (n ∷ []) ≡ filter (starts_in object.zones s range) (starts_of every_moment object.zones n.component) =
-          ap (filter keep_there) (append-nil (starts_of every_moment object.zones n.component)) ∙ ap (λ (t : Stamp). filter (starts_in object.zones t range) (starts_of every_moment object.zones n.component)) same in
+      ap (filter keep_there) (append-nil (starts_of every_moment object.zones n.component)) ∙ ap (λ (t : Stamp). filter (starts_in object.zones t range) (starts_of every_moment object.zones n.component)) same in
       let each : (r : ℤ) → flat_map (master_row every_moment object ids r) (n ∷ []) ≡ instance_row object.zones s n.component n.number r ∷ [] =
-          λ r. append-nil (master_row every_moment object ids r n)
-          ∙ ap₂ (λ (own : Option Stamp) (t : Stamp). map (λ s. row_of r r (end_of_instance every_moment object.zones s n.component r) n.number (kind_of t) (kind_of s)) (option_to_list own)) e same in
+      λ r. append-nil (master_row every_moment object ids r n)
+      ∙ ap₂ (λ (own : Option Stamp) (t : Stamp). map (λ s. row_of r r (end_of_instance every_moment object.zones s n.component r) n.number (kind_of t) (kind_of s)) (option_to_list own)) e same in
       first
       ∙ (flat_map_one (instance_row object.zones s n.component n.number) (λ r. flat_map (master_row every_moment object ids r) (n ∷ [])) each (filter (starts_in object.zones s range) (starts_of every_moment object.zones n.component))
       ∙ ap (flat_map (λ r. flat_map (master_row every_moment object ids r) (n ∷ []))) (sym kept))
@@ -347,7 +347,7 @@ ends_by_last object ids window range aligned least =
     let same : greatest days ≡ greatest (days_named_from object (ids_start object)) = ap (λ (start : Option Stamp). greatest (days_named_from object start)) aligned in
     let counted : greatest days ≤ last = omega (arith, same) in
     let named : All (λ k. k ≤ last) (filter_map day_named (named_beside object.zones ids object.components)) =
-        subst (λ (names : List Aligned). All (λ k. k ≤ last) (filter_map day_named names)) (named_all object.zones ids 0 object.components) (greatest_below days last counted) in
+    subst (λ (names : List Aligned). All (λ k. k ≤ last) (filter_map day_named names)) (named_all object.zones ids 0 object.components) (greatest_below days last counted) in
     least (seconds_since_1970 (86400 * (last + 1))) (window_by window last (omega arith)) (all_needed last object.zones ids window object.components named)
 
 -- The rows of a window are made of the master's rows in the digits that it needs.
@@ -361,3 +361,11 @@ window_found object ids window range rows aligned one has days made =
     let its_ids : map (λ (r : Row). r.id) rows ≡ kept = ap (map (λ (r : Row). r.id)) all ∙ ids_of_rows object ids range one in
     ap₂ (λ (xs : List ℤ) (rs : List Row). in_order (filter (lies_in_window object window) (flat_map (override_row object ids xs) (overrides object)) ++ filter (lies_in_window object window) (filter (λ (r : Row). not (is_named object ids r.id)) rs))) its_ids all
     ∙ sym (rows_in-kept every_moment object ids window keep_it (keeps_window object ids window range aligned one has) (keeps_named object ids window range aligned days) (sym aligned) one)
+
+-- the first master has what each component has
+pub expandable_master : (zones : ℕ) (cs : List Component) (m : Numbered) (rest : List Numbered) → All (IsExpandable zones) cs → masters_from 0 cs ≡ m ∷ rest → IsExpandable zones m.component
+expandable_master zones cs m rest all first =
+    All-head (λ (n : Numbered). IsExpandable zones n.component) m rest
+    (subst (All (λ (n : Numbered). IsExpandable zones n.component)) first
+    (All-filter (λ (n : Numbered). not (has_id n)) (λ (n : Numbered). IsExpandable zones n.component) (numbered_from 0 cs)
+    (All-numbered_from (λ (n : Numbered). IsExpandable zones n.component) 0 cs (λ i j c e found. All-slice_get (IsExpandable zones) cs i c all found))))

@@ -77,6 +77,19 @@ fn day_needed(
     }
 }
 
+/// The range with a local day.
+fn with_midnight(range: Digits, midnight: i64) -> Digits
+    requires { IsRowTime midnight }
+    ensures range { HasRange result range }
+    ensures day { HasDay result midnight }
+    ensures least { (z : ℤ) → range.high ≤ℤ z → (midnight +ℤ pos 86400) ≤ℤ z → result.high ≤ℤ z }
+{
+    Digits {
+        low: range.low.min(midnight),
+        high: range.high.max(midnight + DAY),
+    }
+}
+
 /// The range with a local day, if one is given.
 fn with_day(range: Digits, day: Option<i64>) -> Digits
     requires { IfSome day IsRowTime }
@@ -85,10 +98,7 @@ fn with_day(range: Digits, day: Option<i64>) -> Digits
     ensures least { (z : ℤ) → range.high ≤ℤ z → All (λ midnight. (midnight +ℤ pos 86400) ≤ℤ z) (option_to_list day) → result.high ≤ℤ z }
 {
     match day {
-        Some(midnight) => Digits {
-            low: range.low.min(midnight),
-            high: range.high.max(midnight + DAY),
-        },
+        Some(midnight) => with_midnight(range, midnight),
         None => range,
     }
 }

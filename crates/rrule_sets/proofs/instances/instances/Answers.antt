@@ -8,7 +8,8 @@ use Rattle.cal_model.proofs.Instances.RisingLists.{IsBelow, ascending-rising}
 use Rattle.override_merge.specs.Conversions.{IsConvertible, tables_of}
 use Rattle.override_merge.specs.NamedStarts.{days_in, has_name, values_in}
 use Rattle.override_merge.proofs.StampLemmas.{convertible_some, own_start_convertible}
-use Rattle.rrule_sets.specs.AskedStarts.{exceptions_of, instances_in, row_by}
+use Rattle.rrule_sets.specs.AskedStarts.{exceptions_of, instances_in, plain_of, row_by}
+use Rattle.rrule_sets.specs.DigitRanges.{starts_in}
 use Rattle.rrule_sets.proofs.DateStarts.{IsNearRow, short_tables}
 use Rattle.rrule_sets.proofs.InstanceLemmas.{instances_found}
 use Rattle.rrule_sets.proofs.NearLemmas.{asked_near}
@@ -23,7 +24,7 @@ rows_at-requires-clause-stamp g c =
     convertible_some (length c.args.zones.now) (own_start c.args.component.now) c.args.stamp c.requires.own (own_start_convertible (length c.args.zones.now) c.args.component.now c.requires.component.row)
 
 pub rows_at-requires-clause-plain : goal.rows_at-requires-clause-plain
-rows_at-requires-clause-plain g c = subst (AllPairs IsBelow) (sym c.in_ok-asked.ensures.plain) (ascending-rising _)
+rows_at-requires-clause-plain g c = subst (AllPairs IsBelow) (sym c.in_ok-asked.ensures.plain) (ascending-rising (filter (starts_in (tables_of c.args.zones.now) c.args.stamp c.args.range) (plain_of (tables_of c.args.zones.now) c.args.stamp c.args.component.now)))
 
 pub rows_at-requires-clause-values : goal.rows_at-requires-clause-values
 rows_at-requires-clause-values g c = subst (AllPairs IsBelow) (sym c.in_ok-excepted.ensures.values) (ascending-rising (values_in (map (λ (x : Stamp). align (tables_of c.args.zones.now) x c.args.stamp) (exceptions_of c.args.component.now))))
