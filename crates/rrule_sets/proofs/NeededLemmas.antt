@@ -11,7 +11,7 @@ use Rattle.cal_model.specs.declared.zone.ZoneTable.{ZoneTable}
 use Rattle.cal_model.specs.Instances.Rows.{window_seconds}
 use Rattle.cal_model.proofs.Words.AllLemmas.{All-left, All-right}
 use Rattle.rrule_sets.specs.declared.range.Digits.{Digits}
-use Rattle.rrule_sets.specs.NeededDigits.{HasDay, HasRange, HasWindow, days_needed}
+use Rattle.rrule_sets.specs.NeededDigits.{HasDay, HasRange, HasWindow, days_needed, overrides_in}
 
 -- the greater of two numbers is no more than what both are
 pub max_least : (x y z : ℤ) → x ≤ℤ z → y ≤ℤ z → int_max x y ≤ℤ z
@@ -31,6 +31,13 @@ has_range wide range part a b = let af = a.from in let at_end = a.to in let bf =
 
 has_day : (wide range : Digits) (midnight : ℤ) → HasRange wide range → HasDay range midnight → HasDay wide midnight
 has_day wide range midnight a b = let af = a.from in let at_end = a.to in let bf = b.from in let bt = b.to in record { from = omega (arith, ints, af, bf); to = omega (arith, ints, at_end, bt) }
+
+none_left : (rest : List Component) → length rest ≡ 0 → overrides_in rest ≡ 0
+none_left [] none = refl
+none_left (c ∷ cs) none = absurd (omega (arith, none))
+
+pub needed_steps : (steps before all : ℕ) (rest : List Component) → steps + overrides_in rest ≡ before + all → length rest ≡ 0 → steps ≡ before + all
+needed_steps steps before all rest counted none = let left = none_left rest none in omega (arith, counted, left)
 
 module _ (zones : List ZoneTable) (ids : Stamp) (window : ℤ) where
   pub needed_first : (all : List Component) (range : Digits) → range.low ≡ window *ℤ window_seconds → range.high ≡ (window +ℤ pos 1) *ℤ window_seconds → IsNeededSoFar zones ids window all all range

@@ -6,6 +6,7 @@ use Rattle.rrule_sets.proofs.needed.with_midnight.Goals as goal
 pub returns-clause-least : goal.returns-clause-least
 returns-clause-least c =
     let near = c.requires in
+    let midnight_fits : FitsSigned w64 c.args.midnight = omega (arith, ints, near) in
     let high_fits : FitsSigned w64 c.args.range.high = search rules in
     let end_fits : FitsSigned w64 (c.args.midnight +ℤ pos 86400) = omega (arith, ints, near) in
     let result_fits : FitsSigned w64 c.max.result = search (rules, c.max.type_inv) in
