@@ -1,18 +1,14 @@
 -- What is counted while the rows of a window are found, beside the cost of an object.
-use Rattle.std.proofs.Common.{◌≡◌, ℕ, zero, suc, ◌+◌, ◌-◌, ◌*◌, ◌<◌, ◌≤◌, List, [], ◌∷◌, ◌++◌, length, map, refl, sym, ap, ◌∙◌, arith, Bool, true, false, ℤ, pos, negsuc, ◌+ℤ◌, ◌*ℤ◌, ◌<ℤ◌, ◌≤ℤ◌, inl, inr, max}
-use Rattle.std.specs.Prelude.{All, count_by, filter, filter_map, flat_map, not, sum, nat_le, option_to_list, is_some, Option, Some, None, ◌&&◌, if◌then◌else◌}
-use Rattle.std.specs.Int.{int_div_euclid}
-use Rattle.std.proofs.lemmas.Int.{ints}
-use Rattle.std.proofs.lemmas.Bool.{cases_Bool, leb-true, leb-false}
-use Rattle.std.proofs.lemmas.List.Elements.{All-head, All-tail, All-nil, All-cons, All-append}
-use Rattle.cal_moment.specs.Calendar.{epoch_day, seconds_since_1970}
+use Rattle.std.proofs.Common.{◌≡◌, ℕ, ◌+◌, ◌-◌, ◌*◌, ◌≤◌, List, [], ◌∷◌, length, map, arith, Bool, true, false, ℤ, inl, inr}
+use Rattle.std.specs.Prelude.{count_by, sum, nat_le, option_to_list, is_some, Option, Some, None, ◌&&◌, if◌then◌else◌}
+use Rattle.std.proofs.lemmas.Bool.{cases_Bool, leb-true}
 use Rattle.cal_moment.specs.declared.stamp.Stamp.{Stamp}
 use Rattle.cal_model.specs.declared.object.Component.{Component}
 use Rattle.cal_model.specs.declared.object.Object.{Object}
 use Rattle.cal_model.specs.declared.rule.Rule.{Rule}
 use Rattle.cal_model.specs.Instances.Alignment.{written_moment}
 use Rattle.cal_model.specs.Instances.Starts.{is_date}
-use Rattle.cal_model.specs.Instances.Rows.{Numbered, has_id, numbered_from}
+use Rattle.cal_model.specs.Instances.Rows.{Numbered}
 use Rattle.cal_model.specs.Ranges.Cost.{component_cost, cost, dates_of, last_day, passing_up_to, rule_cost}
 use Rattle.cal_model.specs.Recurrence.RecurrenceSet.{every_moment}
 use Rattle.cal_model.specs.Walks.Budgets.{last_period, passes_by}

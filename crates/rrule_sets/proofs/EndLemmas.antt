@@ -1,6 +1,6 @@
 -- The end of an instance from the starts and the spans of a range alone: a start in the range is a plain one, or begins a period, exactly where it does so among those of the range.
-use Rattle.std.proofs.Common.{◌≡◌, ℕ, List, [], ◌∷◌, ◌++◌, map, refl, sym, ap, ap₂, subst, ◌∙◌, arith, Bool, true, false, ℤ, ◌<ℤ◌, ◌≤ℤ◌, inl, inr}
-use Rattle.std.specs.Prelude.{All, Contains, filter, int_lt, if◌then◌else◌}
+use Rattle.std.proofs.Common.{◌≡◌, List, [], ◌∷◌, map, refl, sym, ap, ap₂, subst, ◌∙◌, arith, Bool, true, ℤ, ◌<ℤ◌, ◌≤ℤ◌, inl, inr}
+use Rattle.std.specs.Prelude.{All, Contains, filter, int_lt}
 use Rattle.std.specs.List.{list_any}
 use Rattle.std.specs.List.Sorted.{IsPermutation}
 use Rattle.std.proofs.lemmas.Int.{ints}

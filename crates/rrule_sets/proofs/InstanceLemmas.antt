@@ -1,11 +1,10 @@
 -- The rows of the instances in a range, from what is asked of it.
 use Rattle.std.proofs.Common.{◌≡◌, ℕ, List, [], ◌∷◌, ◌++◌, map, refl, sym, ap, ap₂, subst, ◌∙◌, arith, Bool, true, false, ℤ, inl, inr}
-use Rattle.std.specs.Prelude.{All, AllPairs, Contains, filter, flat_map, not, ◌||◌, Option, Some, if◌then◌else◌}
+use Rattle.std.specs.Prelude.{All, Contains, filter, flat_map, not, ◌||◌, Some, if◌then◌else◌}
 use Rattle.std.specs.List.{list_any}
 use Rattle.std.specs.List.Sorted.{IsPermutation}
 use Rattle.std.proofs.lemmas.Bool.{cases_Bool}
-use Rattle.std.proofs.lemmas.List.{append-nil}
-use Rattle.std.proofs.lemmas.List.Elements.{All-head, All-tail, All-nil, All-cons, All-filter, All-weaker, filter-append, filter_agree, filter_passes}
+use Rattle.std.proofs.lemmas.List.Elements.{All-head, All-tail, All-weaker, filter-append, filter_agree, filter_passes}
 use Rattle.std.proofs.lemmas.List.Sorted.{Contains-permutation, IsPermutation-map, IsPermutation-sym}
 use Rattle.cal_moment.specs.Calendar.{seconds_since_1970}
 use Rattle.cal_moment.specs.declared.stamp.Period.{Period}
@@ -13,12 +12,12 @@ use Rattle.cal_moment.specs.declared.stamp.Stamp.{Stamp}
 use Rattle.cal_model.specs.declared.object.Component.{Component}
 use Rattle.cal_model.specs.declared.row.Row.{Row}
 use Rattle.cal_model.specs.declared.zone.ZoneTable.{ZoneTable}
-use Rattle.cal_model.specs.Instances.Alignment.{Aligned, align, kind_of, names_start, reading_of, value_of, written_moment}
+use Rattle.cal_model.specs.Instances.Alignment.{align, kind_of, names_start, reading_of, value_of, written_moment}
 use Rattle.cal_model.specs.Instances.Rows.{row_of}
 use Rattle.cal_model.specs.Instances.Starts.{ascending, date_start, end_of_extent, end_of_instance, end_of_period, is_date, is_excepted, latest_of, own_start, period_starts, plain_starts, recurring_starts, recurs, rule_starts, starts_from}
 use Rattle.cal_model.specs.Recurrence.RecurrenceSet.{every_moment}
 use Rattle.cal_model.specs.Words.Integers.{same_int}
-use Rattle.cal_model.proofs.Instances.RisingLists.{Contains-here, Contains-split}
+use Rattle.cal_model.proofs.Instances.RisingLists.{Contains-here}
 use Rattle.cal_model.proofs.Words.IntegerLemmas.{same_int-self}
 use Rattle.override_merge.specs.NamedStarts.{IsNamesOf, has_name}
 use Rattle.override_merge.specs.declared.names.Names.{Names}

@@ -1,17 +1,15 @@
 -- The starts of a component lie near 1970, and those of rules between the years 1 and 2101.
-use Rattle.std.proofs.Common.{◌≡◌, ℕ, ◌*◌, ◌+◌, ◌<◌, ◌≤◌, List, [], ◌∷◌, ◌++◌, map, refl, sym, ap, subst, ◌∙◌, arith, Bool, true, false, ℤ, pos, neg_ℤ, ◌<ℤ◌, ◌≤ℤ◌, inl, inr}
+use Rattle.std.proofs.Common.{◌≡◌, ℕ, ◌+◌, ◌≤◌, List, [], ◌∷◌, ◌++◌, map, refl, sym, ap, subst, ◌∙◌, arith, Bool, true, false, ℤ, pos, neg_ℤ, ◌≤ℤ◌, inl, inr}
 use Rattle.std.specs.Prelude.{All, filter, flat_map, Option, Some, None, option_to_list, int_lt, ◌&&◌, if◌then◌else◌}
 use Rattle.std.specs.List.Sorted.{IsPermutation}
 use Rattle.std.proofs.lemmas.Int.{ints}
 use Rattle.std.proofs.lemmas.Bool.{cases_Bool}
 use Rattle.std.proofs.lemmas.List.Elements.{All-head, All-tail, All-nil, All-cons, All-append, All-map, All-filter, All-weaker}
 use Rattle.std.proofs.lemmas.List.Sorted.{All-permutation}
-use Rattle.std.proofs.lemmas.Option.{none-some}
 use Rattle.cal_moment.specs.Calendar.{IsBetween, IsCalendarMoment, seconds_since_1970}
 use Rattle.cal_moment.proofs.CalendarLaws.{seconds_since_1970-moment_of_seconds}
 use Rattle.cal_moment.specs.declared.stamp.Period.{Period}
 use Rattle.cal_moment.specs.declared.stamp.Stamp.{Stamp}
-use Rattle.cal_moment.specs.declared.stamp.Stamp.TheVariants.{Date, Floating, Zoned, Utc}
 use Rattle.cal_model.specs.declared.object.Component.{Component}
 use Rattle.cal_model.specs.declared.object.Extent.{Extent}
 use Rattle.cal_model.specs.declared.object.Kind.{Kind}
@@ -19,11 +17,10 @@ use Rattle.cal_model.specs.declared.object.Kind.TheVariants.{Event, Todo, Journa
 use Rattle.cal_model.specs.declared.rule.Rule.{Rule}
 use Rattle.cal_model.specs.declared.zone.ZoneTable.{ZoneTable}
 use Rattle.cal_model.specs.Instances.Alignment.{reading_of, value_of, written_moment, written_value}
-use Rattle.cal_model.specs.Instances.Starts.{ascending, date_start, is_date, own_start_of, period_starts, plain_starts, recurs, recurs_of, own_start, rule_starts}
+use Rattle.cal_model.specs.Instances.Starts.{ascending, date_start, is_date, own_start_of, period_starts, recurs, recurs_of, own_start, rule_starts}
 use Rattle.cal_model.specs.Objects.ObjectFacts.{IsServed}
 use Rattle.cal_model.specs.Ranges.Nearness.{HasShortOffsets}
-use Rattle.cal_model.specs.Recurrence.NextPassing.{end_day}
-use Rattle.cal_model.specs.Recurrence.RecurrenceSet.{every_moment, first_moment, later_moments}
+use Rattle.cal_model.specs.Recurrence.RecurrenceSet.{every_moment, later_moments}
 use Rattle.cal_model.specs.Walks.KeptMoments.{starts_by}
 use Rattle.cal_model.proofs.Instances.RisingLists.{All-ascending}
 use Rattle.cal_model.proofs.Ranges.WindowStretches.{local-instant}
@@ -36,7 +33,6 @@ use Rattle.rrule_sets.specs.DigitRanges.{in_digits, starts_in}
 use Rattle.rrule_sets.specs.PeriodSpans.{IsConvertiblePeriod, period_span, span_starts_in}
 use Rattle.rrule_sets.proofs.DateStarts.{IsNearRow, near_instant, value_near, date_start_near}
 use Rattle.rrule_sets.proofs.DigitLemmas.{IsOfRules, every_moment-of_rules}
-use Rattle.rrule_sets.proofs.InstanceLemmas.{firsts_of_periods}
 
 -- The start of a component that recurs.
 

@@ -1,14 +1,13 @@
 -- Each object that was read has what its rows are found by: the days and the seconds of the lengths of RDATE periods bear one sign (RFC 5545, 3.3.6 and 3.3.9), as those of DURATION do, so each is short by itself.
-use Rattle.std.proofs.Common.{◌≡◌, ℕ, ◌<◌, ◌^◌, List, [], ◌∷◌, ◌++◌, length, refl, sym, ap, subst, ◌∙◌, arith, Bool, true, false, inl, inr}
-use Rattle.std.specs.Prelude.{All, filter_map, flat_map, option_to_list, Option, Some, None, option_map, unwrap_or, codes, ◌||◌, if◌then◌else◌}
+use Rattle.std.proofs.Common.{◌≡◌, ℕ, ◌<◌, ◌^◌, List, [], ◌∷◌, ◌++◌, length, refl, sym, ap, subst, Bool, true, false, inl, inr}
+use Rattle.std.specs.Prelude.{All, filter_map, flat_map, option_to_list, Option, Some, None, option_map, unwrap_or, codes, if◌then◌else◌}
 use Rattle.std.specs.List.{AllByRecursion as Each, list_any}
 use Rattle.std.proofs.lemmas.Bool.{cases_Bool}
-use Rattle.std.proofs.lemmas.List.Elements.{All-weaker, All-from_recursion, All-head, All-tail, All-nil, All-cons}
+use Rattle.std.proofs.lemmas.List.Elements.{All-from_recursion, All-head, All-tail, All-nil, All-cons}
 use Rattle.std.proofs.lemmas.Option.{none-some}
 use Rattle.cal_base.specs.Lines.ContentLines.{placed_lines}
 use Rattle.cal_base.specs.Lines.ComponentTrees.{or_else}
 use Rattle.cal_base.specs.declared.line.Line.{Line}
-use Rattle.cal_moment.specs.declared.stamp.Length.{Length}
 use Rattle.cal_moment.specs.declared.stamp.Period.{Period}
 use Rattle.cal_moment.specs.declared.stamp.PeriodEnd.{PeriodEnd}
 use Rattle.cal_moment.specs.declared.stamp.PeriodEnd.TheVariants.{At, After}
@@ -20,12 +19,12 @@ use Rattle.cal_model.specs.declared.rule.Rule.{Rule}
 use Rattle.cal_model.specs.Instances.Starts.{has_fine_rule}
 use Rattle.cal_model.specs.Objects.ComponentLines.{all_of, lines_of}
 use Rattle.cal_model.specs.Objects.LineValues.{is_of_periods, periods_in, periods_at}
-use Rattle.cal_model.specs.Objects.ObjectFacts.{IsRead, IsReadComponent, IsReadObject, IsServed, HasShortEnd, component_stamps, stamps_of_extent}
+use Rattle.cal_model.specs.Objects.ObjectFacts.{IsRead, IsReadComponent, IsServed, HasShortEnd, stamps_of_extent}
 use Rattle.cal_model.specs.Objects.ObjectFaults.{Child, children_in, kinds_among, component_of_child, stamps_of_end, stamps_of_period}
 use Rattle.cal_model.specs.Objects.ZoneReading.{zone_names, zones_of}
 use Rattle.cal_model.specs.Recurrence.NextPassing.{is_fine}
 use Rattle.cal_model.specs.Recurrence.RecurrenceSet.{every_moment}
-use Rattle.cal_model.specs.Values.StampTexts.{stamp_of_time, time_stamp, utc_stamp, line_zone, utc_names, is_one_of, items_of, length_ahead, written_period_end, period_of_ends, period_with, period_of, periods_in_grammar}
+use Rattle.cal_model.specs.Values.StampTexts.{time_stamp, utc_stamp, line_zone, utc_names, is_one_of, items_of, length_ahead, written_period_end, period_of_ends, period_with, period_of, periods_in_grammar}
 use Rattle.cal_model.specs.Values.ValueTexts.{length_of, is_negative, cut}
 use Rattle.cal_model.proofs.Objects.ComponentStamps.{is_made}
 use Rattle.cal_model.proofs.Objects.ObjectFactLaws.{IsReadObject-read}
@@ -33,7 +32,7 @@ use Rattle.cal_model.proofs.Objects.ReadingSteps.{read_from}
 use Rattle.cal_model.proofs.Objects.RuleBounds.{map_value, each_read}
 use Rattle.cal_model.proofs.Objects.ShortLengths.{if_true}
 use Rattle.cal_model.proofs.Objects.TestedLines.{period_by}
-use Rattle.cal_model.proofs.Words.AllLemmas.{All-each_part, All-left, All-right}
+use Rattle.cal_model.proofs.Words.AllLemmas.{All-left, All-right}
 use Rattle.cal_model.proofs.Words.EachLemmas.{each-filter_map, each-flat_map}
 use Rattle.override_merge.specs.Conversions.{HasConvertibleRow, IsConvertible}
 use Rattle.override_merge.proofs.ReadObjects.{HasConvertibleRows-read, IsOneSigned, all_convertible, one_signed, short_parts}

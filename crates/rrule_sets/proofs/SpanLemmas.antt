@@ -1,11 +1,11 @@
 -- The latest end of the spans that begin at a start stands last among them, where spans are sorted by start, then end.
-use Rattle.std.proofs.Common.{◌≡◌, ℕ, zero, suc, ◌+◌, ◌-◌, ◌<◌, ◌≤◌, List, [], ◌∷◌, ◌++◌, length, map, get_or, refl, sym, ap, ◌∙◌, arith, Bool, true, false, ℤ, ◌<ℤ◌, ◌≤ℤ◌, ◌⊎◌, inl, inr, Less, Equal, Greater, nat_lt}
-use Rattle.std.specs.Prelude.{All, AllPairs, Contains, filter, int_le, int_lt, if◌then◌else◌}
+use Rattle.std.proofs.Common.{◌≡◌, ℕ, zero, suc, ◌+◌, ◌-◌, ◌<◌, ◌≤◌, List, [], ◌∷◌, length, get_or, refl, sym, ◌∙◌, arith, true, false, ℤ, ◌<ℤ◌, ◌≤ℤ◌, inl, inr, Less, Equal, nat_lt}
+use Rattle.std.specs.Prelude.{All, AllPairs, Contains, int_le, int_lt}
 use Rattle.std.specs.Ordering.{int_cmp, is_lt, ordering_then}
 use Rattle.std.specs.List.Sorted.{IsPartitionedBy}
 use Rattle.std.proofs.lemmas.Int.{ints, by_lt_z}
 use Rattle.std.proofs.lemmas.Bool.{cases_Bool, ltb-true, ltb-false}
-use Rattle.std.proofs.lemmas.List.Elements.{All-head, All-tail, All-nil, All-cons, All-weaker}
+use Rattle.std.proofs.lemmas.List.Elements.{All-head, All-tail, All-cons, All-weaker}
 use Rattle.std.proofs.lemmas.List.Kept.{AllPairs-cons}
 use Rattle.cal_model.specs.Words.Integers.{same_int, greatest_of}
 use Rattle.cal_model.specs.Instances.Starts.{latest_of}

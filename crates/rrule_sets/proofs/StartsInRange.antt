@@ -1,21 +1,20 @@
 -- The starts of a component in a range: of its rules only the moments in the range are asked for.
-use Rattle.std.proofs.Common.{◌≡◌, ℕ, List, [], ◌∷◌, ◌++◌, map, refl, sym, ap, ap₂, subst, ◌∙◌, arith, Bool, true, false, ℤ, ◌⊎◌, inl, inr}
-use Rattle.std.specs.Prelude.{All, AllPairs, Contains, filter, flat_map, not, if◌then◌else◌}
+use Rattle.std.proofs.Common.{◌≡◌, ℕ, List, [], ◌∷◌, ◌++◌, map, refl, sym, ap, subst, ◌∙◌, arith, Bool, true, ℤ, inl, inr}
+use Rattle.std.specs.Prelude.{Contains, filter, flat_map, not, if◌then◌else◌}
 use Rattle.std.proofs.lemmas.Bool.{cases_Bool}
-use Rattle.std.proofs.lemmas.List.{append_assoc, append-nil}
+use Rattle.std.proofs.lemmas.List.{append_assoc}
 use Rattle.std.proofs.lemmas.List.Elements.{filter-append, Contains-append_left, Contains-append_right, Contains-append_cases}
 use Rattle.cal_moment.specs.Calendar.{seconds_since_1970}
 use Rattle.cal_moment.specs.declared.stamp.Stamp.{Stamp}
 use Rattle.cal_model.specs.declared.rule.Rule.{Rule}
 use Rattle.cal_model.specs.declared.zone.ZoneTable.{ZoneTable}
 use Rattle.cal_model.specs.declared.object.Component.{Component}
-use Rattle.cal_model.specs.Recurrence.RecurrenceSet.{every_moment, later_moments}
+use Rattle.cal_model.specs.Recurrence.RecurrenceSet.{every_moment}
 use Rattle.cal_model.specs.Instances.Alignment.{reading_of, value_of, written_moment}
 use Rattle.cal_model.specs.Instances.Starts.{ascending, is_excepted, is_date, date_start, period_starts, plain_starts, recurring_starts, rule_starts}
 use Rattle.cal_model.proofs.Instances.RisingLists.{IsBelow, Contains-split, Contains-there, ascending-is, ascending-rising, ascending-has, ascending-only}
 use Rattle.std.proofs.lemmas.List.Kept.{AllPairs-filter}
 use Rattle.cal_model.proofs.Ranges.WindowLaws.{Contains-filter, Contains-unfilter}
-use Rattle.cal_model.specs.Walks.KeptMoments.{starts_by}
 use Rattle.rrule_sets.specs.declared.range.Digits.{Digits}
 use Rattle.rrule_sets.specs.DigitRanges.{starts_in}
 use Rattle.rrule_sets.specs.AskedStarts.{later_starts}

@@ -1,6 +1,6 @@
 -- The starts in the digits that a window needs are enough to find its rows, and cost no more than the window does.
-use Rattle.std.proofs.Common.{◌≡◌, ℕ, zero, suc, ◌+◌, ◌*◌, ◌<◌, ◌≤◌, List, [], ◌∷◌, ◌++◌, length, map, refl, sym, ap, ap₂, subst, ◌∙◌, arith, Bool, true, false, ℤ, pos, negsuc, neg_ℤ, ◌+ℤ◌, ◌*ℤ◌, ◌<ℤ◌, ◌≤ℤ◌, inl, inr, max}
-use Rattle.std.specs.Prelude.{All, Contains, filter, filter_map, flat_map, not, nat_le, int_le, int_lt, option_to_list, is_none, is_some, option_and_then, slice_get, Option, Some, None, ◌&&◌, if◌then◌else◌}
+use Rattle.std.proofs.Common.{◌≡◌, ℕ, ◌+◌, ◌*◌, ◌<◌, ◌≤◌, List, [], ◌∷◌, ◌++◌, length, map, refl, sym, ap, ap₂, subst, ◌∙◌, arith, Bool, true, false, ℤ, pos, negsuc, ◌+ℤ◌, ◌*ℤ◌, ◌<ℤ◌, ◌≤ℤ◌, inl, inr}
+use Rattle.std.specs.Prelude.{All, filter, filter_map, flat_map, not, int_le, int_lt, option_to_list, is_none, option_and_then, slice_get, Option, Some, None, if◌then◌else◌}
 use Rattle.std.specs.Int.{int_div_euclid}
 use Rattle.std.proofs.lemmas.Int.{ints}
 use Rattle.std.proofs.lemmas.Bool.{cases_Bool}
@@ -19,9 +19,9 @@ use Rattle.cal_model.specs.declared.row.Row.{Row}
 use Rattle.cal_model.specs.declared.zone.ZoneTable.{ZoneTable}
 use Rattle.cal_model.specs.Instances.Alignment.{Aligned, at, on_day, align, kind_of, midnight_of, names_start, reading_of, value_of}
 use Rattle.cal_model.specs.Instances.Starts.{end_from, end_of_instance, own_start, own_start_of, start_or_due, starts_from, starts_of}
-use Rattle.cal_model.specs.Instances.Rows.{Numbered, dated_rows, first_of, has_id, ids_start, in_order, is_dated, is_named, lies_in_window, master_row, master_stamp, masters, named_by, nominal_beside, numbered, numbered_from, override_row, overrides, row_at, row_of, rows_in, starts, undated_row, undated_rows, window_at, window_of, window_seconds}
+use Rattle.cal_model.specs.Instances.Rows.{Numbered, dated_rows, first_of, has_id, ids_start, in_order, is_named, lies_in_window, master_row, master_stamp, masters, named_by, nominal_beside, numbered, numbered_from, override_row, overrides, row_at, row_of, rows_in, starts, undated_row, undated_rows, window_at, window_seconds}
 use Rattle.cal_model.specs.Objects.ObjectFacts.{IsReadObject}
-use Rattle.cal_model.specs.Ranges.Cost.{cost_up_to, day_named, days_named_from, greatest, last_day, last_of_window, natural_part, number_of_day}
+use Rattle.cal_model.specs.Ranges.Cost.{day_named, days_named_from, greatest, last_day, last_of_window, natural_part, number_of_day}
 use Rattle.cal_model.specs.Recurrence.RecurrenceSet.{every_moment}
 use Rattle.cal_model.specs.Words.Integers.{same_int}
 use Rattle.cal_model.proofs.Instances.DayLaws.{midnight_of-holds, midnight_of-is}

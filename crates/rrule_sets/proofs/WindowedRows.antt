@@ -1,6 +1,6 @@
 -- The rows of a window need the starts in some range alone: those in the window, and those on the days that overrides in the window name.
 use Rattle.std.proofs.Common.{◌≡◌, ℕ, ◌≤◌, List, [], ◌∷◌, ◌++◌, map, length, refl, sym, ap, ap₂, ◌∙◌, arith, Bool, true, false, ℤ, inl, inr}
-use Rattle.std.specs.Prelude.{All, Contains, filter, flat_map, not, option_to_list, Option, Some, None, if◌then◌else◌}
+use Rattle.std.specs.Prelude.{All, Contains, filter, flat_map, not, option_to_list, Option, Some, None}
 use Rattle.std.proofs.lemmas.Bool.{cases_Bool}
 use Rattle.std.proofs.lemmas.List.{append-nil}
 use Rattle.std.proofs.lemmas.List.Elements.{All-head, All-tail, filter-append}
@@ -12,7 +12,7 @@ use Rattle.cal_model.specs.Instances.Alignment.{Aligned, at, on_day, reading_of,
 use Rattle.cal_model.specs.Instances.Starts.{own_start, end_from}
 use Rattle.cal_model.specs.Instances.Rows.{Numbered, overrides, masters, ids_start, named_by, is_named, id_of_override, row_of, starts, row_at, override_row, override_row_from, in_order, lies_in_window, rows_in_over}
 use Rattle.cal_model.proofs.Instances.RisingLists.{Contains-there}
-use Rattle.cal_model.proofs.Instances.RowsInOrder.{own_rows, kept_instances, rows_in-parts}
+use Rattle.cal_model.proofs.Instances.RowsInOrder.{kept_instances, rows_in-parts}
 
 -- Filters.
 

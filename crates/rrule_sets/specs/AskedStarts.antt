@@ -1,5 +1,5 @@
 -- What the starts of one component are made of before EXDATEs are taken off, and what its stamps and rules have to keep so that a program can find them.
-use Rattle.std.specs.Prelude.{◌≡◌, ℕ, false, All, List, [], ◌∷◌, map, filter, flat_map, option_to_list, if◌then◌else◌, ℤ}
+use Rattle.std.specs.Prelude.{◌≡◌, ℕ, false, All, List, [], ◌∷◌, map, filter, option_to_list, if◌then◌else◌, ℤ}
 use Rattle.std.specs.List.{list_any}
 use Rattle.cal_moment.specs.declared.stamp.Stamp.{Stamp}
 use Rattle.cal_model.specs.declared.object.Component.{Component}

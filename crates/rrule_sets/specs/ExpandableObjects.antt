@@ -1,7 +1,6 @@
 -- What an object has that was read, as far as its rows are found: no rule by seconds or minutes, stamps that can be converted, and one master at most.
-use Rattle.std.specs.Prelude.{ℕ, ◌≤◌, All, length}
+use Rattle.std.specs.Prelude.{All, length}
 use Rattle.cal_model.specs.declared.object.Object.{Object}
-use Rattle.cal_model.specs.Instances.Rows.{masters}
 use Rattle.cal_model.specs.Objects.ObjectFacts.{IsReadObject}
 use Rattle.override_merge.specs.Conversions.{HasConvertibleRows}
 use Rattle.rrule_sets.specs.AskedStarts.{IsExpandable}

@@ -1,10 +1,10 @@
 //! The starts that a component and its RDATEs give in a range of digits (RFC 5545, 3.8.5.2).
-ghost use Rattle.std.specs.Prelude.{◌≡◌, ℕ, ◌+◌, ◌*◌, ◌<◌, ◌≤◌, ◌++◌, ◌∷◌, List, [], length, filter, map, All, OnOk, pos, neg_ℤ, ℤ, ◌-ℤ◌, ◌+ℤ◌, if◌then◌else◌};
+ghost use Rattle.std.specs.Prelude.{◌≡◌, ◌+◌, ◌*◌, ◌<◌, ◌≤◌, ◌++◌, ◌∷◌, List, [], length, filter, map, All, OnOk, pos, neg_ℤ, ℤ, ◌-ℤ◌, ◌+ℤ◌, if◌then◌else◌};
 ghost use Rattle.cal_moment.specs.Calendar.{IsBetween};
 ghost use Rattle.cal_model.specs.Instances.Alignment as alignment;
 ghost use Rattle.cal_model.specs.Instances.Starts as spec;
 ghost use Rattle.override_merge.specs.AlignedStamps.{aligned_by, HasDigits};
-ghost use Rattle.override_merge.specs.Conversions.{tables_of, HasZone, IsConvertible, IsShortLength};
+ghost use Rattle.override_merge.specs.Conversions.{tables_of, HasZone, IsConvertible};
 ghost use Rattle.rrule_sets.specs.DigitRanges.{starts_in};
 ghost use Rattle.rrule_sets.specs.PeriodSpans.{IsConvertibleEnd, IsConvertiblePeriod, period_span, span_starts_in};
 

@@ -1,5 +1,5 @@
 //! Which starts EXDATEs take away, and the ends of RDATE periods.
-ghost use Rattle.std.specs.Prelude.{◌≡◌, ◌<◌, ◌++◌, ◌∷◌, [], length, map, All, AllPairs, IfOk, ℤ};
+ghost use Rattle.std.specs.Prelude.{◌≡◌, ◌<◌, ◌∷◌, [], length, map, All, AllPairs, IfOk};
 ghost use Rattle.std.specs.List.Sorted.{IsPermutation};
 ghost use Rattle.cal_moment.specs.declared.stamp.Stamp.{Stamp};
 ghost use Rattle.cal_model.specs.Instances.Alignment as alignment;

@@ -1,23 +1,20 @@
 //! The instances of a master in a range of digits: their starts and ends, EXDATEs taken off
 //! (RFC 5545, 3.8.5).
 ghost use Rattle.std.specs.Prelude.{◌≡◌, ℕ, ◌+◌, ◌≤◌, ◌<◌, ◌++◌, ◌∷◌, List, [], length, All, AllPairs, Some, IfOk, OnOk, filter, flat_map, map, not, pos, neg_ℤ, ℤ, if◌then◌else◌};
-ghost use Rattle.std.specs.List.{list_any};
 ghost use Rattle.std.specs.List.Sorted.{IsPermutation};
 ghost use Rattle.cal_moment.specs.Calendar.{IsBetween};
 ghost use Rattle.cal_moment.specs.declared.stamp.Stamp.{Stamp};
 ghost use Rattle.cal_model.specs.Instances.Alignment as alignment;
 ghost use Rattle.cal_model.specs.Instances.Starts as spec;
-ghost use Rattle.cal_model.specs.Instances.Rows.{row_of};
 ghost use Rattle.cal_model.specs.Ranges.Cost.{component_cost};
 ghost use Rattle.cal_model.specs.Recurrence.RecurrenceSet.{every_moment};
-ghost use Rattle.cal_model.specs.Words.Integers.{same_int};
 ghost use Rattle.cal_model.proofs.Instances.RisingLists.{IsBelow};
 ghost use Rattle.override_merge.specs.Conversions.{tables_of, HasZone, IsConvertible, IsConvertibleExtent};
 ghost use Rattle.override_merge.specs.NamedStarts.{has_name, IsNamesOf};
 ghost use Rattle.rrule_sets.specs.AskedStarts.{IsExpandable, end_by, exceptions_of, instances_in, later_starts, plain_of, row_by, spans_of};
 ghost use Rattle.rrule_sets.specs.DigitRanges.{starts_in};
 ghost use Rattle.rrule_sets.specs.NeededDigits.{EndsBy};
-ghost use Rattle.rrule_sets.specs.PeriodSpans.{IsNotAfter, ends_at, period_span, span_starts_in};
+ghost use Rattle.rrule_sets.specs.PeriodSpans.{IsNotAfter, period_span, span_starts_in};
 
 use crate::asked::{put_dates, put_days, put_period_starts, put_periods, put_start};
 use crate::ends::{exceptions, last_end, recurs, spans_in_order};

@@ -1,6 +1,5 @@
 //! The digits whose starts a window needs.
-ghost use Rattle.std.specs.Prelude.{◌≡◌, ℕ, ◌+◌, ◌≤◌, ◌<◌, ◌∷◌, List, [], length, All, IfSome, flat_map, option_to_list, pos, neg_ℤ, ℤ, ◌+ℤ◌, ◌*ℤ◌, ◌≤ℤ◌};
-ghost use Rattle.cal_moment.specs.Calendar.{IsBetween};
+ghost use Rattle.std.specs.Prelude.{◌≡◌, ◌+◌, ◌≤◌, ◌<◌, ◌∷◌, [], length, All, IfSome, flat_map, option_to_list, pos, ℤ, ◌+ℤ◌, ◌*ℤ◌, ◌≤ℤ◌};
 ghost use Rattle.cal_moment.specs.declared.stamp.Stamp.{Stamp};
 ghost use Rattle.cal_model.specs.Instances.Alignment as alignment;
 ghost use Rattle.cal_model.specs.Instances.Rows.{window_at, window_seconds};

@@ -1,4 +1,4 @@
-use Rattle.std.proofs.Common.{◌≡◌, rules, arith, FitsSigned, w64, to_z-of_z}
+use Rattle.std.proofs.Common.{rules, arith, FitsSigned, w64, to_z-of_z}
 use Rattle.std.specs.Prelude.{length}
 use Rattle.std.proofs.lemmas.List.Elements.{All-tail}
 use Rattle.cal_model.specs.Instances.Starts.{date_start}

@@ -1,4 +1,4 @@
-use Rattle.std.proofs.Common.{◌≡◌, ◌∷◌, [], ◌∙◌, map}
+use Rattle.std.proofs.Common.{◌∷◌, [], ◌∙◌, map}
 use Rattle.std.specs.Prelude.{length}
 use Rattle.std.proofs.lemmas.List.Elements.{All-tail}
 use Rattle.cal_moment.specs.declared.stamp.Stamp.{Stamp}

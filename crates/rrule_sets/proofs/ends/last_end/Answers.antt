@@ -1,8 +1,7 @@
-use Rattle.std.proofs.Common.{◌≡◌, ◌+◌, ◌-◌, ◌<◌, ◌≤◌, ℕ, ◌∙◌, ap, sym, rules, of_calls, arith, ℤ, pos, FitsSigned, w64, to_z-of_z, length, subst, true, false, get_or}
+use Rattle.std.proofs.Common.{◌-◌, ◌<◌, ◌∙◌, ap, sym, rules, of_calls, arith, ℤ, pos, FitsSigned, w64, to_z-of_z, length, true, false}
 use Rattle.std.specs.Prelude.{int_le}
 use Rattle.std.proofs.lemmas.Fn.{always_returns_same}
 use Rattle.cal_model.specs.Instances.Starts.{latest_of}
-use Rattle.rrule_sets.specs.PeriodSpans.{ends_at}
 use Rattle.rrule_sets.proofs.SpanLemmas.{partitioned, last_at, none_at}
 use Rattle.rrule_sets.proofs.ends.last_end.Goals as goal
 

@@ -1,4 +1,3 @@
-use Rattle.std.proofs.Common.{◌≡◌, sym, rules}
 use Rattle.rrule_sets.proofs.SpanLemmas.{sorted_spans}
 use Rattle.rrule_sets.proofs.ends.spans_in_order.Goals as goal
 

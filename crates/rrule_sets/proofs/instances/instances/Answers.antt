@@ -1,14 +1,14 @@
-use Rattle.std.proofs.Common.{◌≡◌, ◌++◌, ◌∙◌, sym, subst, ap, List, ℤ, map, rules}
+use Rattle.std.proofs.Common.{◌≡◌, ◌∙◌, sym, subst, ap, List, ℤ, map}
 use Rattle.std.specs.Prelude.{All, AllPairs, IfOk, filter, length, not}
 use Rattle.cal_model.specs.declared.row.Row.{Row}
 use Rattle.cal_moment.specs.declared.stamp.Stamp.{Stamp}
 use Rattle.cal_model.specs.Instances.Alignment.{align, reading_of}
-use Rattle.cal_model.specs.Instances.Starts.{ascending, own_start}
+use Rattle.cal_model.specs.Instances.Starts.{own_start}
 use Rattle.cal_model.proofs.Instances.RisingLists.{IsBelow, ascending-rising}
-use Rattle.override_merge.specs.Conversions.{IsConvertible, tables_of}
+use Rattle.override_merge.specs.Conversions.{tables_of}
 use Rattle.override_merge.specs.NamedStarts.{days_in, has_name, values_in}
 use Rattle.override_merge.proofs.StampLemmas.{convertible_some, own_start_convertible}
-use Rattle.rrule_sets.specs.AskedStarts.{exceptions_of, instances_in, plain_of, row_by}
+use Rattle.rrule_sets.specs.AskedStarts.{exceptions_of, plain_of, row_by}
 use Rattle.rrule_sets.specs.DigitRanges.{starts_in}
 use Rattle.rrule_sets.proofs.DateStarts.{IsNearRow, short_tables}
 use Rattle.rrule_sets.proofs.InstanceLemmas.{instances_found}

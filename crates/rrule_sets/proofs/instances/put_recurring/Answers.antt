@@ -1,4 +1,3 @@
-use Rattle.std.proofs.Common.{◌≡◌, ◌+◌, ◌≤◌}
 use Rattle.rrule_sets.proofs.CostLemmas.{component_counted, dates_only, rules_only}
 use Rattle.rrule_sets.proofs.instances.put_recurring.Goals as goal
 

@@ -1,5 +1,5 @@
-use Rattle.std.proofs.Common.{◌≡◌, ◌++◌, arith, length, map, FitsSigned, w64, to_z-of_z}
-use Rattle.std.specs.Prelude.{All, filter, not}
+use Rattle.std.proofs.Common.{arith, FitsSigned, w64, to_z-of_z}
+use Rattle.std.specs.Prelude.{not}
 use Rattle.std.proofs.lemmas.Int.{ints}
 use Rattle.std.proofs.lemmas.List.Elements.{All-head, All-tail}
 use Rattle.cal_model.specs.Instances.Alignment.{reading_of}

@@ -1,4 +1,4 @@
-use Rattle.std.proofs.Common.{◌≡◌, arith, rules, FitsSigned, w64, to_z-of_z, ℤ, pos, neg_ℤ}
+use Rattle.std.proofs.Common.{arith, rules, FitsSigned, w64, to_z-of_z, pos, neg_ℤ}
 use Rattle.std.specs.Prelude.{length}
 use Rattle.std.proofs.lemmas.Int.{ints}
 use Rattle.cal_moment.specs.Calendar.{IsBetween}

@@ -1,12 +1,11 @@
-use Rattle.std.proofs.Common.{◌≡◌, ℕ, ◌+◌, ◌*◌, ◌≤◌, ◌++◌, List, ℤ, pos, neg_ℤ, ◌<ℤ◌, ◌≤ℤ◌, arith, rules, sym, ap, ◌∙◌, subst, FitsSigned, w64, to_z-of_z}
-use Rattle.std.specs.Prelude.{OnOk, flat_map}
+use Rattle.std.proofs.Common.{◌≡◌, ◌+◌, ◌*◌, ◌≤◌, ◌++◌, List, ℤ, pos, neg_ℤ, ◌<ℤ◌, ◌≤ℤ◌, arith, rules, sym, ap, ◌∙◌, subst, FitsSigned, w64, to_z-of_z}
+use Rattle.std.specs.Prelude.{OnOk}
 use Rattle.std.proofs.lemmas.Int.{ints}
 use Rattle.std.proofs.lemmas.List.{append-nil}
 use Rattle.cal_model.specs.Recurrence.RecurrenceSet.{Reading}
 use Rattle.cal_model.specs.Values.LocalTimes.{moment_of_local}
 use Rattle.cal_model.specs.Walks.Clocks.{reading_by}
 use Rattle.override_merge.specs.Conversions.{tables_of}
-use Rattle.rrule_sets.specs.AskedStarts.{later_starts}
 use Rattle.rrule_sets.proofs.CostLemmas.{rules_counted}
 use Rattle.rrule_sets.proofs.DigitLemmas.{IsCutBy, dated-is, rules_between}
 use Rattle.rrule_sets.proofs.NearLemmas.{none_early}

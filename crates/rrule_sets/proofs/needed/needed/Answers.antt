@@ -1,5 +1,4 @@
-use Rattle.std.proofs.Common.{◌≡◌, ◌+◌, length, arith, rules, FitsSigned, w32, to_z-of_z}
-use Rattle.std.specs.Prelude.{All}
+use Rattle.std.proofs.Common.{length, arith, rules, FitsSigned, w32, to_z-of_z}
 use Rattle.std.proofs.lemmas.List.Elements.{All-head, All-tail}
 use Rattle.override_merge.specs.Conversions.{tables_of, HasConvertibleRow}
 use Rattle.rrule_sets.proofs.NeededLemmas.{needed_first, needed_more, needed_days, needed_steps}

@@ -1,4 +1,4 @@
-use Rattle.std.proofs.Common.{◌≡◌, [], ◌∷◌, arith, FitsSigned, w64, to_z-of_z}
+use Rattle.std.proofs.Common.{[], arith, FitsSigned, w64, to_z-of_z}
 use Rattle.std.proofs.lemmas.Int.{ints}
 use Rattle.std.proofs.lemmas.List.Elements.{All-cons, All-head, All-nil}
 use Rattle.rrule_sets.specs.NeededDigits.{HasDay}

@@ -1,13 +1,10 @@
-use Rattle.std.proofs.Common.{◌≡◌, ℕ, ◌+◌, ◌*◌, ◌≤◌, ◌∙◌, sym, subst, ap, arith, rules, List, length, FitsSigned, w32, to_z-of_z}
-use Rattle.std.specs.Prelude.{All, IfOk, Some, flat_map}
+use Rattle.std.proofs.Common.{◌≡◌, ◌∙◌, sym, subst, rules, List, length, FitsSigned, w32, to_z-of_z}
+use Rattle.std.specs.Prelude.{All, IfOk}
 use Rattle.cal_model.specs.declared.row.Row.{Row}
-use Rattle.cal_model.specs.Instances.Rows.{in_order, masters, rows_in}
 use Rattle.cal_model.specs.Ranges.Cost.{last_day}
-use Rattle.override_merge.specs.Conversions.{HasConvertibleRow, HasRowTimes, tables_of}
+use Rattle.override_merge.specs.Conversions.{HasRowTimes}
 use Rattle.override_merge.proofs.MergeLemmas.{zones_count}
 use Rattle.override_merge.proofs.StampLemmas.{ids_convertible}
-use Rattle.rrule_sets.specs.MasterRows.{masters_cost, masters_from, rows_of_master}
-use Rattle.rrule_sets.specs.NeededDigits.{EndsBy}
 use Rattle.rrule_sets.proofs.CostLemmas.{window_counted}
 use Rattle.rrule_sets.proofs.WindowLemmas.{ends_by_last, rows_near, window_found}
 use Rattle.rrule_sets.proofs.window.rows_beside.Goals as goal

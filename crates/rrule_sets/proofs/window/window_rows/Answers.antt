@@ -1,6 +1,4 @@
-use Rattle.std.proofs.Common.{◌≡◌, ◌∙◌, sym}
-use Rattle.std.specs.Prelude.{All}
-use Rattle.cal_model.specs.TimeZones.TableBounds.{IsTable}
+use Rattle.std.proofs.Common.{◌∙◌, sym}
 use Rattle.override_merge.proofs.ReadObjects.{HasConvertibleRows-read}
 use Rattle.rrule_sets.proofs.ReadLemmas.{HasRowsToFind-read}
 use Rattle.rrule_sets.proofs.WindowLemmas.{rows_in-none}
