@@ -1,1 +1,14 @@
+pub mod AskedLemmas
+pub mod DateStarts
+pub mod DigitLemmas
+pub mod EndLemmas
+pub mod InstanceLemmas
+pub mod NearLemmas
+pub mod NeededLemmas
+pub mod ReadLemmas
+pub mod CostLemmas
+pub mod WindowLemmas
+pub mod SpanLemmas
+pub mod StartsInRange
 pub mod UndatedLemmas
+pub mod WindowedRows

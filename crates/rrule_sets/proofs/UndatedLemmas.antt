@@ -1,12 +1,12 @@
 -- The rows of components without a start, one after the other, are those of the object.
-use Rattle.std.proofs.Common.{◌≡◌, ℕ, ◌+◌, List, [], ◌∷◌, ◌++◌, length, map, refl, sym, ap, ◌∙◌, arith, Bool, true, false, inl, inr}
+use Rattle.std.proofs.Common.{◌≡◌, ℕ, ◌+◌, List, [], ◌∷◌, ◌++◌, length, map, refl, sym, ap, ◌∙◌, arith, inl, inr}
 use Rattle.std.specs.Prelude.{filter, is_none}
 use Rattle.std.proofs.lemmas.Bool.{cases_Bool}
 use Rattle.std.proofs.lemmas.List.{append-nil}
 use Rattle.cal_model.specs.declared.object.Component.{Component}
 use Rattle.cal_model.specs.declared.row.Row.{Row}
 use Rattle.cal_model.specs.Instances.Rows.{Numbered, numbered_from, own_start, undated_row}
-use Rattle.rrule_sets.specs.UndatedRows.{undated_rows_of, undated_rows_from}
+use Rattle.rrule_sets.specs.UndatedRows.{undated_rows_from}
 
 pub undated_rows-from : (number : ℕ) (cs : List Component) → undated_rows_from number cs ≡ map undated_row (filter (λ (n : Numbered). is_none (own_start n.component)) (numbered_from number cs))
 undated_rows-from number [] = refl

@@ -1,1 +1,7 @@
 pub mod UndatedRows
+pub mod DigitRanges
+pub mod PeriodSpans
+pub mod AskedStarts
+pub mod NeededDigits
+pub mod MasterRows
+pub mod ExpandableObjects

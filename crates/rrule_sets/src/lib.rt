@@ -1,11 +1,19 @@
-//! The instances of an object (RFC 5545, 3.8.5.3; RFC 4791, 4.1).
+//! The instances of an object, window by window (RFC 5545, 3.8.5.3; RFC 4791, 4.1).
 //!
-//! Given: a calendar object that was read. Gives: its rows that have no date, and whether one of its
-//! rules recurs by seconds or minutes, so that it is not expanded.
+//! Given: a calendar object that was read. Gives: the rows of a window of 64 days, its rows that have
+//! no date, and whether one of its rules recurs by seconds or minutes, so that it is not expanded.
 #![tactic(auto)]
 
+mod asked;
+mod ends;
 mod fine;
+mod instances;
+mod later;
+mod needed;
+mod range;
 mod undated;
+mod window;
 
 pub use fine::has_fine_rule;
 pub use undated::undated_rows;
+pub use window::window_rows;
