@@ -1,0 +1,13 @@
+pub mod ListSteps
+pub mod AnyLemmas
+pub mod FirstLemmas
+pub mod FaultLemmas
+pub mod PickLemmas
+pub mod AceLemmas
+pub mod RowLemmas
+pub mod NameLemmas
+pub mod DepthLemmas
+pub mod SettingLemmas
+pub mod RangeLemmas
+pub mod SetLemmas
+pub mod AclLemmas

@@ -1,0 +1,5 @@
+pub mod AceAnswers
+pub mod FilterFaults
+pub mod NamelessPicks
+pub mod Reasons
+pub mod Texts

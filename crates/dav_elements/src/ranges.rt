@@ -1,0 +1,123 @@
+//! Ranges of time in a body (RFC 4791, 9.9).
+ghost use Rattle.std.specs.Prelude.{◌≡◌, option_map};
+ghost use Rattle.std.specs.Option.{option_copied};
+ghost use Rattle.cal_model.specs.Values.UtcTexts.{moment_in_utc, utc_of};
+ghost use Rattle.cal_model.specs.Values.ValueTexts.{utc_of_local};
+ghost use Rattle.cal_model.specs.Bodies.RangeElements as spec;
+ghost use Rattle.cal_moment.specs.Calendar.{IsCalendarDay};
+ghost use Rattle.dav_elements.specs.Texts.{text_there};
+
+use crate::parts::attribute;
+use cal_base::Element;
+use cal_model::Range;
+use cal_moment::{Local, Utc, read_date_time};
+
+/// 16000101T000000Z and 21001231T235959Z, in seconds since 1970.
+const FIRST_DATE: i64 = -11_676_096_000;
+
+const LAST_DATE: i64 = 4_133_980_799;
+
+const DAY_SECONDS: i64 = 86_400;
+
+/// The range that an element states, if each end that is there is a UTC text and the end lies after
+/// the start. One of both may be absent.
+pub(crate) fn read_range(element: &Element) -> Option<Range>
+    ensures { result ≡ spec.range_of element.now }
+{
+    range_of_ends(attribute(element, b"start"), attribute(element, b"end"))
+}
+
+fn range_of_ends(start: Option<&[u8]>, end: Option<&[u8]>) -> Option<Range>
+    ensures { result ≡ spec.range_of_ends (option_map text_there start.entry) (option_map text_there end.entry) }
+{
+    if start.is_none() && end.is_none() {
+        return None;
+    }
+    let start = moment_or(FIRST_DATE, start)?;
+    let end = moment_or(LAST_DATE, end)?;
+    range_between(start, end)
+}
+
+fn range_between(start: i64, end: i64) -> Option<Range>
+    ensures { result ≡ spec.range_between start end }
+{
+    if start < end {
+        Some(Range {
+            start: Utc(start),
+            end: Utc(end),
+        })
+    } else {
+        None
+    }
+}
+
+/// The moment that a text spells, or another where there is no text.
+fn moment_or(absent: i64, text: Option<&[u8]>) -> Option<i64>
+    ensures { result ≡ spec.moment_or absent (option_map text_there text.entry) }
+{
+    match text {
+        Some(text) => utc_of(text),
+        None => Some(absent),
+    }
+}
+
+/// The moment that a DATE-TIME in UTC names (RFC 5545, 3.3.5), in seconds since 1970.
+#[tactic(auto, using(crate::proofs::RangeLemmas::utc_read))]
+fn utc_of(text: &[u8]) -> Option<i64>
+    ensures { result ≡ utc_of text.now }
+{
+    match read_date_time(text) {
+        Ok((local, utc)) => moment_in_utc(local, utc),
+        Err(_) => None,
+    }
+}
+
+/// The moment of a local time, if it is one of UTC.
+#[tactic(auto, using(crate::proofs::RangeLemmas::moment_of_utc, crate::proofs::RangeLemmas::moment_of_none))]
+fn moment_in_utc(local: Local, utc: bool) -> Option<i64>
+    requires { IsCalendarDay local.day }
+    ensures { result ≡ moment_in_utc (local, utc) }
+{
+    if utc {
+        Some(moment_of_local(local))
+    } else {
+        None
+    }
+}
+
+fn moment_of_local(local: Local) -> i64
+    requires { IsCalendarDay local.day }
+    ensures { result ≡ (utc_of_local local).0 }
+{
+    i64::from(local.day) * DAY_SECONDS + i64::from(local.second)
+}
+
+/// Whether an element states no range.
+pub(crate) fn is_bad_range(element: &Element) -> bool
+    ensures { result ≡ spec.is_bad_range element.now }
+{
+    read_range(element).is_none()
+}
+
+/// The range of an element that states one.
+pub(crate) fn stated(element: &Element) -> Range
+    ensures { result ≡ spec.stated element.now }
+{
+    match read_range(element) {
+        Some(range) => range,
+        None => Range {
+            start: Utc(FIRST_DATE),
+            end: Utc(FIRST_DATE),
+        },
+    }
+}
+
+/// The range of an element, if there is one.
+pub(crate) fn stated_if_some(element: Option<&Element>) -> Option<Range>
+    ensures { result ≡ option_map spec.stated (option_copied element.entry) }
+{
+    match element {
+        Some(element) => Some(stated(element)),
+        None => None,
+    }
+}
