@@ -1,4 +1,5 @@
 pub mod AskedLemmas
+pub mod CountLemmas
 pub mod DateStarts
 pub mod DigitLemmas
 pub mod EndLemmas
@@ -8,6 +9,7 @@ pub mod NeededLemmas
 pub mod ReadLemmas
 pub mod CostLemmas
 pub mod WindowLemmas
+pub mod RowCounts
 pub mod SpanLemmas
 pub mod StartsInRange
 pub mod UndatedLemmas

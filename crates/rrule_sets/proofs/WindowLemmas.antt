@@ -69,14 +69,15 @@ stamp_of_own Event start said s own = own
 stamp_of_own Todo start said s own = own
 stamp_of_own Journal start said s own = own
 
-pub ids_own : (object : Object) (ids s : Stamp) (n : Numbered) (rest : List Numbered) → Some ids ≡ ids_start object → masters object ≡ n ∷ rest → own_start n.component ≡ Some s → ids ≡ s
-ids_own object ids s n rest e first own =
+pub ids_first : (object : Object) (s : Stamp) (n : Numbered) (rest : List Numbered) → masters object ≡ n ∷ rest → own_start n.component ≡ Some s → ids_start object ≡ Some s
+ids_first object s n rest first own =
     let stamp : master_stamp n ≡ Some s = stamp_of_own n.component.kind n.component.start n.component.extent s own in
     let others = filter_map (λ (m : Numbered). m.component.recurrence_id) (overrides object) in
     let its : first_of (filter_map master_stamp (n ∷ rest) ++ others) ≡ Some s = rw stamp refl in
-    let of_first : ids_start object ≡ Some s = ap (λ (ns : List Numbered). first_of (filter_map master_stamp ns ++ others)) first ∙ its in
-    let same : Some ids ≡ Some s = e ∙ of_first in
-    cc
+    ap (λ (ns : List Numbered). first_of (filter_map master_stamp ns ++ others)) first ∙ its
+
+pub ids_own : (object : Object) (ids s : Stamp) (n : Numbered) (rest : List Numbered) → Some ids ≡ ids_start object → masters object ≡ n ∷ rest → own_start n.component ≡ Some s → ids ≡ s
+ids_own object ids s n rest e first own = let same : Some ids ≡ Some s = e ∙ ids_first object s n rest first own in cc
 
 -- A range of digits keeps what lies in it.
 

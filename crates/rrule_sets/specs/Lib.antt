@@ -5,3 +5,4 @@ pub mod AskedStarts
 pub mod NeededDigits
 pub mod MasterRows
 pub mod ExpandableObjects
+pub mod CountedRows

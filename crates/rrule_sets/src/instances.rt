@@ -152,7 +152,7 @@ fn all_starts(alloc: Global, asked: &Asked) -> Result<List<i64>, NoMemory>
 }
 
 /// What the EXDATEs of a component name, where they count.
-fn component_exceptions(
+pub fn component_exceptions(
     alloc: Global,
     zones: &[LocalTimes<'_>],
     stamp: Stamp,

@@ -1,10 +1,12 @@
 //! The instances of an object, window by window (RFC 5545, 3.8.5.3; RFC 4791, 4.1).
 //!
 //! Given: a calendar object that was read. Gives: the rows of a window of 64 days, its rows that have
-//! no date, and whether one of its rules recurs by seconds or minutes, so that it is not expanded.
+//! no date, how many rows it has as far as a limit, and whether one of its rules recurs by seconds or
+//! minutes, so that it is not expanded.
 #![tactic(auto)]
 
 mod asked;
+mod count;
 mod ends;
 mod fine;
 mod instances;
@@ -14,6 +16,7 @@ mod range;
 mod undated;
 mod window;
 
+pub use count::{Counted, count_rows};
 pub use fine::has_fine_rule;
 pub use undated::undated_rows;
 pub use window::window_rows;

@@ -24,7 +24,7 @@ use std::alloc::Global;
 use std::sync::ledger::Ledger;
 
 /// The first component that is no override, and its number, if there is one.
-fn master_of(components: &[Component]) -> Option<(&Component, u32)>
+pub fn master_of(components: &[Component]) -> Option<(&Component, u32)>
     requires { length components.now < 2 ^ 32 }
     ensures { MatchOption result (masters_from 0 components.now ≡ []) (λ found. (rest : List spec.Numbered) × (masters_from 0 components.now ≡ record { number = found.1; component = found.0.now } ∷ rest)) }
 {

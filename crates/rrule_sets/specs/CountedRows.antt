@@ -1,0 +1,74 @@
+-- How many rows an object has, from its components and the starts of its master that nothing takes away.
+use Rattle.std.specs.Prelude.{◌≡◌, ℕ, ◌<◌, ◌≤◌, Bool, not, ◌||◌, AllPairs, count_by, is_none, is_some, if◌then◌else◌, List, [], ◌∷◌, ◌++◌, map, filter, flat_map, option_to_list, length, ℤ}
+use Rattle.std.specs.List.{list_any}
+use Rattle.cal_moment.specs.declared.stamp.Period.{Period}
+use Rattle.cal_moment.specs.declared.stamp.Stamp.{Stamp}
+use Rattle.cal_model.specs.declared.object.Object.{Object}
+use Rattle.cal_model.specs.declared.object.Component.{Component}
+use Rattle.cal_model.specs.declared.rule.Rule.{Rule}
+use Rattle.cal_model.specs.declared.zone.ZoneTable.{ZoneTable}
+use Rattle.cal_model.specs.Instances.Alignment.{names_start, reading_of, value_of, written_moment}
+use Rattle.cal_model.specs.Instances.Starts.{ascending, date_start, own_start, recurs, starts_from}
+use Rattle.cal_model.specs.Instances.Rows.{Numbered}
+use Rattle.cal_model.specs.Recurrence.RecurrenceSet.{Reading, every_moment, later_moments}
+use Rattle.cal_model.specs.Walks.KeptMoments.{starts_by}
+use Rattle.cal_model.proofs.Instances.RisingLists.{IsBelow}
+use Rattle.override_merge.specs.NamedStarts.{has_name, named_beside}
+use Rattle.rrule_sets.specs.MasterRows.{masters_from}
+use Rattle.rrule_sets.specs.declared.count.Counted.{Counted}
+use Rattle.rrule_sets.specs.declared.count.Counted.TheVariants.{Within, Over, NoMemory}
+use Rattle.rrule_sets.specs.declared.count.Taken.{Taken}
+
+-- no EXDATE and no override names a start
+abbrev pub is_left : Reading → Taken → ℤ → Bool
+is_left reading taken r = not (has_name reading r taken.excepted || has_name reading r taken.named)
+
+-- what names starts is sorted
+pub record IsSearchable (taken : Taken) : Type 0 where
+  pub excepted_values : AllPairs IsBelow taken.excepted.values
+  pub excepted_days : AllPairs IsBelow taken.excepted.days
+  pub named_values : AllPairs IsBelow taken.named.values
+  pub named_days : AllPairs IsBelow taken.named.days
+
+-- all later starts of a rule
+abbrev pub all_later : List ZoneTable → Stamp → Rule → List ℤ
+all_later zones s rule = starts_by (reading_of zones s) (later_moments rule (written_moment s) (reading_of zones s) every_moment)
+
+-- the RDATEs, RDATE periods and rules that count
+abbrev pub dates_in : Component → List Stamp
+dates_in c = if recurs c then c.dates else []
+
+abbrev pub periods_in : Component → List Period
+periods_in c = if recurs c then c.periods else []
+
+abbrev pub rules_in : Component → List Rule
+rules_in c = if recurs c then c.rules else []
+
+-- the starts of a component beside those of its rules
+abbrev pub other_starts : List ZoneTable → Stamp → Component → List ℤ
+other_starts zones s c = value_of zones s ∷ map (date_start zones s) (dates_in c) ++ map (λ (p : Period). date_start zones s p.start) (periods_in c)
+
+-- all that are left, in order
+abbrev pub left_starts : List ZoneTable → Stamp → Component → Taken → List ℤ
+left_starts zones s c taken = ascending (filter (is_left (reading_of zones s) taken) (other_starts zones s c) ++ filter (is_left (reading_of zones s) taken) (flat_map (all_later zones s) (rules_in c)))
+
+-- the starts of a component that none of some components names
+abbrev pub unnamed_starts : List ZoneTable → Stamp → Component → List Component → List ℤ
+unnamed_starts zones s c components = filter (λ r. not (list_any (names_start (reading_of zones s) r) (named_beside zones s components))) (starts_from every_moment zones c (own_start c))
+
+-- those of the master that no override names
+abbrev pub starts_of_master : Object → Numbered → List ℤ
+starts_of_master object n = flat_map (λ s. unnamed_starts object.zones s n.component object.components) (option_to_list (own_start n.component))
+
+abbrev pub master_starts : Object → List ℤ
+master_starts object = flat_map (starts_of_master object) (masters_from 0 object.components)
+
+-- a component has a row of itself: it has no start, or it is an override
+abbrev pub has_own_row : Component → Bool
+has_own_row c = is_none (own_start c) || is_some c.recurrence_id
+
+-- what is said of so many rows and a limit
+abbrev pub IsCountOf : ℕ → ℕ → Counted → Type 0
+IsCountOf rows limit (Within n) = (n ≡ rows) × (n ≤ limit)
+IsCountOf rows limit Over = limit < rows
+IsCountOf rows limit NoMemory = Unit {0}

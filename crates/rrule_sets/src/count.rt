@@ -1,0 +1,432 @@
+//! The number of an object's rows.
+ghost use Rattle.std.specs.Prelude.{◌≡◌, ℕ, ◌+◌, ◌≤◌, ◌<◌, ◌^◌, ◌++◌, ◌∷◌, ◌||◌, List, [], length, count_by, false, All, AllPairs, IfOk, OnOk, MatchOption, Some, filter, flat_map, map, pos, neg_ℤ, ℤ};
+ghost use Rattle.cal_moment.specs.Calendar.{IsBetween};
+ghost use Rattle.cal_moment.specs.declared.stamp.Period.{Period};
+ghost use Rattle.cal_moment.specs.declared.stamp.Stamp.{Stamp};
+ghost use Rattle.cal_model.specs.declared.rule.Rule.{Rule};
+ghost use Rattle.cal_model.specs.Instances.Alignment as alignment;
+ghost use Rattle.cal_model.specs.Instances.Starts as spec;
+ghost use Rattle.cal_model.specs.Instances.Rows as rows;
+ghost use Rattle.cal_model.specs.Objects.ObjectFacts.{IsRead, IsServed};
+ghost use Rattle.cal_model.specs.Recurrence.NextPassing.{IsUsable, is_fine};
+ghost use Rattle.override_merge.specs.Conversions.{tables_of, HasConvertibleRow, HasZone, IsConvertible};
+ghost use Rattle.override_merge.specs.NamedStarts.{IsNamesOf, has_name, named_beside};
+ghost use Rattle.rrule_sets.specs.AskedStarts.{IsExpandable, exceptions_of};
+ghost use Rattle.rrule_sets.specs.CountedRows.{IsCountOf, IsSearchable, all_later, dates_in, has_own_row, is_left, left_starts, master_starts, other_starts, periods_in, rules_in, unnamed_starts};
+ghost use Rattle.rrule_sets.specs.ExpandableObjects.{HasRowsToFind};
+ghost use Rattle.rrule_sets.specs.MasterRows.{masters_from};
+ghost use Rattle.rrule_sets.specs.PeriodSpans.{IsConvertiblePeriod};
+
+use crate::asked::date_start;
+use crate::ends::recurs;
+use crate::instances::component_exceptions;
+use crate::later::{clock_beside, start_moment};
+use crate::window::master_of;
+use cal_base::{List, NoMemory, Steps};
+use cal_model::walk::rule_walk::{END, FIRST, begin_walk, next_moment};
+use cal_model::{Component, LocalTimes, Object, Rule, Rules};
+use cal_moment::{Period, Stamp};
+use override_merge::names::{Names, is_named, names_of_overrides, rising};
+use override_merge::stamps::value_of;
+use override_merge::starts::{ids_start, own_start};
+use override_merge::zones::local_times;
+use rrule_step::PeriodStep;
+use std::alloc::Global;
+use std::marker::Brand;
+use std::sync::ledger::{Blank, Ledger};
+
+/// How many rows an object has, as far as a limit.
+pub enum Counted {
+    /// So many, and no more than the limit.
+    Within(u32),
+    /// More than the limit.
+    Over,
+    NoMemory,
+}
+
+/// What takes starts away from a master: its EXDATEs and the RECURRENCE-IDs of the overrides.
+#[derive(Drop)]
+struct Taken {
+    excepted: Names,
+    named: Names,
+}
+
+/// Whether an EXDATE or an override names a start.
+fn is_taken(zones: &[LocalTimes<'_>], stamp: Stamp, taken: &Taken, start: i64) -> bool
+    requires stamp { HasZone (length zones.now) stamp }
+    requires taken { IsSearchable taken.now }
+    requires near { IsBetween (neg_ℤ (pos 180_000_000_000_000)) (pos 180_000_000_000_000) start }
+    ensures { result ≡ (has_name (alignment.reading_of (tables_of zones.now) stamp) start taken.now.excepted || has_name (alignment.reading_of (tables_of zones.now) stamp) start taken.now.named) }
+{
+    is_named(zones, stamp, &taken.excepted, start) || is_named(zones, stamp, &taken.named, start)
+}
+
+/// Puts a start behind the others, if nothing takes it away.
+fn put_left(
+    zones: &[LocalTimes<'_>],
+    stamp: Stamp,
+    taken: &Taken,
+    start: i64,
+    out: &mut List<i64>,
+) -> Result<(), NoMemory>
+    requires stamp { HasZone (length zones.now) stamp }
+    requires taken { IsSearchable taken.now }
+    requires near { IsBetween (neg_ℤ (pos 1_200_000_000_000)) (pos 1_200_000_000_000) start }
+    ensures { OnOk result (out.new ≡ out.old ++ filter (is_left (alignment.reading_of (tables_of zones.now) stamp) taken.now) (start ∷ [])) }
+{
+    if !is_taken(zones, stamp, taken, start) {
+        out.push(start)?;
+    }
+    Ok(())
+}
+
+/// Starts, in order and each once where the list has grown long; none where they are more than there is
+/// room for.
+fn trimmed(starts: List<i64>, room: u32) -> Result<Option<List<i64>>, NoMemory>
+    ensures { IfOk result (λ r. MatchOption r (room < length (spec.ascending starts)) (λ kept. spec.ascending kept ≡ spec.ascending starts)) }
+{
+    if starts.len() as u64 <= 2 * room as u64 + 64 {
+        return Ok(Some(starts));
+    }
+    let starts = rising(starts)?;
+    if starts.len() as u64 <= room as u64 {
+        Ok(Some(starts))
+    } else {
+        Ok(None)
+    }
+}
+
+/// The starts with those that a rule gives; none where they are more than there is room for, and then
+/// the rest of the rule is not taken.
+fn with_rule<R: Rules, L: Ledger>(
+    alloc: Global,
+    body: &R,
+    zones: &[LocalTimes<'_>],
+    stamp: Stamp,
+    taken: &Taken,
+    rule: &Rule,
+    room: u32,
+    starts: List<i64>,
+    steps: &mut Steps<L>,
+) -> Result<Option<List<i64>>, NoMemory>
+    requires stamp { HasZone (length zones.now) stamp }
+    requires served { IsServed stamp }
+    requires taken { IsSearchable taken.now }
+    requires usable { IsUsable rule.now }
+    requires coarse { is_fine rule.now.freq ≡ false }
+    ensures { IfOk result (λ r. MatchOption r
+        (room < length (spec.ascending (starts ++ filter (is_left (alignment.reading_of (tables_of zones.now) stamp) taken.now) (all_later (tables_of zones.now) stamp rule.now))))
+        (λ kept. spec.ascending kept ≡ spec.ascending (starts ++ filter (is_left (alignment.reading_of (tables_of zones.now) stamp) taken.now) (all_later (tables_of zones.now) stamp rule.now)))) }
+{
+    let clock = clock_beside(zones, stamp);
+    let start = start_moment(stamp);
+    let mut walk = begin_walk(alloc, rule, start, FIRST);
+    let mut starts = starts;
+    'moments: loop {
+        let Some(m) = next_moment(body, rule, start, &clock, FIRST, END, &mut walk, steps)? else {
+            return Ok(Some(starts));
+        };
+        put_left(zones, stamp, taken, clock.instant(m), &mut starts)?;
+        let Some(kept) = trimmed(starts, room)? else {
+            return Ok(None);
+        };
+        starts = kept;
+    }
+}
+
+/// The same of several rules, one after the other.
+fn with_rules<R: Rules, L: Ledger>(
+    alloc: Global,
+    body: &R,
+    zones: &[LocalTimes<'_>],
+    stamp: Stamp,
+    taken: &Taken,
+    rules: &[Rule],
+    room: u32,
+    starts: List<i64>,
+    steps: &mut Steps<L>,
+) -> Result<Option<List<i64>>, NoMemory>
+    requires stamp { HasZone (length zones.now) stamp }
+    requires served { All (λ (rule : Rule). IsServed stamp) rules.now }
+    requires taken { IsSearchable taken.now }
+    requires usable { All IsUsable rules.now }
+    requires coarse { All (λ (rule : Rule). is_fine rule.freq ≡ false) rules.now }
+    ensures { IfOk result (λ r. MatchOption r
+        (room < length (spec.ascending (starts ++ filter (is_left (alignment.reading_of (tables_of zones.now) stamp) taken.now) (flat_map (all_later (tables_of zones.now) stamp) rules.now))))
+        (λ kept. spec.ascending kept ≡ spec.ascending (starts ++ filter (is_left (alignment.reading_of (tables_of zones.now) stamp) taken.now) (flat_map (all_later (tables_of zones.now) stamp) rules.now)))) }
+{
+    let mut starts = starts;
+    let mut rest = rules;
+    'rules: while let Some((rule, behind)) = rest.split_first() {
+        let Some(kept) = with_rule(alloc, body, zones, stamp, taken, rule, room, starts, steps)?
+        else {
+            return Ok(None);
+        };
+        starts = kept;
+        rest = behind;
+    }
+    Ok(Some(starts))
+}
+
+/// Puts the starts of RDATEs that nothing takes away behind the others.
+fn put_left_dates(
+    zones: &[LocalTimes<'_>],
+    stamp: Stamp,
+    taken: &Taken,
+    dates: &[Stamp],
+    out: &mut List<i64>,
+) -> Result<(), NoMemory>
+    requires stamp { IsConvertible (length zones.now) stamp }
+    requires taken { IsSearchable taken.now }
+    requires dates { All (IsConvertible (length zones.now)) dates.now }
+    ensures { OnOk result (out.new ≡ out.old ++ filter (is_left (alignment.reading_of (tables_of zones.now) stamp) taken.now) (map (spec.date_start (tables_of zones.now) stamp) dates.now)) }
+{
+    let mut rest = dates;
+    'dates: while let Some((date, behind)) = rest.split_first() {
+        put_left(zones, stamp, taken, date_start(zones, stamp, *date), out)?;
+        rest = behind;
+    }
+    Ok(())
+}
+
+/// The same of RDATE periods.
+fn put_left_periods(
+    zones: &[LocalTimes<'_>],
+    stamp: Stamp,
+    taken: &Taken,
+    periods: &[Period],
+    out: &mut List<i64>,
+) -> Result<(), NoMemory>
+    requires stamp { IsConvertible (length zones.now) stamp }
+    requires taken { IsSearchable taken.now }
+    requires periods { All (IsConvertiblePeriod (length zones.now)) periods.now }
+    ensures { OnOk result (out.new ≡ out.old ++ filter (is_left (alignment.reading_of (tables_of zones.now) stamp) taken.now) (map (λ (period : Period). spec.date_start (tables_of zones.now) stamp period.start) periods.now)) }
+{
+    let mut rest = periods;
+    'periods: while let Some((period, behind)) = rest.split_first() {
+        put_left(
+            zones,
+            stamp,
+            taken,
+            date_start(zones, stamp, period.start),
+            out,
+        )?;
+        rest = behind;
+    }
+    Ok(())
+}
+
+/// The RDATEs of a component that count.
+fn dates_of(component: &Component) -> &[Stamp]
+    ensures { result.now ≡ dates_in component.now }
+{
+    if recurs(component) {
+        component.dates.as_slice()
+    } else {
+        &[]
+    }
+}
+
+/// Its RDATE periods that count.
+fn periods_of(component: &Component) -> &[Period]
+    ensures { result.now ≡ periods_in component.now }
+{
+    if recurs(component) {
+        component.periods.as_slice()
+    } else {
+        &[]
+    }
+}
+
+/// Its rules that count.
+fn rules_of(component: &Component) -> &[Rule]
+    ensures { result.now ≡ rules_in component.now }
+{
+    if recurs(component) {
+        component.rules.as_slice()
+    } else {
+        &[]
+    }
+}
+
+/// The starts of a component beside those of its rules, as far as nothing takes them away.
+fn other_starts(
+    alloc: Global,
+    zones: &[LocalTimes<'_>],
+    stamp: Stamp,
+    component: &Component,
+    taken: &Taken,
+) -> Result<List<i64>, NoMemory>
+    requires component { IsExpandable (length zones.now) component.now }
+    requires stamp { IsConvertible (length zones.now) stamp }
+    requires taken { IsSearchable taken.now }
+    ensures { IfOk result (λ starts. starts ≡ filter (is_left (alignment.reading_of (tables_of zones.now) stamp) taken.now) (other_starts (tables_of zones.now) stamp component.now)) }
+{
+    let mut starts = List::new(alloc);
+    put_left(zones, stamp, taken, value_of(zones, stamp), &mut starts)?;
+    put_left_dates(zones, stamp, taken, dates_of(component), &mut starts)?;
+    put_left_periods(zones, stamp, taken, periods_of(component), &mut starts)?;
+    Ok(starts)
+}
+
+/// The number of starts, each once; none where they are more than there is room for.
+fn count_starts(starts: List<i64>, room: u32) -> Result<Option<u32>, NoMemory>
+    ensures { IfOk result (λ r. MatchOption r (room < length (spec.ascending starts)) (λ n. (n ≡ length (spec.ascending starts)) × (n ≤ room))) }
+{
+    let starts = rising(starts)?;
+    if starts.len() as u64 <= room as u64 {
+        Ok(Some(starts.len() as u32))
+    } else {
+        Ok(None)
+    }
+}
+
+/// How many instances of a component no override names; none where they are more than there is room
+/// for.
+fn count_left<R: Rules, L: Ledger>(
+    alloc: Global,
+    body: &R,
+    zones: &[LocalTimes<'_>],
+    stamp: Stamp,
+    component: &Component,
+    taken: &Taken,
+    room: u32,
+    steps: &mut Steps<L>,
+) -> Result<Option<u32>, NoMemory>
+    requires component { IsExpandable (length zones.now) component.now }
+    requires own { spec.own_start component.now ≡ Some stamp }
+    requires taken { IsSearchable taken.now }
+    ensures { IfOk result (λ r. MatchOption r (room < length (left_starts (tables_of zones.now) stamp component.now taken.now)) (λ n. (n ≡ length (left_starts (tables_of zones.now) stamp component.now taken.now)) × (n ≤ room))) }
+{
+    let starts = other_starts(alloc, zones, stamp, component, taken)?;
+    let rules = rules_of(component);
+    let Some(starts) = with_rules(alloc, body, zones, stamp, taken, rules, room, starts, steps)?
+    else {
+        return Ok(None);
+    };
+    count_starts(starts, room)
+}
+
+/// Whether a component has a row of itself: it has no start, or it is an override.
+fn has_own_row(component: &Component) -> bool
+    ensures { result ≡ has_own_row component.now }
+{
+    own_start(component).is_none() || component.recurrence_id.is_some()
+}
+
+/// How many components have a row of themselves.
+fn own_rows(components: &[Component]) -> u32
+    requires { length components.now < 2 ^ 32 }
+    ensures { result ≡ count_by has_own_row components.now }
+{
+    let mut rest = components;
+    let mut count = 0u32;
+    'components: while let Some((component, behind)) = rest.split_first() {
+        if has_own_row(component) {
+            count += 1;
+        }
+        rest = behind;
+    }
+    count
+}
+
+/// What takes starts away from the master of an object.
+fn taken_of(
+    alloc: Global,
+    zones: &[LocalTimes<'_>],
+    stamp: Stamp,
+    component: &Component,
+    components: &[Component],
+) -> Result<Taken, NoMemory>
+    requires stamp { HasZone (length zones.now) stamp }
+    requires except { All (IsConvertible (length zones.now)) component.now.except }
+    requires components { All (HasConvertibleRow (length zones.now)) components.now }
+    ensures excepted { IfOk result (λ taken. IsNamesOf (map (λ (x : Stamp). alignment.align (tables_of zones.now) x stamp) (exceptions_of component.now)) taken.excepted) }
+    ensures named { IfOk result (λ taken. IsNamesOf (named_beside (tables_of zones.now) stamp components.now) taken.named) }
+{
+    let excepted = component_exceptions(alloc, zones, stamp, component)?;
+    let named = names_of_overrides(alloc, zones, stamp, components)?;
+    Ok(Taken { excepted, named })
+}
+
+/// How many rows a master has, where the zones are at hand; none where they are more than there is room
+/// for.
+fn count_beside<L: Ledger>(
+    alloc: Global,
+    zones: &[LocalTimes<'_>],
+    stamp: Stamp,
+    component: &Component,
+    components: &[Component],
+    room: u32,
+    steps: &mut Steps<L>,
+) -> Result<Option<u32>, NoMemory>
+    requires component { IsExpandable (length zones.now) component.now }
+    requires own { spec.own_start component.now ≡ Some stamp }
+    requires components { All (HasConvertibleRow (length zones.now)) components.now }
+    ensures { IfOk result (λ r. MatchOption r (room < length (unnamed_starts (tables_of zones.now) stamp component.now components.now)) (λ n. (n ≡ length (unnamed_starts (tables_of zones.now) stamp component.now components.now)) × (n ≤ room))) }
+{
+    let taken = taken_of(alloc, zones, stamp, component, components)?;
+    count_left(
+        alloc,
+        &PeriodStep,
+        zones,
+        stamp,
+        component,
+        &taken,
+        room,
+        steps,
+    )
+}
+
+/// How many rows the master of an object has; none where they are more than there is room for.
+fn master_count<L: Ledger>(
+    alloc: Global,
+    object: &Object,
+    room: u32,
+    blank: Blank,
+) -> Result<Option<u32>, NoMemory>
+    requires object { HasRowsToFind object.now }
+    requires name { L.name ≡ blank.name }
+    requires parts { L.parts ≡ blank.parts }
+    requires some { 0 < blank.parts }
+    ensures { IfOk result (λ r. MatchOption r (room < length (master_starts object.now)) (λ n. (n ≡ length (master_starts object.now)) × (n ≤ room))) }
+{
+    let components = object.components.as_slice();
+    let Some((component, _)) = master_of(components) else {
+        return Ok(Some(0));
+    };
+    let Some(stamp) = own_start(component) else {
+        return Ok(Some(0));
+    };
+    let zones = local_times(alloc, object.zones.as_slice())?;
+    let mut steps = Steps::<L>::open(blank);
+    count_beside(
+        alloc,
+        zones.as_slice(),
+        stamp,
+        component,
+        components,
+        room,
+        &mut steps,
+    )
+}
+
+/// How many rows an object has: `Within` their number, and `Over` exactly where they are more than the
+/// limit. It ends as soon as the starts that no EXDATE and no override names are more, and keeps some
+/// twice the limit of them at most.
+pub fn count_rows(alloc: Global, object: &Object, limit: u32) -> Counted
+    requires read { IsRead object.now }
+    requires few { length object.now.components < 2 ^ 32 }
+    requires coarse { spec.has_fine_rule object.now ≡ false }
+    ensures { IsCountOf (length (rows.rows object.now)) limit result }
+{
+    let own = own_rows(object.components.as_slice());
+    if own > limit {
+        return Counted::Over;
+    }
+    match master_count::<Brand>(alloc, object, limit - own, Blank::new(1)) {
+        Ok(Some(count)) => Counted::Within(own + count),
+        Ok(None) => Counted::Over,
+        Err(NoMemory) => Counted::NoMemory,
+    }
+}
