@@ -1,0 +1,212 @@
+//! Filters over one event, with the answers worked out by hand from RFC 4791, 9.7 and 9.9: each row
+//! of a table is a filter and whether the event matches it.
+
+use crate::event::{MIDNIGHT, object, rows, utc};
+use cal_base::{List, Name, NoMemory, Octets};
+use cal_model::{
+    Collation, CompFilter, Filter, ParamFilter, ParamTest, PropFilter, PropTest, Range, TextMatch,
+};
+use cal_moment::Utc;
+use filter_eval::{Prepared, matches};
+use std::alloc::Global;
+use std::test::Fail;
+
+/// Some minutes of the day, from one up to another.
+fn minutes(from: u16, to: u16) -> Range {
+    Range {
+        start: Utc(MIDNIGHT + i64::from(from) * 60),
+        end: Utc(MIDNIGHT + i64::from(to) * 60),
+    }
+}
+
+/// A test of the components of one name, without tests inside.
+fn comp(
+    alloc: Global,
+    name: &[u8],
+    absent: bool,
+    time: Option<Range>,
+) -> Result<CompFilter, NoMemory> {
+    Ok(CompFilter {
+        name: Name::of(alloc, name)?,
+        absent,
+        time,
+        props: List::new(alloc),
+        comps: List::new(alloc),
+    })
+}
+
+/// A filter of VCALENDAR with one test inside.
+fn calendar(alloc: Global, inner: CompFilter) -> Result<Filter, NoMemory> {
+    let mut top = comp(alloc, b"VCALENDAR", false, None)?;
+    top.comps.push(inner)?;
+    Ok(Filter { top })
+}
+
+/// A filter of the events with one test of a property.
+fn property(
+    alloc: Global,
+    name: &[u8],
+    test: PropTest,
+    params: List<ParamFilter>,
+) -> Result<Filter, NoMemory> {
+    let mut inner = comp(alloc, b"VEVENT", false, None)?;
+    let name = Name::of(alloc, name)?;
+    inner.props.push(PropFilter { name, test, params })?;
+    calendar(alloc, inner)
+}
+
+fn text(
+    alloc: Global,
+    text: &[u8],
+    collation: Collation,
+    negate: bool,
+) -> Result<TextMatch, NoMemory> {
+    Ok(TextMatch {
+        text: Octets::of(alloc, text)?,
+        collation,
+        negate,
+    })
+}
+
+/// Whether the event matches, by the call for one object and by a filter made ready.
+fn answers(alloc: Global, filter: &Filter) -> Result<(bool, bool), NoMemory> {
+    let object = object(alloc)?;
+    let rows = rows(alloc)?;
+    let zone = utc(alloc);
+    let alone = matches(alloc, filter, &object, &rows, &zone)?;
+    let prepared = Prepared::of(alloc, filter)?;
+    Ok((alone, prepared.matches(alloc, &object, &rows, &zone)?))
+}
+
+/// Components in ranges: the name, whether it is not to be there, the range, the answer.
+const RANGES: [(&[u8], bool, Option<(u16, u16)>, bool); 7] = [
+    (b"VEVENT", false, Some((540, 600)), true),
+    (b"VEVENT", false, Some((480, 540)), false),
+    (b"VEVENT", false, Some((600, 660)), false),
+    (b"VEVENT", false, None, true),
+    (b"VEVENT", true, None, false),
+    (b"VTODO", true, None, true),
+    (b"VTODO", false, None, false),
+];
+
+#[test]
+fn component_in_range(rt: HostRuntime) -> Result<(), Fail> {
+    let alloc = rt.alloc();
+    for (name, absent, range, expected) in RANGES {
+        let time = range.map(|range| minutes(range.0, range.1));
+        let filter = calendar(alloc, comp(alloc, name, absent, time)?)?;
+        assert_eq!(rt; answers(alloc, &filter)?, (expected, expected));
+    }
+    Ok(())
+}
+
+/// Ranges of the event and of its alarm, and the answer. The alarm goes off at 08:45, 08:50 and
+/// 08:55, before the event, and each range is asked by itself.
+const ALARMS: [((u16, u16), (u16, u16), bool); 6] = [
+    ((540, 600), (525, 526), true),
+    ((540, 600), (530, 531), true),
+    ((540, 600), (535, 536), true),
+    ((540, 600), (526, 530), false),
+    ((540, 600), (536, 600), false),
+    ((480, 540), (525, 526), false),
+];
+
+#[test]
+fn alarm_in_range(rt: HostRuntime) -> Result<(), Fail> {
+    let alloc = rt.alloc();
+    for (outer, inner, expected) in ALARMS {
+        let alarm = comp(alloc, b"VALARM", false, Some(minutes(inner.0, inner.1)))?;
+        let mut event = comp(alloc, b"VEVENT", false, Some(minutes(outer.0, outer.1)))?;
+        event.comps.push(alarm)?;
+        let filter = calendar(alloc, event)?;
+        assert_eq!(rt; answers(alloc, &filter)?, (expected, expected));
+    }
+    Ok(())
+}
+
+/// Texts of properties: the name, the text, how it is compared, whether the test is negated, the
+/// answer.
+const TEXTS: [(&[u8], &[u8], Collation, bool, bool); 9] = [
+    (
+        b"SUMMARY",
+        b"lunch, CAF",
+        Collation::AsciiCasemap,
+        false,
+        true,
+    ),
+    (b"SUMMARY", b"lunch", Collation::Octet, false, false),
+    (
+        b"SUMMARY",
+        b"Lunch, caf\xc3\xa9",
+        Collation::Octet,
+        false,
+        true,
+    ),
+    (
+        b"SUMMARY",
+        b"CAF\xc3\x89",
+        Collation::AsciiCasemap,
+        false,
+        false,
+    ),
+    (b"SUMMARY", b"lunch", Collation::AsciiCasemap, true, false),
+    (b"SUMMARY", b"", Collation::Octet, false, true),
+    (b"ATTENDEE", b"BEN", Collation::AsciiCasemap, false, true),
+    (b"ATTENDEE", b"ben", Collation::AsciiCasemap, true, true),
+    (b"LOCATION", b"ben", Collation::AsciiCasemap, true, false),
+];
+
+#[test]
+fn text_of_property(rt: HostRuntime) -> Result<(), Fail> {
+    let alloc = rt.alloc();
+    for (name, wanted, collation, negate, expected) in TEXTS {
+        let test = PropTest::Text(text(alloc, wanted, collation, negate)?);
+        let filter = property(alloc, name, test, List::new(alloc))?;
+        assert_eq!(rt; answers(alloc, &filter)?, (expected, expected));
+    }
+    Ok(())
+}
+
+/// Dates in ranges: the name, the range, the answer. The end is that which DTSTART and DURATION make.
+const DATES: [(&[u8], (u16, u16), bool); 5] = [
+    (b"DTSTART", (540, 541), true),
+    (b"DTSTART", (480, 540), false),
+    (b"DTEND", (600, 601), true),
+    (b"DTEND", (540, 600), false),
+    (b"DUE", (600, 601), false),
+];
+
+#[test]
+fn date_in_range(rt: HostRuntime) -> Result<(), Fail> {
+    let alloc = rt.alloc();
+    for (name, range, expected) in DATES {
+        let test = PropTest::Time(minutes(range.0, range.1));
+        let filter = property(alloc, name, test, List::new(alloc))?;
+        assert_eq!(rt; answers(alloc, &filter)?, (expected, expected));
+    }
+    Ok(())
+}
+
+/// An attendee with `ben` in its value, whose PARTSTAT holds a test.
+fn ben(alloc: Global, test: ParamTest) -> Result<Filter, NoMemory> {
+    let mut params = List::new(alloc);
+    let name = Name::of(alloc, b"PARTSTAT")?;
+    params.push(ParamFilter { name, test })?;
+    let test = PropTest::Text(text(alloc, b"ben", Collation::AsciiCasemap, false)?);
+    property(alloc, b"ATTENDEE", test, params)
+}
+
+/// The attendee whose value passes has no PARTSTAT, and the other one's counts for nothing. A
+/// parameter that is not there passes no text-match, also not a negated one.
+#[test]
+fn parameter_of_the_same_line(rt: HostRuntime) -> Result<(), Fail> {
+    let alloc = rt.alloc();
+    let defined = ben(alloc, ParamTest::Defined)?;
+    assert_eq!(rt; answers(alloc, &defined)?, (false, false));
+    let absent = ben(alloc, ParamTest::Absent)?;
+    assert_eq!(rt; answers(alloc, &absent)?, (true, true));
+    let test = text(alloc, b"declined", Collation::AsciiCasemap, true)?;
+    let negated = ben(alloc, ParamTest::Text(test))?;
+    assert_eq!(rt; answers(alloc, &negated)?, (false, false));
+    Ok(())
+}

@@ -1,0 +1,9 @@
+mod AlarmForms
+mod EffectiveEnds
+mod FilteredTests
+mod FoundTexts
+mod LeastInstants
+mod MatchSteps
+mod ReadStamps
+mod UnreadTexts
+mod UtcClock

@@ -1,0 +1,24 @@
+use Rattle.std.proofs.Common.{◌≡◌, ◌+◌, true, length, map, take}
+use Rattle.std.specs.List.{list_any, enumerate_from}
+use Rattle.cal_model.specs.Filters.ComponentRanges.{Site, site_in, sites_in}
+use Rattle.filter_eval.specs.Passing.{inner_hold, passes_whole}
+use Rattle.filter_eval.specs.Places.{IsAt, matched_of}
+use Rattle.filter_eval.specs.Tests.{comp_filter_of}
+use Rattle.filter_eval.proofs.matching.+matching.Given as goal
+
+-- the components in it hold the comp-filters so far
+abbrev pub invariant-passes-comps : goal.invariant-passes-comps
+invariant-passes-comps l =
+    (site : Site) → IsAt l.spot site → inner_hold (matched_of l.subject) (map comp_filter_of (take l.inner-index l.inner-items)) site ≡ true
+
+-- the components to come tell as much as all
+abbrev pub invariant-some_inner_passes-children : goal.invariant-some_inner_passes-children
+invariant-some_inner_passes-children l = record {
+  numbers : l.place + length l.rest ≡ length l.initial.rest;
+  same : (site : Site) → IsAt l.spot site →
+      list_any (passes_whole (matched_of l.subject) (comp_filter_of l.tester)) (map (site_in site) (enumerate_from l.place l.rest))
+      ≡ list_any (passes_whole (matched_of l.subject) (comp_filter_of l.tester)) (sites_in site);
+}
+
+abbrev pub decreases-some_inner_passes-children : goal.decreases-some_inner_passes-children
+decreases-some_inner_passes-children l = length l.rest

@@ -1,0 +1,183 @@
+//! Filters by their structure (RFC 4791, 9.7.1).
+
+ghost use Rattle.std.specs.Prelude.{◌≡◌, ◌∷◌, [], ◌||◌, IfOk, All, codes};
+ghost use Rattle.cal_model.specs.Filters.ComponentRanges.{Site, sites_in, whole_site};
+ghost use Rattle.cal_model.specs.Filters.Matching as spec;
+ghost use Rattle.cal_model.specs.Objects.ComponentLines.{is_named};
+ghost use Rattle.cal_model.specs.TimeZones.TableBounds.{IsTable};
+ghost use Rattle.overlap_rules.specs.Bounds.{IsNearRow};
+ghost use Rattle.filter_eval.specs.EnoughRows.{AreEnough};
+ghost use Rattle.filter_eval.specs.Places.{IsAt, IsReady, matched_of};
+ghost use Rattle.filter_eval.specs.Passing.{passes_itself, passes_whole};
+ghost use Rattle.filter_eval.specs.Tests.{comp_filter_of};
+
+use crate::components::{has_node, is_named, node_is_named};
+use crate::place::Place;
+use crate::prepared::{CompTester, Prepared};
+use crate::props::all_props_hold;
+use crate::ranges::time_passes;
+use crate::subject::{Spot, Subject};
+use cal_base::{List, NoMemory, Node};
+use cal_model::{Filter, Object, Row, ZoneTable};
+use std::alloc::Global;
+
+/// A component in a component.
+fn inner_spot<'a>(spot: &Spot<'a>, place: usize, node: &'a Node) -> Spot<'a>
+    ensures { (site : Site) → IsAt spot.now site → IsAt result (record { path = place ∷ site.path; in_timezone = site.in_timezone || is_named (codes "VTIMEZONE") node.now; node = node.now }) }
+{
+    Spot {
+        node,
+        place: spot.place.inner(place),
+        in_timezone: spot.in_timezone || is_named(&node.name, b"VTIMEZONE"),
+    }
+}
+
+/// Whether a component has the name that is asked for, passes the range and holds all that is asked
+/// of its properties.
+fn own_tests_pass(
+    alloc: Global,
+    subject: &Subject,
+    tester: &CompTester,
+    spot: &Spot,
+) -> Result<bool, NoMemory>
+    requires { IsReady subject.now }
+    ensures { IfOk result (λ pass. (site : Site) → IsAt spot.now site → pass ≡ passes_itself (matched_of subject.now) (comp_filter_of tester.now) site) }
+{
+    if !node_is_named(spot.node, tester.name) {
+        return Ok(false);
+    }
+    if !time_passes(subject, tester.time, spot) {
+        return Ok(false);
+    }
+    all_props_hold(alloc, &tester.props, subject, spot)
+}
+
+/// Whether a component passes all that is asked of it and of the components in it.
+#[cycle(matching)]
+fn passes(
+    alloc: Global,
+    subject: &Subject,
+    tester: &CompTester,
+    spot: &Spot,
+) -> Result<bool, NoMemory>
+    requires { IsReady subject.now }
+    ensures { IfOk result (λ passes. (site : Site) → IsAt spot.now site → passes ≡ passes_whole (matched_of subject.now) (comp_filter_of tester.now) site) }
+{
+    let passed = own_tests_pass(alloc, subject, tester, spot)?;
+    if !passed {
+        return Ok(false);
+    }
+    'comps: for inner in tester.comps.as_slice() {
+        let holds = some_inner_passes(alloc, subject, inner, spot)?;
+        if !holds {
+            return Ok(false);
+        }
+    }
+    Ok(true)
+}
+
+/// Whether the components in a component hold a comp-filter: none has its name, or some of that name
+/// passes all its tests.
+#[cycle(matching)]
+fn some_inner_passes(
+    alloc: Global,
+    subject: &Subject,
+    tester: &CompTester,
+    spot: &Spot,
+) -> Result<bool, NoMemory>
+    requires { IsReady subject.now }
+    ensures { IfOk result (λ holds. (site : Site) → IsAt spot.now site → holds ≡ spec.comp_filter_holds (matched_of subject.now) (comp_filter_of tester.now) (sites_in site)) }
+{
+    let mut rest = spot.node.children.as_slice();
+    if tester.absent {
+        return Ok(!has_node(rest, tester.name));
+    }
+    let mut place = 0;
+    'children: while let Some((child, behind)) = rest.split_first() {
+        let passed = passes(alloc, subject, tester, &inner_spot(spot, place, child))?;
+        if passed {
+            return Ok(true);
+        }
+        place += 1;
+        rest = behind;
+    }
+    Ok(false)
+}
+
+/// Whether the outermost component of an object, by itself, holds a comp-filter.
+fn outermost_holds(alloc: Global, subject: &Subject, tester: &CompTester) -> Result<bool, NoMemory>
+    requires { IsReady subject.now }
+    ensures { IfOk result (λ holds. holds ≡ spec.comp_filter_holds (matched_of subject.now) (comp_filter_of tester.now) (whole_site subject.now.object.now ∷ [])) }
+{
+    let spot = Spot {
+        node: &subject.object.tree,
+        place: Place::Outermost,
+        in_timezone: false,
+    };
+    if tester.absent {
+        return Ok(!node_is_named(&subject.object.tree, tester.name));
+    }
+    passes(alloc, subject, tester, &spot)
+}
+
+impl<'f> Prepared<'f> {
+    /// Whether an object matches the filter, as far as the given rows tell.
+    fn matches_rows(
+        &self,
+        alloc: Global,
+        object: &Object,
+        rows: &List<Row>,
+        zone: &ZoneTable,
+    ) -> Result<bool, NoMemory>
+        requires zone { IsTable zone.now }
+        requires zones { All IsTable object.now.zones }
+        requires rows { All IsNearRow rows.now }
+        ensures { IfOk result (λ matches. matches ≡ spec.matches self.now object.now rows.now zone.now) }
+    {
+        let subject = Subject {
+            object,
+            rows: rows.as_slice(),
+            zone,
+        };
+        outermost_holds(alloc, &subject, &self.top)
+    }
+
+    /// Whether an object matches the filter, as far as the given rows tell.
+    ///
+    /// Floating times are read in the given zone. Where the rows are rows of the object, and among
+    /// them are all that meet a range of the filter, they tell as much as all rows of the object.
+    /// Memory may be wanting only where the filter looks at a text or a date.
+    pub fn matches(
+        &self,
+        alloc: Global,
+        object: &Object,
+        rows: &List<Row>,
+        zone: &ZoneTable,
+    ) -> Result<bool, NoMemory>
+        requires zone { IsTable zone.now }
+        requires zones { All IsTable object.now.zones }
+        requires rows { All IsNearRow rows.now }
+        ensures given { IfOk result (λ matches. matches ≡ spec.matches self.now object.now rows.now zone.now) }
+        ensures whole { IfOk result (λ matches. AreEnough self.now object.now rows.now zone.now → matches ≡ spec.matches_object self.now object.now zone.now) }
+    {
+        self.matches_rows(alloc, object, rows, zone)
+    }
+}
+
+/// Whether an object matches a filter, as far as the given rows tell; for one object alone.
+pub fn matches(
+    alloc: Global,
+    filter: &Filter,
+    object: &Object,
+    rows: &List<Row>,
+    zone: &ZoneTable,
+) -> Result<bool, NoMemory>
+    requires zone { IsTable zone.now }
+    requires zones { All IsTable object.now.zones }
+    requires rows { All IsNearRow rows.now }
+    ensures given { IfOk result (λ matches. matches ≡ spec.matches filter.now object.now rows.now zone.now) }
+    ensures whole { IfOk result (λ matches. AreEnough filter.now object.now rows.now zone.now → matches ≡ spec.matches_object filter.now object.now zone.now) }
+{
+    let prepared = Prepared::of(alloc, filter)?;
+    prepared.matches(alloc, object, rows, zone)
+}

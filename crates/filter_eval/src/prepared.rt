@@ -1,0 +1,71 @@
+//! Filters made ready for many objects: each text is folded and analysed once.
+
+ghost use Rattle.std.specs.Prelude.{◌≡◌, IfOk, map};
+ghost use Rattle.filter_eval.specs.Tests.{comp_filter_of};
+
+use crate::props::{PropTester, testers_of_props};
+use cal_base::{List, Name, NoMemory};
+use cal_model::{CompFilter, Filter, Range};
+use std::alloc::Global;
+use std::marker::Model;
+
+/// A comp-filter made ready.
+#[derive(Drop)]
+pub struct CompTester<'f> {
+    pub name: &'f Name,
+    /// Whether it asks that there is none, and nothing else.
+    pub absent: bool,
+    pub time: Option<Range>,
+    pub props: List<PropTester<'f>>,
+    pub comps: List<CompTester<'f>>,
+}
+
+/// A filter made ready, once for all objects that it is to be matched with: no text of it is looked
+/// at again but to be found. Contracts see the filter.
+#[derive(Drop)]
+pub struct Prepared<'f> {
+    pub(crate) top: CompTester<'f>,
+}
+
+impl<'f> Model for Prepared<'f> {
+    ghost use Rattle.std.specs.Coded.{codes};
+    ghost use Rattle.cal_model.specs.declared.filter.Filter.{Filter as Whole};
+    ghost use Rattle.cal_model.specs.contracts.filter.CompFilter as levels;
+    ghost use Rattle.filter_eval.specs.Tests.{comp_filter_of};
+
+    ghost Value = { Whole };
+
+    ghost coded = { Prim.hlevel (codes, levels.the_row.coded) };
+
+    ghost view = { λ p. record { top = comp_filter_of p.top } };
+}
+
+impl<'f> Prepared<'f> {
+    /// A filter made ready.
+    pub fn of(alloc: Global, filter: &'f Filter) -> Result<Prepared<'f>, NoMemory>
+        ensures { IfOk result (λ prepared. prepared ≡ filter.now) }
+    {
+        match comp_tester(alloc, &filter.top) {
+            Ok(top) => Ok(Prepared { top }),
+            Err(fault) => Err(fault),
+        }
+    }
+}
+
+/// A comp-filter made ready.
+fn comp_tester<'f>(alloc: Global, filter: &'f CompFilter) -> Result<CompTester<'f>, NoMemory>
+    ensures { IfOk result (λ tester. comp_filter_of tester ≡ filter.now) }
+{
+    let props = testers_of_props(alloc, filter.props.as_slice())?;
+    let mut comps = List::new(alloc);
+    'comps: for comp in filter.comps.as_slice() {
+        comps.push(comp_tester(alloc, comp)?)?;
+    }
+    Ok(CompTester {
+        name: &filter.name,
+        absent: filter.absent,
+        time: filter.time,
+        props,
+        comps,
+    })
+}

@@ -1,0 +1,259 @@
+//! Whether a component passes a range by its rows, and an alarm by its triggers (RFC 4791, 9.7.1 and
+//! 9.9; RFC 5545, 3.6.6). Each test asks for itself for some row of all that are given.
+
+ghost use Rattle.std.specs.Prelude.{◌≡◌, ◌&&◌, ◌==◌, ◌∷◌, [], List, All, count_by, option_to_list};
+ghost use Rattle.std.specs.List.{list_any};
+ghost use Rattle.cal_model.specs.Instances.Rows.{Numbered};
+ghost use Rattle.cal_model.specs.Filters.ComponentRanges as spec;
+ghost use Rattle.cal_model.specs.Filters.ComponentRanges.{Site};
+ghost use Rattle.cal_model.specs.Objects.ComponentReading as reading;
+ghost use Rattle.cal_model.specs.Ranges.Overlap as overlap;
+ghost use Rattle.cal_model.specs.declared.object.Object.{Object as Whole};
+ghost use Rattle.cal_model.specs.declared.row.Row.{Row as Instance};
+ghost use Rattle.cal_model.specs.TimeZones.TableBounds.{IsTable};
+ghost use Rattle.overlap_rules.specs.Bounds.{IsNearRow};
+ghost use Rattle.filter_eval.specs.Places.{IsAt, IsReady, matched_of};
+
+use crate::alarms::{alarm_of, has_trigger, is_alarm};
+use crate::place::Place;
+use crate::subject::{Spot, Subject};
+use cal_base::Node;
+use cal_model::{Alarm, Component, Fixed, Range, Row, RowKind, ZoneTable};
+use overlap_rules::{alarm_overlaps, fixed, lone_alarm_overlaps, row_overlaps};
+
+/// Whether a row is one of a component and overlaps a range.
+fn row_passes(
+    subject: &Subject,
+    range: Range,
+    number: usize,
+    component: &Component,
+    row: &Row,
+) -> bool
+    requires ready { IsReady subject.now }
+    requires near { IsNearRow row.now }
+    ensures { result ≡ ((row.now.component == number) && overlap.row_overlaps component.now row.now range subject.now.zone.now) }
+{
+    row.component as usize == number && row_overlaps(component, row, range, subject.zone)
+}
+
+/// Whether some row of a component overlaps a range.
+fn component_passes(subject: &Subject, range: Range, number: usize, component: &Component) -> bool
+    requires { IsReady subject.now }
+    ensures { result ≡ spec.component_passes (matched_of subject.now) range (record { number = number; component = component.now }) }
+{
+    let mut rest = subject.rows;
+    'rows: while let Some((row, behind)) = rest.split_first() {
+        if row_passes(subject, range, number, component, row) {
+            return true;
+        }
+        rest = behind;
+    }
+    false
+}
+
+/// Whether a component is the child of a place and passes a range.
+fn placed_passes(
+    subject: &Subject,
+    range: Range,
+    child: usize,
+    number: usize,
+    component: &Component,
+) -> bool
+    requires { IsReady subject.now }
+    ensures { result ≡ ((component.now.child == child) && spec.component_passes (matched_of subject.now) range (record { number = number; component = component.now })) }
+{
+    component.child as usize == child && component_passes(subject, range, number, component)
+}
+
+/// Whether some component that is the child of a place passes a range.
+fn child_passes(subject: &Subject, range: Range, child: usize) -> bool
+    requires { IsReady subject.now }
+    ensures { result ≡ list_any (spec.component_passes (matched_of subject.now) range) (spec.component_at subject.now.object.now child) }
+{
+    let mut rest = subject.object.components.as_slice();
+    let mut number = 0;
+    'components: while let Some((component, behind)) = rest.split_first() {
+        if placed_passes(subject, range, child, number, component) {
+            return true;
+        }
+        number += 1;
+        rest = behind;
+    }
+    false
+}
+
+/// The start and the end of a row with a date.
+fn dated_fixed(row: &Row, zone: &ZoneTable) -> Option<Fixed>
+    requires zone { IsTable zone.now }
+    requires near { IsNearRow row.now }
+    ensures { result ≡ overlap.dated_fixed row.now zone.now }
+{
+    if row.kind == RowKind::Undated {
+        None
+    } else {
+        Some(fixed(row, zone))
+    }
+}
+
+/// Whether a row is one of a component, and an alarm of that goes off in a range by it.
+fn alarm_passes_by_row(
+    subject: &Subject,
+    range: Range,
+    number: usize,
+    component: &Component,
+    alarm: &Alarm,
+    row: &Row,
+) -> bool
+    requires ready { IsReady subject.now }
+    requires near { IsNearRow row.now }
+    ensures { result ≡ ((row.now.component == number) && overlap.alarm_overlaps alarm.now component.now (overlap.dated_fixed row.now subject.now.zone.now) range) }
+{
+    row.component as usize == number
+        && alarm_overlaps(alarm, component, dated_fixed(row, subject.zone), range)
+}
+
+/// Whether an alarm of a component goes off in a range by some row.
+fn alarm_passes_by_rows(
+    subject: &Subject,
+    range: Range,
+    number: usize,
+    component: &Component,
+    alarm: &Alarm,
+) -> bool
+    requires { IsReady subject.now }
+    ensures { result ≡ list_any (λ (row : Instance). (row.component == number) && overlap.alarm_overlaps alarm.now component.now (overlap.dated_fixed row subject.now.zone.now) range) subject.now.rows.now }
+{
+    let mut rest = subject.rows;
+    'rows: while let Some((row, behind)) = rest.split_first() {
+        if alarm_passes_by_row(subject, range, number, component, alarm, row) {
+            return true;
+        }
+        rest = behind;
+    }
+    false
+}
+
+/// Whether an alarm of a component goes off in a range, by no row or by some row.
+fn alarm_passes(
+    subject: &Subject,
+    range: Range,
+    number: usize,
+    component: &Component,
+    alarm: &Alarm,
+) -> bool
+    requires { IsReady subject.now }
+    ensures { result ≡ spec.alarm_passes (matched_of subject.now) range (record { number = number; component = component.now }) alarm.now }
+{
+    alarm_overlaps(alarm, component, None, range)
+        || alarm_passes_by_rows(subject, range, number, component, alarm)
+}
+
+/// How many of some components are alarms with a TRIGGER.
+fn count_alarms(nodes: &[Node]) -> usize
+    ensures { result ≡ count_by spec.has_trigger nodes.now }
+{
+    let mut count = 0;
+    let mut rest = nodes;
+    'nodes: while let Some((node, behind)) = rest.split_first() {
+        if has_trigger(node) {
+            count += 1;
+        }
+        rest = behind;
+    }
+    count
+}
+
+/// How many alarms with a TRIGGER stand before a place in a child of the outermost component.
+fn alarms_before(tree: &Node, child: usize, place: usize) -> usize
+    ensures { (object : Whole) → object.tree ≡ tree.now → result ≡ spec.alarms_before object place child }
+{
+    match tree.children.get(child) {
+        Some(holder) => {
+            let nodes = holder.children.as_slice();
+            count_alarms(&nodes[..place.min(nodes.len())])
+        }
+        None => 0,
+    }
+}
+
+/// Whether an alarm that stands at a place directly in a component passes a range.
+fn held_alarm_passes(
+    subject: &Subject,
+    range: Range,
+    node: &Node,
+    number: usize,
+    component: &Component,
+    place: usize,
+) -> bool
+    requires { IsReady subject.now }
+    ensures { (site : Site) → site.node ≡ node.now → (more : List Numbered) → result ≡ spec.valarm_passes (matched_of subject.now) range (record site { path = place ∷ component.now.child ∷ [] }) (record { number = number; component = component.now } ∷ more) }
+{
+    if !has_trigger(node) {
+        return false;
+    }
+    let before = alarms_before(&subject.object.tree, component.child as usize, place);
+    match component.alarms.get(before) {
+        Some(alarm) => alarm_passes(subject, range, number, component, alarm),
+        None => false,
+    }
+}
+
+/// Whether an alarm that stands directly in a child of the outermost component passes a range.
+fn inner_alarm_passes(
+    subject: &Subject,
+    range: Range,
+    node: &Node,
+    child: usize,
+    place: usize,
+) -> bool
+    requires { IsReady subject.now }
+    ensures { (site : Site) → site.node ≡ node.now → result ≡ spec.valarm_passes (matched_of subject.now) range (record site { path = place ∷ child ∷ [] }) (spec.component_at subject.now.object.now child) }
+{
+    let mut rest = subject.object.components.as_slice();
+    let mut number = 0;
+    'components: while let Some((component, behind)) = rest.split_first() {
+        if component.child as usize == child {
+            return held_alarm_passes(subject, range, node, number, component, place);
+        }
+        number += 1;
+        rest = behind;
+    }
+    lone_alarm_passes(range, node)
+}
+
+/// Whether an alarm that stands elsewhere passes a range: by its absolute trigger alone.
+fn lone_alarm_passes(range: Range, node: &Node) -> bool
+    ensures { result ≡ list_any (spec.lone_alarm_passes range) (option_to_list (reading.alarm_of node.now)) }
+{
+    match alarm_of(node) {
+        Some(alarm) => lone_alarm_overlaps(&alarm, range),
+        None => false,
+    }
+}
+
+/// Whether a component passes a range: a VALARM by some trigger, one of the four kinds by some row,
+/// and no other.
+pub fn range_passes(subject: &Subject, range: Range, spot: &Spot) -> bool
+    requires { IsReady subject.now }
+    ensures { (site : Site) → IsAt spot.now site → result ≡ spec.range_passes (matched_of subject.now) range site }
+{
+    match (is_alarm(spot.node), spot.place) {
+        (true, Place::Within { child, place }) => {
+            inner_alarm_passes(subject, range, spot.node, child, place)
+        }
+        (true, _) => lone_alarm_passes(range, spot.node),
+        (false, Place::Child(child)) => child_passes(subject, range, child),
+        (false, _) => false,
+    }
+}
+
+/// Whether a component passes a range that may be asked of it.
+pub fn time_passes(subject: &Subject, time: Option<Range>, spot: &Spot) -> bool
+    requires { IsReady subject.now }
+    ensures { (site : Site) → IsAt spot.now site → result ≡ spec.time_range_passes (matched_of subject.now) time site }
+{
+    match time {
+        Some(range) => range_passes(subject, range, spot),
+        None => true,
+    }
+}
