@@ -1,11 +1,6 @@
-//! Tests of the readers of values and of filters, above them, so that a test costs its own check and
-//! no other.
+//! Tests of the readers of values, above them, so that a test costs its own check and no other.
 #![tactic(auto)]
 
-#[cfg(test)]
-mod event;
-#[cfg(test)]
-mod filters;
 #[cfg(test)]
 mod line;
 #[cfg(test)]
