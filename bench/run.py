@@ -2,7 +2,7 @@
 """Times the programs over generated input, and prints the figures. It needs Python 3, and Debian's package `time` for the memory.
 
 Build the programs once before: `rt run` in crates/caldav_server and in each crate whose name ends in _bench.
-Words name the parts that are to run (scripts, lines, values, rules, bodies, wire, busy, index, turns); without a word all do.
+Words name the parts that are to run (scripts, lines, values, rules, bodies, requests, wire, busy, index, turns); without a word all do.
 """
 import os, re, resource, subprocess, sys, tempfile, time
 
@@ -13,6 +13,7 @@ LINES = os.path.join(TOP, "crates/lines_bench/out/lines_bench")
 INDEX = os.path.join(TOP, "crates/index_bench/out/index_bench")
 TURNS = os.path.join(TOP, "crates/turns_bench/out/turns_bench")
 BODIES = os.path.join(TOP, "crates/xml_bench/out/xml_bench")
+REQUESTS = os.path.join(TOP, "crates/elements_bench/out/elements_bench")
 VALUES = os.path.join(TOP, "crates/values_bench/out/values_bench")
 RULES = os.path.join(TOP, "crates/rules_bench/out/rules_bench")
 WIRE = os.path.join(TOP, "crates/wire_bench/out/wire_bench")
@@ -200,6 +201,29 @@ def bodies():
             print(f"{name:34} {len(text):8d} {best:8.4f} {best / len(text) * 1e9:9.1f} {memory:6.1f}  {output.decode().strip()}")
 
 
+def requests():
+    print(f"{'body':34} {'octets':>8} {'seconds':>8} {'read':>8} {'ns/octet':>9} {'MiB':>6}  answer")
+    both = b" xmlns:D='DAV:' xmlns:C='urn:ietf:params:xml:ns:caldav'>"
+    grant = b"<D:ace><D:principal><D:href>/principals/a/</D:href></D:principal><D:grant><D:privilege><D:read/></D:privilege></D:grant></D:ace>"
+    query = (b"<C:calendar-query" + both + b"<C:filter><C:comp-filter name='VCALENDAR'>", b"</C:comp-filter></C:filter></C:calendar-query>")
+    for size in (262144, 524288, 1048576):
+        texts = {
+            "names of properties": ("find", filled(b"<D:propfind" + both + b"<D:prop>", b"<D:a/>", b"</D:prop></D:propfind>", size)),
+            "properties that are set": ("patch", filled(b"<D:propertyupdate" + both + b"<D:set><D:prop>", b"<a>1</a>", b"</D:prop></D:set></D:propertyupdate>", size)),
+            "sets of one property": ("patch", filled(b"<D:propertyupdate" + both, b"<D:set><D:prop><a/></D:prop></D:set>", b"</D:propertyupdate>", size)),
+            "hrefs": ("report", filled(b"<C:calendar-multiget" + both, b"<D:href>/$</D:href>", b"</C:calendar-multiget>", size)),
+            "filters side by side": ("report", filled(query[0], b"<C:comp-filter name='A'/>", query[1], size)),
+            "filters of properties": ("report", filled(query[0], b"<C:prop-filter name='A'><C:text-match>a</C:text-match></C:prop-filter>", query[1], size)),
+            "elements beside one filter": ("report", filled(query[0], b"<a/>", query[1], size)),
+            "aces": ("acl", filled(b"<D:acl" + both, grant, b"</D:acl>", size)),
+            "protected aces": ("acl", filled(b"<D:acl" + both, b"<D:ace><D:protected/></D:ace>", b"</D:acl>", size)),
+        }
+        for name, (word, text) in texts.items():
+            best, memory, output = min(processor_run(REQUESTS, [word], text) for _ in range(3))
+            body = min(processor_run(BODIES, [], text)[0] for _ in range(3)) if os.path.exists(BODIES) else 0.0
+            print(f"{name:34} {len(text):8d} {best:8.4f} {best - body:8.4f} {(best - body) / len(text) * 1e9:9.1f} {memory:6.1f}  {output.decode().strip()}")
+
+
 def rules():
     print(f"{'rule':34} {'by days':>8} {'by steps':>8} {'times as fast':>14}")
     best = {}
@@ -245,7 +269,7 @@ def wire():
 
 PARTS = {
     "scripts": (scripts, SERVER), "lines": (lines, LINES), "values": (values, VALUES), "rules": (rules, RULES),
-    "bodies": (bodies, BODIES), "wire": (wire, WIRE), "busy": (busy, BUSY), "index": (index, INDEX), "turns": (turns, TURNS),
+    "bodies": (bodies, BODIES), "requests": (requests, REQUESTS), "wire": (wire, WIRE), "busy": (busy, BUSY), "index": (index, INDEX), "turns": (turns, TURNS),
 }
 chosen = sys.argv[1:] or list(PARTS)
 for name in chosen:

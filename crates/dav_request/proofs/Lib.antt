@@ -1,0 +1,6 @@
+pub mod Places
+pub mod QuotedCuts
+pub mod TagSteps
+pub mod CredentialSteps
+pub mod ContentSteps
+pub mod AskedLaws
