@@ -1,11 +1,11 @@
 -- Starts that are counted: sorted, each once, they are as many as the master's rows, and more of them are never fewer.
-use Rattle.std.proofs.Common.{◌≡◌, ℕ, suc, ◌+◌, ◌*◌, ◌<◌, ◌≤◌, List, [], ◌∷◌, ◌++◌, length, map, refl, sym, ap, ap₂, subst, ◌∙◌, arith, Bool, true, false, ℤ, ◌<ℤ◌, inl, inr, ◌⊎◌}
-use Rattle.std.specs.Prelude.{All, AllPairs, Contains, filter, flat_map, not, nat_le, nat_lt, ◌||◌, ◌&&◌, option_to_list, Option, Some, None, if◌then◌else◌}
+use Rattle.std.proofs.Common.{◌≡◌, ℕ, ◌*◌, ◌<◌, ◌≤◌, List, [], ◌∷◌, ◌++◌, length, map, refl, sym, ap, ap₂, subst, ◌∙◌, arith, Bool, true, false, ℤ, ◌<ℤ◌, inl, inr, ◌⊎◌}
+use Rattle.std.specs.Prelude.{All, AllPairs, Contains, filter, flat_map, not, nat_le, nat_lt, ◌||◌, ◌&&◌, Option, Some, if◌then◌else◌}
 use Rattle.std.specs.List.{list_any}
 use Rattle.std.proofs.lemmas.Int.{ints}
 use Rattle.std.proofs.lemmas.Bool.{cases_Bool}
-use Rattle.std.proofs.lemmas.List.{append-nil, append_assoc}
-use Rattle.std.proofs.lemmas.List.Elements.{All-contains, All-head, All-nil, All-tail, All-weaker, Contains-append_cases, Contains-append_left, Contains-append_right, filter-append, filter_agree}
+use Rattle.std.proofs.lemmas.List.{append_assoc}
+use Rattle.std.proofs.lemmas.List.Elements.{All-contains, All-head, All-nil, All-tail, All-weaker, Contains-append_cases, Contains-append_left, Contains-append_right, filter-append}
 use Rattle.std.proofs.lemmas.List.Kept.{AllPairs-filter}
 use Rattle.cal_moment.specs.Calendar.{seconds_since_1970}
 use Rattle.cal_moment.specs.declared.stamp.Period.{Period}
@@ -25,7 +25,7 @@ use Rattle.override_merge.specs.NamedStarts.{IsNamesOf, days_in, has_name, named
 use Rattle.override_merge.proofs.NameLemmas.{has_name-is}
 use Rattle.rrule_sets.specs.declared.count.Taken.{Taken}
 use Rattle.rrule_sets.specs.AskedStarts.{exceptions_of}
-use Rattle.rrule_sets.specs.CountedRows.{IsSearchable, all_later, dates_in, is_left, left_starts, other_starts, periods_in, rules_in, unnamed_starts}
+use Rattle.rrule_sets.specs.CountedRows.{IsSearchable, all_later, dates_in, is_left, left_starts, periods_in, rules_in, unnamed_starts}
 use Rattle.rrule_sets.proofs.DigitLemmas.{IsOfRules, every_moment-of_rules}
 use Rattle.rrule_sets.proofs.InstanceLemmas.{exceptions_are}
 use Rattle.rrule_sets.proofs.StartsInRange.{SameMembers, ascending-members, same_appended, same_ascending, same_members}

@@ -1,5 +1,5 @@
 -- The starts of a component lie near 1970, and those of rules between the years 1 and 2101.
-use Rattle.std.proofs.Common.{◌≡◌, ℕ, ◌+◌, ◌≤◌, List, [], ◌∷◌, ◌++◌, map, refl, sym, ap, subst, ◌∙◌, arith, Bool, true, false, ℤ, pos, neg_ℤ, ◌≤ℤ◌, inl, inr}
+use Rattle.std.proofs.Common.{◌≡◌, ℕ, List, [], ◌∷◌, ◌++◌, map, refl, sym, ap, subst, ◌∙◌, arith, Bool, true, false, ℤ, pos, neg_ℤ, ◌≤ℤ◌, inl, inr}
 use Rattle.std.specs.Prelude.{All, filter, flat_map, Option, Some, None, option_to_list, int_lt, ◌&&◌, if◌then◌else◌}
 use Rattle.std.specs.List.Sorted.{IsPermutation}
 use Rattle.std.proofs.lemmas.Int.{ints}

@@ -1,6 +1,6 @@
 -- How many rows an object has: one for each component that has a row of itself, and one for each start of its master that no override names.
-use Rattle.std.proofs.Common.{◌≡◌, ℕ, suc, ◌+◌, ◌<◌, ◌≤◌, List, [], ◌∷◌, ◌++◌, length, map, refl, sym, ap, ap₂, subst, ◌∙◌, arith, Bool, true, false, ℤ, pos, inl, inr, length-append}
-use Rattle.std.specs.Prelude.{All, count_by, filter, filter_map, flat_map, not, ◌||◌, is_none, is_some, option_to_list, Option, Some, None, if◌then◌else◌}
+use Rattle.std.proofs.Common.{◌≡◌, ℕ, suc, ◌+◌, ◌≤◌, List, [], ◌∷◌, ◌++◌, length, map, refl, sym, ap, ap₂, ◌∙◌, arith, Bool, true, false, ℤ, pos, inl, inr, length-append}
+use Rattle.std.specs.Prelude.{count_by, filter, filter_map, flat_map, not, ◌||◌, is_none, is_some, option_to_list, Option, Some, None, if◌then◌else◌}
 use Rattle.std.specs.List.{list_any}
 use Rattle.std.proofs.lemmas.Bool.{cases_Bool}
 use Rattle.std.proofs.lemmas.List.{append-nil}
@@ -12,7 +12,7 @@ use Rattle.cal_model.specs.declared.object.Object.{Object}
 use Rattle.cal_model.specs.declared.row.Row.{Row}
 use Rattle.cal_model.specs.Instances.Alignment.{align, kind_of, names_start, reading_of, value_of}
 use Rattle.cal_model.specs.Instances.Starts.{end_from, end_of_instance, own_start, starts_from, starts_of}
-use Rattle.cal_model.specs.Instances.Rows.{Numbered, comes_before, dated_rows, first_of, has_id, id_of_override, ids_start, in_order, is_named, master_row, master_stamp, masters, named_by, numbered_from, override_row, override_row_from, overrides, put_row, row_at, row_of, rows, starts, undated_row, undated_rows}
+use Rattle.cal_model.specs.Instances.Rows.{Numbered, comes_before, dated_rows, first_of, has_id, id_of_override, ids_start, in_order, is_named, master_row, master_stamp, masters, numbered_from, override_row, override_row_from, overrides, put_row, row_at, row_of, rows, starts, undated_row, undated_rows}
 use Rattle.cal_model.specs.Recurrence.RecurrenceSet.{every_moment}
 use Rattle.cal_model.proofs.Recurrence.Periods.{count_one, count_zero}
 use Rattle.override_merge.specs.NamedStarts.{named_beside}

@@ -1,5 +1,5 @@
 -- The latest end of the spans that begin at a start stands last among them, where spans are sorted by start, then end.
-use Rattle.std.proofs.Common.{◌≡◌, ℕ, zero, suc, ◌+◌, ◌-◌, ◌<◌, ◌≤◌, List, [], ◌∷◌, length, get_or, refl, sym, ◌∙◌, arith, true, false, ℤ, ◌<ℤ◌, ◌≤ℤ◌, inl, inr, Less, Equal, nat_lt}
+use Rattle.std.proofs.Common.{◌≡◌, ℕ, zero, suc, ◌+◌, ◌<◌, ◌≤◌, List, [], ◌∷◌, length, get_or, refl, sym, ◌∙◌, arith, true, false, ℤ, ◌<ℤ◌, ◌≤ℤ◌, inl, inr, Less, Equal, nat_lt}
 use Rattle.std.specs.Prelude.{All, AllPairs, Contains, int_le, int_lt}
 use Rattle.std.specs.Ordering.{int_cmp, is_lt, ordering_then}
 use Rattle.std.specs.List.Sorted.{IsPartitionedBy}

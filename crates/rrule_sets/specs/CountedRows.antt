@@ -1,5 +1,5 @@
 -- How many rows an object has, from its components and the starts of its master that nothing takes away.
-use Rattle.std.specs.Prelude.{◌≡◌, ℕ, ◌<◌, ◌≤◌, Bool, not, ◌||◌, AllPairs, count_by, is_none, is_some, if◌then◌else◌, List, [], ◌∷◌, ◌++◌, map, filter, flat_map, option_to_list, length, ℤ}
+use Rattle.std.specs.Prelude.{◌≡◌, ℕ, ◌<◌, ◌≤◌, Bool, not, ◌||◌, AllPairs, is_none, is_some, if◌then◌else◌, List, [], ◌∷◌, ◌++◌, map, filter, flat_map, option_to_list, ℤ}
 use Rattle.std.specs.List.{list_any}
 use Rattle.cal_moment.specs.declared.stamp.Period.{Period}
 use Rattle.cal_moment.specs.declared.stamp.Stamp.{Stamp}

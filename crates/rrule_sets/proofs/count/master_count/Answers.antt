@@ -1,4 +1,4 @@
-use Rattle.std.proofs.Common.{◌≡◌, ◌∙◌, length}
+use Rattle.std.proofs.Common.{◌∙◌, length}
 use Rattle.override_merge.proofs.MergeLemmas.{zones_count}
 use Rattle.rrule_sets.proofs.WindowLemmas.{expandable_master}
 use Rattle.rrule_sets.proofs.count.master_count.Goals as goal

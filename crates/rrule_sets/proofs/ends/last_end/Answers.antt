@@ -1,4 +1,4 @@
-use Rattle.std.proofs.Common.{◌-◌, ◌<◌, ◌∙◌, ap, sym, rules, of_calls, arith, ℤ, pos, FitsSigned, w64, to_z-of_z, length, true, false}
+use Rattle.std.proofs.Common.{◌-◌, ◌<◌, ◌∙◌, ap, sym, rules, of_calls, arith, ℤ, pos, FitsSigned, w64, to_z-of_z, length}
 use Rattle.std.specs.Prelude.{int_le}
 use Rattle.std.proofs.lemmas.Fn.{always_returns_same}
 use Rattle.cal_model.specs.Instances.Starts.{latest_of}

@@ -1,4 +1,4 @@
-use Rattle.std.proofs.Common.{◌≡◌, ◌+◌, ◌*◌, ◌≤◌, ◌++◌, List, ℤ, pos, neg_ℤ, ◌<ℤ◌, ◌≤ℤ◌, arith, rules, sym, ap, ◌∙◌, subst, FitsSigned, w64, to_z-of_z}
+use Rattle.std.proofs.Common.{◌≡◌, ◌+◌, ◌*◌, ◌++◌, List, ℤ, pos, neg_ℤ, ◌<ℤ◌, ◌≤ℤ◌, arith, rules, sym, ap, ◌∙◌, subst, FitsSigned, w64, to_z-of_z}
 use Rattle.std.specs.Prelude.{OnOk}
 use Rattle.std.proofs.lemmas.Int.{ints}
 use Rattle.std.proofs.lemmas.List.{append-nil}

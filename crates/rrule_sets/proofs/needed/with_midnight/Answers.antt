@@ -1,4 +1,4 @@
-use Rattle.std.proofs.Common.{arith, rules, ℤ, pos, ◌+ℤ◌, FitsSigned, w64, to_z-of_z}
+use Rattle.std.proofs.Common.{arith, rules, pos, ◌+ℤ◌, FitsSigned, w64, to_z-of_z}
 use Rattle.std.proofs.lemmas.Int.{ints}
 use Rattle.rrule_sets.proofs.NeededLemmas.{max_least}
 use Rattle.rrule_sets.proofs.needed.with_midnight.Goals as goal
