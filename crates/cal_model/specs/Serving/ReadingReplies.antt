@@ -113,7 +113,7 @@ may_be_long other = false
 
 abbrev pub too_long : Method → Reply → Option Reply
 too_long method reply = when (may_be_long method && nat_lt answer_limit (length reply.body))
-    (refusal_reply (dav_refusal (codes "number-within-matches-within-limits")))
+    (refusal_reply (dav_refusal (codes "number-of-matches-within-limits")))
 
 -- The reply to a request that only reads: the first row of the table, or else the answer. It is a function of what the caller sees.
 unfoldable pub reading_reply : Scene → ℤ → Request → Reply
