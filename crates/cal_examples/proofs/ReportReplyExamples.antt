@@ -1,5 +1,5 @@
 -- Replies to reports: what a query finds and misses, ranges at the ends of the dates, the hrefs of a multiget, and whose zone is taken.
-use Rattle.std.specs.Prelude.{◌≡◌, refl, ℕ, List, [], ◌∷◌, ◌++◌, Some, None, codes, pos, neg_ℤ}
+use Rattle.std.specs.Prelude.{◌≡◌, refl, ℕ, List, [], ◌∷◌, ◌++◌, Some, None, codes, pos, neg_ℤ, length}
 use Rattle.std.specs.Str.{is_utf8, chars}
 use lib.Utf8.{encode}
 use Rattle.std.specs.Fmt.{digits}
@@ -12,6 +12,7 @@ use denote.Hole.Carrier as H
 use Rattle.cal_base.specs.Xml.CanonicalXml.{xml_text, attribute_text}
 use Rattle.cal_moment.specs.Calendar.{year_of, month_of, day_of_month}
 use Rattle.cal_model.specs.declared.property.Props.TheVariants as props
+use Rattle.cal_model.specs.declared.reply.Reply.{Reply}
 use Rattle.cal_model.specs.declared.reply.Media.TheVariants as media
 use Rattle.cal_model.specs.declared.report.ReportRequest.TheVariants as report
 use Rattle.cal_model.specs.declared.request.Content.TheVariants as content
@@ -32,7 +33,7 @@ use Rattle.cal_model.specs.Refusals.Preconditions.{put_table}
 use Rattle.cal_model.specs.Refusals.SharedRefusals.{shared_rows}
 use Rattle.cal_model.specs.Serving.EventReplies.{reply_to}
 use Rattle.cal_model.specs.Serving.Outcomes.{outcome}
-use Rattle.cal_model.specs.Serving.ReadingReplies.{reading_reply}
+use Rattle.cal_model.specs.Serving.ReadingReplies.{reading_reply, too_long}
 use Rattle.cal_model.specs.Sight.Scenes.{scene_at}
 use Rattle.cal_model.specs.State.Changes.{effect, change_of}
 use Rattle.cal_model.specs.State.ServerState.{ServerState, calendar_timezone}
@@ -106,3 +107,14 @@ query_in = report.Query props.None (record { comp = None; recur = Whole; busy = 
 zones : ((zone_of_report multiget in_zone).name ≡ codes "Own") × ((zone_of_report multiget in_none).name ≡ []) × ((zone_of_report query_in in_zone).name ≡ codes "Asked")
 unfolding is_utf8 chars encode counted_from date_of time_of date_time_of count_of integer_of length_of offset_of stamps_in_grammar periods_in_grammar trigger_of rule_in_grammar N.out-Node N.roll-Node B.shown-the_row-Node-0 B.hidden-the_row-Node-0 B.shape-the_row-Node-0 H.out H.roll H.shown H.hidden
 zones = (refl, refl, refl)
+
+-- an answer of 64 MiB is sent, and one of an octet more is not
+abbrev of_octets : List ℕ → Reply
+of_octets body = record (bare 207) { media = media.Xml; body = body }
+
+at_the_limit : (body : List ℕ) → length body ≡ 67_108_864 → too_long method.Report (of_octets body) ≡ None
+at_the_limit body long = simp (long) refl
+
+above_the_limit : (body : List ℕ) → length body ≡ 67_108_865 → too_long method.Report (of_octets body) ≡ Some (refused_with (codes "<D:number-of-matches-within-limits/>"))
+unfolding xml_text attribute_text document is_utf8 chars encode
+above_the_limit body long = simp (long) refl
