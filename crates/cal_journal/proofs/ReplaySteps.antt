@@ -4,6 +4,7 @@ use Rattle.std.proofs.lemmas.List.{length-map, take_more}
 use Rattle.cal_model.specs.State.ServerState.{Directory, ServerState, opening_state}
 use Rattle.cal_model.specs.State.UserNames.{AreToldApart}
 use Rattle.cal_model.specs.State.Changes.{effect}
+use Rattle.cal_model.specs.State.SoundStates.{IsSoundChange}
 use Rattle.cal_model.specs.Serving.EventReplies.{state_after}
 use Rattle.cal_model.specs.History.Journal.{Entry, asked, replay, replay_from, IsAcceptedAt, IsLegal, IsLegalFrom}
 use Rattle.cal_model.specs.History.KeptChanges.{IsAcceptable}
@@ -11,7 +12,7 @@ use Rattle.cal_model.specs.History.Origins.{Origins, origins_after, AreLive}
 use Rattle.cal_model.proofs.History.JournalLaws.{replay_from-append}
 use Rattle.cal_model.proofs.History.OriginLaws.{AreLive-push}
 use Rattle.cal_journal.specs.declared.entries.Entry.{Entry as KeptEntry}
-use Rattle.cal_journal.specs.KeptEntries.{kept_entry}
+use Rattle.cal_journal.specs.KeptEntries.{kept_entry, AreSound}
 use Rattle.cal_journal.proofs.OwnChanges.{asked_is_own, state_after-effect}
 
 -- each entry of a legal journal is accepted behind those before it
@@ -55,6 +56,10 @@ module _ (directory : Directory) (entries : List KeptEntry) (n : ℕ) (entry : K
         asked_is = asked_is_own directory state kept told done;
         accepted_is = done;
       }
+
+  -- and brings what keeps states sound
+  pub IsSoundChange-next : AreSound directory (map kept_entry entries) → IsSoundChange directory kept.change
+  IsSoundChange-next sound = subst (λ (e : Entry). IsSoundChange directory e.change) here (sound n kept (omega (arith, within, length-map entries kept_entry)))
 
   one_more : take (n + 1) (map kept_entry entries) ≡ take n (map kept_entry entries) ++ kept ∷ []
   one_more =

@@ -10,6 +10,7 @@
 //! script prints. Used by: every crate above.
 #![tactic(auto)]
 
+pub mod answers;
 pub mod change;
 pub mod filter;
 mod local_span;
@@ -34,6 +35,7 @@ pub mod wire;
 pub mod zone;
 mod zone_time;
 
+pub use answers::{PropAnswers, Seen};
 pub use change::Change;
 pub use filter::{
     Collation, CompFilter, Filter, ParamFilter, ParamTest, PropFilter, PropTest, TextMatch,

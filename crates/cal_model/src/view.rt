@@ -4,7 +4,8 @@ ghost use Rattle.std.specs.Borrow.{Bor};
 ghost use Rattle.std.specs.Option.{option_copied, option_map};
 ghost use Rattle.cal_model.specs.State.ServerState.{Directory, ServerState, octets_at, user_name as name_of_user, user_number};
 ghost use Rattle.cal_model.specs.State.Changes.{effect};
-ghost use Rattle.cal_model.specs.State.SoundStates.{IsSound};
+ghost use Rattle.cal_model.specs.State.SoundStates.{IsSound, IsSoundChange};
+ghost use Rattle.cal_model.specs.State.UserNames.{AreToldApart};
 ghost use Rattle.cal_model.specs.State.StoredData.{data_at, next_calendar, next_object};
 ghost use Rattle.cal_model.specs.History.Origins.{Origins, AreOrigins, origins_after};
 ghost use Rattle.cal_model.specs.History.KeptChanges.{kept_change, is_deletion, IsAtPlace, IsAcceptable};
@@ -38,7 +39,8 @@ pub trait View {
 
     /// The calendar with the least name above a name, and its name; the empty name comes before all.
     fn calendar_after(&self, home: u32, name: &[u8]) -> Option<(&[u8], &CalendarData)>
-        ensures { option_map (λ (p : Bor (List ℕ) × Bor Data). (p.0.now, p.1.now)) result ≡ next_calendar (state self.now) home name.now };
+        ensures next { option_map (λ (p : Bor (List ℕ) × Bor Data). (p.0.now, p.1.now)) result ≡ next_calendar (state self.now) home name.now }
+        ensures sound { IsSound (directory self.now) (state self.now) };
 
     /// An object of a calendar, and its origin.
     fn object(&self, home: u32, calendar: &[u8], name: &[u8]) -> Option<(&Arc<Stored>, u64)>
@@ -51,16 +53,19 @@ pub trait View {
     fn object_after(&self, home: u32, calendar: &[u8], name: &[u8]) -> Option<(&Arc<Stored>, u64)>
         ensures octets { option_map (λ (p : Bor Kept × ℕ). (p.0.now.path.object, p.0.now.octets)) result ≡ next_object (state self.now) home calendar.now name.now }
         ensures origin { IfSome result (λ p. origins self.now home calendar.now p.0.now.path.object ≡ Some p.1) }
-        ensures place { IfSome result (λ p. IsAtPlace home calendar.now p.0.now.path.object p.0.now.path) };
+        ensures place { IfSome result (λ p. IsAtPlace home calendar.now p.0.now.path.object p.0.now.path) }
+        ensures sound { IsSound (directory self.now) (state self.now) };
 
     /// The name of the user of a number.
     fn user_name(&self, who: u32) -> &[u8]
         requires known { who < length (directory self.now).names }
-        ensures { result.now ≡ name_of_user (directory self.now) who };
+        ensures name { result.now ≡ name_of_user (directory self.now) who }
+        ensures told { AreToldApart (directory self.now) };
 
     /// The number of the user of a name.
     fn find_user(&self, name: &[u8]) -> Option<u32>
-        ensures { result ≡ user_number (directory self.now) name.now };
+        ensures number { result ≡ user_number (directory self.now) name.now }
+        ensures told { AreToldApart (directory self.now) };
 }
 
 /// What changes can be made in.
@@ -74,10 +79,12 @@ pub trait Applies {
     /// The origins of its objects.
     ghost origins: { Self → Origins };
 
-    /// Makes a change that is accepted in this state, as the entry of a number. After `NoMemory`
+    /// Makes a change that is accepted in this state, as the entry of a number: one that names what
+    /// can be named, and grants to users alone. After `NoMemory`
     /// nothing is changed. A deletion takes no memory and succeeds.
     fn apply(&mut self, change: &Change, origin: u64) -> Result<(), NoMemory>
         requires acceptable { IsAcceptable (directory self.old) (state self.old) (kept_change change.now) }
+        requires sound { IsSoundChange (directory self.old) (kept_change change.now) }
         ensures users { directory self.new ≡ directory self.old }
         ensures state { OnOk result (state self.new ≡ effect (kept_change change.now) (state self.old)) }
         ensures origins { OnOk result ((home : ℕ) (calendar object : List ℕ) → origins self.new home calendar object ≡ origins_after (kept_change change.now) origin (origins self.old) home calendar object) }

@@ -1,33 +1,40 @@
 -- Sound changes keep states sound.
-use Rattle.std.proofs.Common.{◌≡◌, ℕ, Bool, true, false, List, [], ◌∷◌, length, Option, Some, None, refl, sym, ◌∙◌, subst, arith}
-use Rattle.std.specs.Prelude.{ℤ, bytes_eq, get_or, slice_set, All, if◌then◌else◌, IfSome}
+use Rattle.std.proofs.Common.{◌≡◌, ℕ, Bool, true, false, cond, List, [], ◌∷◌, length, Option, Some, None, refl, sym, ◌∙◌, subst, arith}
+use Rattle.std.specs.Prelude.{ℤ, bytes_eq, get_or, slice_set, All, if◌then◌else◌, IfSome, IsTrue}
+use Rattle.std.specs.declared.cmp.Ordering.{Ordering}
+use Rattle.std.specs.declared.cmp.Ordering.TheVariants.{Less, Equal, Greater}
+use Rattle.std.specs.Ordering.{is_eq}
 use Rattle.std.specs.Cmp.{IsTotalOrder}
 use Rattle.std.specs.List.Sorted.{IsStrictlySortedBy}
+use Rattle.std.specs.Str.{is_utf8, chars}
+use lib.Utf8.{encode}
 use Rattle.std.specs.Map.{keys_of}
 use Rattle.std.proofs.lemmas.Cmp.{nat_list_cmp_total, then_total, on_total}
 use Rattle.std.proofs.lemmas.List.{length-set, length-map}
 use Rattle.std.proofs.lemmas.List.Elements.{All-set, All-nil, All-cons, All-map}
+use Rattle.std.proofs.lemmas.Map.Lookups.{exact_bytes}
 use Rattle.std.proofs.lemmas.Map.Views.{IfSome-lookup_from_All, All-values-insert_entry, All-map-remove_entry}
 use Rattle.std.proofs.lemmas.List.Quantifiers.{position-Some}
 use Rattle.std.proofs.lemmas.Option.{slice_get-get_or}
-use Rattle.cal_base.specs.Lists.NameMap.{value_at, with_value, name_order}
+use Rattle.cal_base.specs.Lists.NameMap.{Named, value_at, with_value, name_order}
 use Rattle.cal_model.proofs.Words.AllLemmas.{All-slice_get}
 use Rattle.cal_model.specs.declared.property.PropName.{PropName}
 use Rattle.cal_model.specs.declared.property.PropSet.{PropSet}
 use Rattle.cal_model.specs.declared.privilege.Grant.{Grant}
+use Rattle.cal_model.specs.Paths.TargetPaths.{is_resource_name}
 use Rattle.cal_model.specs.State.PropertyTexts.{Texts, prop_order}
 use Rattle.cal_model.specs.State.ServerState.{Directory, Calendar, Home, ServerState, user_number, home_at, with_home, with_calendar, charged, opening_state, first_home, first_calendar}
 use Rattle.cal_model.specs.Properties.Settings.{texts_after, texts_after_all, texts_with_value, set_on, made_by}
 use Rattle.cal_model.specs.State.Changes.{Change, put, delete_object, delete_calendar, make, patch, acl, effect, change_of, with_octets, without_octets, with_grants, without_calendar, with_new_calendar}
 use Rattle.cal_model.specs.Refusals.Preconditions.{IsServable}
-use Rattle.cal_model.specs.State.SoundStates.{AreToUsers, IsSoundCalendar, IsSoundHome, IsSound, IsSoundChange}
+use Rattle.cal_model.specs.State.SoundStates.{AreToUsers, AreNamed, IsSoundCalendar, IsSoundHome, IsSound, IsSoundChange}
 use Rattle.cal_model.specs.declared.request.Event.{Event}
 use Rattle.cal_model.specs.declared.request.Tags.{Tags}
 use Rattle.cal_model.specs.Serving.Outcomes.{accepted, outcome, is_reading}
 use Rattle.cal_model.proofs.History.JournalLaws.{outcome-effect}
 use Rattle.cal_model.proofs.History.ReplayLaws.{event_with, put_request}
 use Rattle.cal_model.proofs.Refusals.ServableLaws.{put-servable}
-use Rattle.cal_model.proofs.State.OrderLaws.{sorted-insert, sorted-remove}
+use Rattle.cal_model.proofs.State.OrderLaws.{all_keys-insert, all_keys-remove, sorted-insert, sorted-remove}
 use Rattle.cal_model.specs.Serving.ServingLaws.{StatesStaySound}
 
 -- a home that is changed
@@ -49,12 +56,23 @@ with_home-sound directory state user change keeps sound = at_home directory stat
 in_option : {X : Type 0} (P : X → Type 0) (o : Option X) (x : X) → IfSome o P → o ≡ Some x → P x
 in_option P o x holds e = subst (λ r. IfSome r P) e holds
 
+-- a name that is there is one of them
+named_there : {X : Type 0} (named : Named X) (name : List ℕ) (x : X) → AreNamed named → value_at named name ≡ Some x → IsTrue (is_resource_name name)
+named_there [] name x all e = absurd cc
+named_there (first ∷ named) name x all e = by (name_order name first.0) refl (named_there named name x all.1) e where
+  by : (order : Ordering) → name_order name first.0 ≡ order → (value_at named name ≡ Some x → IsTrue (is_resource_name name))
+      → cond (is_eq order) (Some first.1) (value_at named name) ≡ Some x → IsTrue (is_resource_name name)
+  by Equal same later e = subst (λ other. IsTrue (is_resource_name other)) (sym (exact_bytes name first.0 same)) all.0
+  by Less other later e = later e
+  by Greater other later e = later e
+
 -- a calendar that is changed
 at_calendar : (directory : Directory) (name : List ℕ) (change : Calendar → Calendar) (home : Home) (found : Option Calendar) → value_at home.calendars name ≡ found
     → ((calendar : Calendar) → IsSoundCalendar directory calendar → IsSoundCalendar directory (change calendar)) → IsSoundHome directory home
     → IsSoundHome directory (elim found [ None ↦ home | Some calendar ↦ record home { calendars = with_value home.calendars name (change calendar) } ])
 at_calendar directory name change home None e keeps sound = sound
 at_calendar directory name change home (Some calendar) e keeps sound = record {
+  named = all_keys-insert nat_list_cmp_total (λ other. IsTrue (is_resource_name other)) home.calendars name (change calendar) (named_there home.calendars name calendar sound.named e) sound.named;
   in_order = sorted-insert nat_list_cmp_total home.calendars name (change calendar) sound.in_order;
   calendars = All-values-insert_entry name_order name (change calendar) (IsSoundCalendar directory) home.calendars sound.calendars
       (keeps calendar (in_option (IsSoundCalendar directory) (value_at home.calendars name) calendar (IfSome-lookup_from_All (IsSoundCalendar directory) _ home.calendars sound.calendars) e));
@@ -66,28 +84,36 @@ with_calendar-sound : (directory : Directory) (name : List ℕ) (change : Calend
 with_calendar-sound directory name change keeps home sound = at_calendar directory name change home (value_at home.calendars name) refl keeps sound
 
 charged-sound : (directory : Directory) (size : ℕ) (home : Home) → IsSoundHome directory home → IsSoundHome directory (charged size home)
-charged-sound directory size home sound = record { in_order = sound.in_order; calendars = sound.calendars }
+charged-sound directory size home sound = record { named = sound.named; in_order = sound.in_order; calendars = sound.calendars }
 
 -- Changes of a calendar
 
-with_octets-sound : (directory : Directory) (name octets : List ℕ) → IsServable octets → (calendar : Calendar) → IsSoundCalendar directory calendar → IsSoundCalendar directory (with_octets name octets calendar)
-with_octets-sound directory name octets servable calendar sound = record {
+with_octets-sound : (directory : Directory) (name octets : List ℕ) → IsTrue (is_resource_name name) × IsServable octets → (calendar : Calendar) → IsSoundCalendar directory calendar → IsSoundCalendar directory (with_octets name octets calendar)
+with_octets-sound directory name octets new calendar sound = record {
   grants = sound.grants;
   texts_in_order = sound.texts_in_order;
+  objects_named = all_keys-insert nat_list_cmp_total (λ other. IsTrue (is_resource_name other)) calendar.objects name octets new.0 sound.objects_named;
   objects_in_order = sorted-insert nat_list_cmp_total calendar.objects name octets sound.objects_in_order;
-  servable = All-values-insert_entry name_order name octets IsServable calendar.objects sound.servable servable;
+  servable = All-values-insert_entry name_order name octets IsServable calendar.objects sound.servable new.1;
 }
 
 without_octets-sound : (directory : Directory) (name : List ℕ) (calendar : Calendar) → IsSoundCalendar directory calendar → IsSoundCalendar directory (without_octets name calendar)
 without_octets-sound directory name calendar sound = record {
   grants = sound.grants;
   texts_in_order = sound.texts_in_order;
+  objects_named = all_keys-remove nat_list_cmp_total (λ other. IsTrue (is_resource_name other)) _ calendar.objects sound.objects_named;
   objects_in_order = sorted-remove nat_list_cmp_total _ calendar.objects sound.objects_in_order;
   servable = All-map-remove_entry _ (λ entry. entry.1) IsServable calendar.objects sound.servable;
 }
 
 with_grants-sound : (directory : Directory) (grants : List Grant) → AreToUsers directory grants → (calendar : Calendar) → IsSoundCalendar directory calendar → IsSoundCalendar directory (with_grants grants calendar)
-with_grants-sound directory grants users calendar sound = record { grants = users; texts_in_order = sound.texts_in_order; objects_in_order = sound.objects_in_order; servable = sound.servable }
+with_grants-sound directory grants users calendar sound = record {
+  grants = users;
+  texts_in_order = sound.texts_in_order;
+  objects_named = sound.objects_named;
+  objects_in_order = sound.objects_in_order;
+  servable = sound.servable;
+}
 
 -- properties
 AreInOrder : Texts → Type 0
@@ -112,22 +138,25 @@ set_on-sound : (directory : Directory) (sets : List PropSet) (calendar : Calenda
 set_on-sound directory sets calendar sound = record {
   grants = sound.grants;
   texts_in_order = texts-in_order sets calendar.texts sound.texts_in_order;
+  objects_named = sound.objects_named;
   objects_in_order = sound.objects_in_order;
   servable = sound.servable;
 }
 
 made_by-sound : (directory : Directory) (sets : List PropSet) → IsSoundCalendar directory (made_by sets)
 unfolding IsStrictlySortedBy
-made_by-sound directory sets = set_on-sound directory sets _ (record { grants = All-nil _; texts_in_order = tt; objects_in_order = tt; servable = All-nil _ })
+made_by-sound directory sets = set_on-sound directory sets _ (record { grants = All-nil _; texts_in_order = tt; objects_named = tt; objects_in_order = tt; servable = All-nil _ })
 
 without_calendar-sound : (directory : Directory) (name : List ℕ) (home : Home) → IsSoundHome directory home → IsSoundHome directory (without_calendar name home)
 without_calendar-sound directory name home sound = record {
+  named = all_keys-remove nat_list_cmp_total (λ other. IsTrue (is_resource_name other)) _ home.calendars sound.named;
   in_order = sorted-remove nat_list_cmp_total _ home.calendars sound.in_order;
   calendars = All-map-remove_entry _ (λ entry. entry.1) (IsSoundCalendar directory) home.calendars sound.calendars;
 }
 
-with_new_calendar-sound : (directory : Directory) (name : List ℕ) (calendar : Calendar) → IsSoundCalendar directory calendar → (home : Home) → IsSoundHome directory home → IsSoundHome directory (with_new_calendar name calendar home)
-with_new_calendar-sound directory name calendar new home sound = record {
+with_new_calendar-sound : (directory : Directory) (name : List ℕ) (calendar : Calendar) → IsTrue (is_resource_name name) → IsSoundCalendar directory calendar → (home : Home) → IsSoundHome directory home → IsSoundHome directory (with_new_calendar name calendar home)
+with_new_calendar-sound directory name calendar fits new home sound = record {
+  named = all_keys-insert nat_list_cmp_total (λ other. IsTrue (is_resource_name other)) home.calendars name calendar fits sound.named;
   in_order = sorted-insert nat_list_cmp_total home.calendars name calendar sound.in_order;
   calendars = All-values-insert_entry name_order name calendar (IsSoundCalendar directory) home.calendars sound.calendars new;
 }
@@ -143,7 +172,7 @@ effect-sound directory (delete_object home calendar object) state new sound =
 effect-sound directory (delete_calendar home calendar) state new sound = with_home-sound directory state home _ (without_calendar-sound directory calendar) sound
 effect-sound directory (make home calendar sets size) state new sound =
     with_home-sound directory state home _ (λ h s. charged-sound directory size (with_new_calendar calendar (made_by sets) h)
-    (with_new_calendar-sound directory calendar (made_by sets) (made_by-sound directory sets) h s)) sound
+    (with_new_calendar-sound directory calendar (made_by sets) new (made_by-sound directory sets) h s)) sound
 effect-sound directory (patch home calendar sets size) state new sound =
     with_home-sound directory state home _ (λ h s. charged-sound directory size (with_calendar calendar (set_on sets) h)
     (with_calendar-sound directory calendar (set_on sets) (set_on-sound directory sets) h s)) sound
@@ -153,10 +182,11 @@ effect-sound directory (acl home calendar grants size) state new sound =
 
 -- The state at the start is sound.
 first-sound : (directory : Directory) → IsSoundHome directory first_home
-unfolding IsStrictlySortedBy
+unfolding IsStrictlySortedBy is_utf8 chars encode
 first-sound directory = record {
+  named = (refl, tt);
   in_order = (tt, tt);
-  calendars = All-cons (IsSoundCalendar directory) first_calendar [] (record { grants = All-nil _; texts_in_order = (tt, tt); objects_in_order = tt; servable = All-nil _ }) (All-nil (IsSoundCalendar directory));
+  calendars = All-cons (IsSoundCalendar directory) first_calendar [] (record { grants = All-nil _; texts_in_order = (tt, tt); objects_named = tt; objects_in_order = tt; servable = All-nil _ }) (All-nil (IsSoundCalendar directory));
 }
 
 pub opening-sound : (directory : Directory) → IsSound directory (opening_state directory)
@@ -183,15 +213,17 @@ home_there directory state name owner sound known =
     let within = (position-Some (bytes_eq name) directory.names owner [] known).0 in
     (get_or state.homes owner first_home, slice_get-get_or state.homes owner first_home (omega (arith, within, sound.one_each)))
 
--- the octets of an accepted PUT can be served
+-- the octets of an accepted PUT can be served; its path has the name of a resource
 pub put-sound : (directory : Directory) (state after : ServerState) (session who : ℕ) (moment : ℤ) (user calendar object octets : List ℕ)
-    (media_ok : Bool) (if_match unless_match : Option Tags) (size status owner : ℕ) → IsSound directory state → user_number directory user ≡ Some owner
+    (media_ok : Bool) (if_match unless_match : Option Tags) (size status owner : ℕ) → IsSound directory state → user_number directory user ≡ Some owner → IsTrue (is_resource_name object)
     → outcome directory state (event_with session who moment (put_request user calendar object media_ok octets if_match unless_match size)) ≡ accepted status after
     → IsSoundChange directory (put owner calendar object octets)
-put-sound directory state after session who moment user calendar object octets media_ok if_match unless_match size status owner sound known done =
-    let home = home_there directory state user owner sound known in
-    put-servable directory state after session who moment user calendar object octets media_ok if_match unless_match size status owner home.0 known home.1
-    (All-slice_get (IsSoundHome directory) state.homes owner home.0 sound.homes home.1).in_order done
+put-sound directory state after session who moment user calendar object octets media_ok if_match unless_match size status owner sound known named done =
+    let home = home_there directory state user owner sound known in (
+      named,
+      put-servable directory state after session who moment user calendar object octets media_ok if_match unless_match size status owner home.0 known home.1
+          (All-slice_get (IsSoundHome directory) state.homes owner home.0 sound.homes home.1).in_order done,
+    )
 
 pub states_stay_sound : StatesStaySound
 states_stay_sound = record { opening = opening-sound; changed = effect-sound }

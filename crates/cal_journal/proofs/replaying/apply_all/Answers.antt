@@ -1,11 +1,12 @@
 use Rattle.std.proofs.Common.{◌≡◌, ◌∙◌, ◌+◌, refl, sym, ap, subst, arith, map, take}
 use Rattle.std.proofs.lemmas.List.{take_all, length-map}
 use Rattle.cal_model.specs.State.ServerState.{ServerState}
+use Rattle.cal_model.specs.State.SoundStates.{IsSoundChange}
 use Rattle.cal_model.specs.History.Journal.{replay}
 use Rattle.cal_model.specs.History.KeptChanges.{IsAcceptable}
 use Rattle.cal_model.specs.History.Origins.{AreLive}
 use Rattle.cal_journal.specs.KeptEntries.{kept_entry}
-use Rattle.cal_journal.proofs.ReplaySteps.{IsBehind, IsAcceptable-next, IsBehind-next}
+use Rattle.cal_journal.proofs.ReplaySteps.{IsBehind, IsAcceptable-next, IsSoundChange-next, IsBehind-next}
 use Rattle.cal_journal.proofs.replaying.apply_all.Goals as goal
 
 pub loop-number-init : goal.loop-number-init
@@ -17,6 +18,10 @@ apply-requires g c = record {
       subst (λ directory. IsAcceptable directory (g.S.Applies.state c.loop-number.store) (kept_entry c.index-entries-number.result).change) (sym c.loop-number.invariant.users)
       (IsAcceptable-next (g.S.Applies.directory c.args.store.now) c.args.entries.now c.loop-number.number c.index-entries-number.result c.requires.users c.requires.legal
       c.loop-number-test.true c.index-entries-number.is (g.S.Applies.state c.loop-number.store) (g.S.Applies.origins c.loop-number.store) c.loop-number.invariant.behind);
+  sound =
+      subst (λ directory. IsSoundChange directory (kept_entry c.index-entries-number.result).change) (sym c.loop-number.invariant.users)
+      (IsSoundChange-next (g.S.Applies.directory c.args.store.now) c.args.entries.now c.loop-number.number c.index-entries-number.result c.requires.users c.requires.legal
+      c.loop-number-test.true c.index-entries-number.is c.requires.sound);
 }
 
 pub loop-number-preserved : goal.loop-number-preserved
