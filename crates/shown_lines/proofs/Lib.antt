@@ -1,0 +1,7 @@
+pub mod CleanTexts
+mod WrittenParams
+pub mod LineHeads
+mod ItemTexts
+mod ValueTexts
+mod Outcomes
+mod NewLines
