@@ -1,0 +1,4 @@
+pub mod KindLaws
+pub mod StartLaws
+pub mod Doubles
+pub mod IdLaws
