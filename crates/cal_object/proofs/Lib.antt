@@ -1,4 +1,15 @@
-pub mod KindLaws
-pub mod StartLaws
-pub mod Doubles
-pub mod IdLaws
+mod BusyPeriods
+mod FaultOrder
+mod NamedLemmas
+mod NamedLists
+mod ReadStamps
+mod KindLaws
+mod StartLaws
+mod Doubles
+mod IdLaws
+mod PlaceLaws
+mod FewLines
+mod MomentsRead
+mod ReadIds
+mod Answered
+mod FaultLaws

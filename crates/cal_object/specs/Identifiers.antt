@@ -5,10 +5,10 @@ use Rattle.cal_moment.specs.declared.stamp.Stamp.{Stamp}
 use Rattle.cal_model.specs.declared.object.Component.{Component}
 use Rattle.cal_model.specs.declared.zone.ZoneTable.{ZoneTable}
 use Rattle.cal_model.specs.Words.Integers.{same_int}
-use Rattle.cal_model.specs.Instances.Alignment.{Aligned, at, on_day, align, written_value}
+use Rattle.cal_model.specs.Instances.Alignment.{Aligned, at, on_day, align}
 use Rattle.cal_model.specs.Instances.Rows.{start_or_due}
 use Rattle.cal_model.specs.Objects.ObjectFaults.{can_align}
-use Rattle.cal_model.specs.TimeZones.TableBounds.{IsDigits}
+use Rattle.cal_object.specs.PartDates.{HasMoment}
 
 -- The start beside which they are aligned
 
@@ -30,12 +30,9 @@ ids_of_component zones start c = map (λ id. align zones id start) (filter (λ i
 abbrev pub ids_beside : List ZoneTable → Stamp → List Component → List Aligned
 ids_beside zones start components = flat_map (ids_of_component zones start) components
 
--- the digits of a RECURRENCE-ID are those of a day that fits 32 bits
-abbrev pub HasDigits : Stamp → Type 0
-HasDigits stamp = IsDigits (written_value stamp)
-
-abbrev pub HasIdDigits : Component → Type 0
-HasIdDigits c = All HasDigits (option_to_list c.recurrence_id)
+-- a RECURRENCE-ID is one that was read
+abbrev pub HasReadId : Component → Type 0
+HasReadId c = All HasMoment (option_to_list c.recurrence_id)
 
 -- Numbers
 

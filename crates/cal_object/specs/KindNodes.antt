@@ -13,7 +13,6 @@ use Rattle.cal_model.specs.declared.object.NotResource.TheVariants.{Method, NoCo
 use Rattle.cal_model.specs.declared.object.Object.{Object}
 use Rattle.cal_model.specs.declared.zone.ZoneTable.{ZoneTable}
 use Rattle.cal_model.specs.Words.Lists.{is_empty}
-use Rattle.cal_model.specs.Instances.Rows.{masters}
 use Rattle.cal_model.specs.Objects.ComponentLines.{has, lines_of, name_of, children_of, component_kind}
 use Rattle.cal_model.specs.Objects.ComponentReading.{component_of}
 use Rattle.cal_model.specs.Objects.LineValues.{value_at}
@@ -117,7 +116,7 @@ plain_rows object nodes =
     ∷ (are_different (names_of nodes), MixedKinds)
     ∷ (some_kind lacks_uid nodes, NoUid)
     ∷ (are_different (uids_of nodes), MixedUids)
-    ∷ (nat_lt 1 (length (masters object)), TwoMasters)
+    ∷ (nat_lt 1 (length (masters_among object.components)), TwoMasters)
     ∷ []
 
 abbrev pub other_rows : Object → List Node → List (Bool × NotResource)

@@ -1,5 +1,9 @@
 pub mod Faults
 pub mod Alignments
+pub mod BadDates
+pub mod Classes
+pub mod Recurrences
+pub mod PartDates
 pub mod Identifiers
 pub mod KindNodes
 pub mod DatesOutside

@@ -5,6 +5,7 @@ ghost use Rattle.cal_model.specs.Objects.ObjectFaults.{can_align};
 ghost use Rattle.cal_model.specs.TimeZones.TableBounds.{IsDigits};
 ghost use Rattle.cal_model.specs.Values.LocalTimes.{local_seconds};
 ghost use Rattle.cal_object.specs.Alignments.{tables_of, aligned_by, HasZone, HasZoneBeside};
+ghost use Rattle.cal_object.specs.PartDates.{HasMoment};
 
 use crate::local_times::instant_in;
 use cal_model::LocalTimes;
@@ -34,7 +35,8 @@ pub(crate) fn written_value(stamp: Stamp) -> i64
 
 /// The digits of a local time.
 fn digits_of(local: Local) -> i64
-    ensures { result ≡ local_seconds local }
+    ensures value { result ≡ local_seconds local }
+    ensures near { IsDigits result }
 {
     local.day as i64 * DAY + local.second as i64
 }
@@ -45,6 +47,18 @@ fn midnight_of(digits: i64) -> i64
     ensures { result ≡ spec.midnight_of digits }
 {
     digits.div_euclid(DAY) * DAY
+}
+
+/// The midnight of the day that a stamp is written with.
+fn written_midnight(stamp: Stamp) -> i64
+    requires { HasMoment stamp }
+    ensures { result ≡ spec.midnight_of (spec.written_value stamp) }
+{
+    match stamp {
+        Stamp::Date(day) => midnight_of(day.0 as i64 * DAY),
+        Stamp::Floating(local) | Stamp::Zoned(local, _) => midnight_of(digits_of(local)),
+        Stamp::Utc(moment) => midnight_of(moment.0),
+    }
 }
 
 /// The instant of a local time beside a start that is zoned or in UTC.
@@ -84,11 +98,11 @@ pub(crate) fn align_floating(stamp: Stamp) -> Aligned
 /// What a stamp says beside a start, where the zone that this needs is there.
 pub(crate) fn align(zones: &[LocalTimes<'_>], stamp: Stamp, start: Stamp) -> Aligned
     requires zone { can_align (tables_of zones.now) stamp start ≡ true }
-    requires near { IsDigits (spec.written_value stamp) }
+    requires read { HasMoment stamp }
     ensures { aligned_by result ≡ spec.align (tables_of zones.now) stamp start }
 {
     match start {
-        Stamp::Date(_) => Aligned::At(midnight_of(written_value(stamp))),
+        Stamp::Date(_) => Aligned::At(written_midnight(stamp)),
         Stamp::Floating(_) => align_floating(stamp),
         Stamp::Zoned(_, _) | Stamp::Utc(_) => align_timed(zones, stamp, start),
     }

@@ -119,7 +119,7 @@ fn put_id(
     values: &mut List<i64>,
     days: &mut List<i64>,
 ) -> Result<(), NoMemory>
-    requires { ids.HasIdDigits component.now }
+    requires { ids.HasReadId component.now }
     ensures values { OnOk result (values.new ≡ values.old ++ ids.values_in (ids.ids_of_component (tables_of zones.now) start component.now)) }
     ensures days { OnOk result (days.new ≡ days.old ++ ids.days_in (ids.ids_of_component (tables_of zones.now) start component.now)) }
 {
@@ -151,7 +151,7 @@ fn has_repeat_beside(
     start: Stamp,
     components: &[Component],
 ) -> Result<bool, NoMemory>
-    requires { All ids.HasIdDigits components.now }
+    requires { All ids.HasReadId components.now }
     ensures { IfOk result (λ repeats. repeats ≡ spec.has_repeat (ids.ids_beside (tables_of zones.now) start components.now)) }
 {
     let mut values = List::new(alloc);
@@ -173,7 +173,7 @@ pub(crate) fn has_repeated_id(
     object: &Object,
 ) -> Result<bool, NoMemory>
     requires zones { tables_of zones.now ≡ object.now.zones }
-    requires digits { All ids.HasIdDigits object.now.components }
+    requires ids { All ids.HasReadId object.now.components }
     ensures { IfOk result (λ repeats. repeats ≡ spec.has_repeat (spec.aligned_ids object.now)) }
 {
     match ids_start(object) {

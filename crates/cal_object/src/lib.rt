@@ -5,15 +5,19 @@
 //! what stores calendar objects, and what is given the time zone of a calendar.
 #![tactic(auto)]
 
+mod alarms;
 mod aligned;
+mod busy;
 mod calendar_zones;
 mod component;
 mod component_fault;
 mod contents;
 mod dates;
+mod ends;
 mod fault;
 mod identifiers;
 mod kinds;
+mod line_dates;
 mod local_times;
 mod missing_zone;
 mod named;
@@ -23,6 +27,7 @@ mod outline;
 mod outside;
 mod resource_fault;
 mod scan;
+mod zone_dates;
 mod zone_reading;
 mod zones;
 

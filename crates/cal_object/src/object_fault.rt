@@ -7,7 +7,7 @@ ghost use Rattle.cal_model.specs.Objects.ObjectReading.{object_faults, first_the
 ghost use Rattle.cal_model.specs.Objects.ZoneReading.{zone_names};
 ghost use Rattle.cal_object.specs.Alignments.{tables_of};
 ghost use Rattle.cal_object.specs.Faults.{IsFound};
-ghost use Rattle.cal_object.specs.Identifiers.{HasIdDigits};
+ghost use Rattle.cal_object.specs.Identifiers.{HasReadId};
 ghost use Rattle.cal_object.specs.KindNodes.{components_from};
 ghost use Rattle.cal_object.specs.Outlines.{IsTextScan};
 
@@ -35,7 +35,7 @@ fn check_with(
     requires scan { IsTextScan octets.now scan.now }
     requires zones { tables_of zones.now ≡ object.now.zones }
     requires names { names.now ≡ zone_names object.now.zones }
-    requires digits { All HasIdDigits object.now.components }
+    requires ids { All HasReadId object.now.components }
     requires made { object.now.components ≡ components_from names.now 0 (children_of object.now.tree) }
     ensures good { IfOk result (λ _. first_there (object_faults (placed_lines octets.now) object.now.tree object.now) ≡ None) }
     ensures fault { IfErr result (IsFound (first_there (object_faults (placed_lines octets.now) object.now.tree object.now))) }
@@ -67,7 +67,7 @@ pub(crate) fn check_object(
     requires scan { IsTextScan octets.now scan.now }
     requires zones { All IsTable object.now.zones }
     requires names { names.now ≡ zone_names object.now.zones }
-    requires digits { All HasIdDigits object.now.components }
+    requires ids { All HasReadId object.now.components }
     requires made { object.now.components ≡ components_from names.now 0 (children_of object.now.tree) }
     ensures good { IfOk result (λ _. first_there (object_faults (placed_lines octets.now) object.now.tree object.now) ≡ None) }
     ensures fault { IfErr result (IsFound (first_there (object_faults (placed_lines octets.now) object.now.tree object.now))) }

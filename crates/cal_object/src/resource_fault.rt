@@ -1,12 +1,11 @@
 //! What a calendar does not store (RFC 4791, 4.1).
 ghost use Rattle.std.specs.Prelude.{◌≡◌, All, List, nat_lt, length, IfOk};
 ghost use Rattle.cal_base.specs.Lines.ContentLines.{Placed};
-ghost use Rattle.cal_model.specs.Instances.Rows.{masters};
 ghost use Rattle.cal_model.specs.Objects.ComponentLines.{children_of};
 ghost use Rattle.cal_model.specs.Objects.ObjectFaults as faults;
 ghost use Rattle.cal_model.specs.Objects.ZoneReading.{zone_names};
 ghost use Rattle.cal_object.specs.Alignments.{tables_of};
-ghost use Rattle.cal_object.specs.Identifiers.{HasIdDigits};
+ghost use Rattle.cal_object.specs.Identifiers.{HasReadId};
 ghost use Rattle.cal_object.specs.KindNodes as spec;
 
 use crate::identifiers::has_repeated_id;
@@ -67,7 +66,7 @@ fn other_fault(
 ) -> Result<Option<NotResource>, NoMemory>
     requires zones { tables_of zones.now ≡ object.now.zones }
     requires names { names.now ≡ zone_names object.now.zones }
-    requires digits { All HasIdDigits object.now.components }
+    requires ids { All HasReadId object.now.components }
     ensures { IfOk result (λ fault. fault ≡ spec.row_that_holds (spec.other_rows object.now (children_of object.now.tree))) }
 {
     let nodes = object.tree.children.as_slice();
@@ -94,7 +93,7 @@ pub(crate) fn resource_fault(
 ) -> Result<Option<NotResource>, NoMemory>
     requires zones { tables_of zones.now ≡ object.now.zones }
     requires names { names.now ≡ zone_names object.now.zones }
-    requires digits { All HasIdDigits object.now.components }
+    requires ids { All HasReadId object.now.components }
     ensures { IfOk result (λ fault. (placed : List Placed) → fault ≡ faults.resource_fault object.now (faults.kinds_among (faults.children_in placed object.now.tree))) }
 {
     match plain_fault(object) {
