@@ -90,9 +90,9 @@ has_double-length (z ∷ zs) =
     let short = ascending-short zs in
     elim (cases_Bool (list_any (same_int z) zs)) [
       | inl w ↦ (let there = any_ascending z zs ∙ w in
-        let same : length (put z (ascending zs)) ≡ length (ascending zs) = rw there at one in
-        rw w (sym (lt_true (length (put z (ascending zs))) (suc (length zs)) (omega (arith, same, short)))))
+          let same : length (put z (ascending zs)) ≡ length (ascending zs) = rw there at one in
+          rw w (sym (lt_true (length (put z (ascending zs))) (suc (length zs)) (omega (arith, same, short)))))
       | inr w ↦ (let absent = any_ascending z zs ∙ w in
-        let more : length (put z (ascending zs)) ≡ suc (length (ascending zs)) = rw absent at one in
-        rw (w, more) (has_double-length zs ∙ lt_more (length (ascending zs)) (length zs)))
+          let more : length (put z (ascending zs)) ≡ suc (length (ascending zs)) = rw absent at one in
+          rw (w, more) (has_double-length zs ∙ lt_more (length (ascending zs)) (length zs)))
     ]

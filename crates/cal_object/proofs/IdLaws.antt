@@ -61,6 +61,15 @@ has_repeat-numbers (on_day m ∷ ids) =
     ap (λ first. first || has_repeat ids) (same_day m ids) ∙ ap (λ rest. list_any (same_int m) (days_in ids) || rest) (has_repeat-numbers ids)
     ∙ or_between (has_double (values_in ids)) (list_any (same_int m) (days_in ids)) (has_double (days_in ids))
 
+pub repeat_of_values : (ids : List Aligned) (values : List ℤ) (double : Bool) → values ≡ values_in ids → double ≡ has_double values → double ≡ true → double ≡ has_repeat ids
+repeat_of_values ids values double same is there =
+    there ∙ sym (has_repeat-numbers ids ∙ ap (λ first. first || has_double (days_in ids)) (sym (ap has_double same) ∙ sym is ∙ there))
+
+pub repeat_of_days : (ids : List Aligned) (values days : List ℤ) (first double : Bool) → values ≡ values_in ids → days ≡ days_in ids → first ≡ has_double values → first ≡ false →
+    double ≡ has_double days → double ≡ has_repeat ids
+repeat_of_days ids values days first double same those is none then =
+    then ∙ ap has_double those ∙ sym (has_repeat-numbers ids ∙ ap (λ one. one || has_double (days_in ids)) (sym (ap has_double same) ∙ sym is ∙ none))
+
 -- Components
 
 module _ (zones : List ZoneTable) (start : Stamp) where

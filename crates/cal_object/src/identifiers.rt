@@ -144,6 +144,28 @@ fn has_double(numbers: List<i64>) -> Result<bool, NoMemory>
     Ok(items.len() < count)
 }
 
+/// What the RECURRENCE-IDs of components say beside a start: the values, and the midnights of the
+/// local days.
+fn numbers_beside(
+    alloc: Global,
+    zones: &[LocalTimes<'_>],
+    start: Stamp,
+    components: &[Component],
+) -> Result<(List<i64>, List<i64>), NoMemory>
+    requires { All ids.HasReadId components.now }
+    ensures values { IfOk result (λ numbers. numbers.0 ≡ ids.values_in (ids.ids_beside (tables_of zones.now) start components.now)) }
+    ensures days { IfOk result (λ numbers. numbers.1 ≡ ids.days_in (ids.ids_beside (tables_of zones.now) start components.now)) }
+{
+    let mut values = List::new(alloc);
+    let mut days = List::new(alloc);
+    let mut rest = components;
+    'components: while let Some((component, behind)) = rest.split_first() {
+        put_id(zones, start, component, &mut values, &mut days)?;
+        rest = behind;
+    }
+    Ok((values, days))
+}
+
 /// Whether two RECURRENCE-IDs of components say the same beside a start.
 fn has_repeat_beside(
     alloc: Global,
@@ -154,13 +176,7 @@ fn has_repeat_beside(
     requires { All ids.HasReadId components.now }
     ensures { IfOk result (λ repeats. repeats ≡ spec.has_repeat (ids.ids_beside (tables_of zones.now) start components.now)) }
 {
-    let mut values = List::new(alloc);
-    let mut days = List::new(alloc);
-    let mut rest = components;
-    'components: while let Some((component, behind)) = rest.split_first() {
-        put_id(zones, start, component, &mut values, &mut days)?;
-        rest = behind;
-    }
+    let (values, days) = numbers_beside(alloc, zones, start, components)?;
     Ok(has_double(values)? || has_double(days)?)
 }
 

@@ -1,30 +1,15 @@
-use Rattle.std.proofs.Common.{◌≡◌, [], ◌++◌, ◌∙◌, ap, sym, true, false}
-use Rattle.std.specs.Prelude.{◌||◌}
-use Rattle.std.proofs.lemmas.List.{append_nil}
-use Rattle.std.proofs.lemmas.List.Elements.{All-head, All-tail}
-use Rattle.cal_model.specs.Objects.ObjectFaults.{has_repeat}
 use Rattle.cal_object.specs.Alignments.{tables_of}
-use Rattle.cal_object.specs.Identifiers.{HasReadId, ids_of_component, ids_beside, values_in, days_in, has_double}
-use Rattle.cal_object.proofs.IdLaws.{values_more, days_more, has_repeat-numbers}
+use Rattle.cal_object.specs.Identifiers.{ids_beside}
+use Rattle.cal_object.proofs.IdLaws.{repeat_of_values, repeat_of_days}
 use Rattle.cal_object.proofs.identifiers.has_repeat_beside.Goals as goal
 
-pub put_id-requires : goal.put_id-requires
-put_id-requires c = let first = c.in-Some.ensures.cases.0 in All-head HasReadId c.in-Some.component.now c.in-Some.behind.now (rw first at c.components.invariant.left)
-
-pub components-preserved : goal.components-preserved
-components-preserved c =
-    let zones = tables_of c.args.zones.now in
-    let first = c.in-Some.ensures.cases.0 in
-    let here = ids_of_component zones c.args.start c.in-Some.component.now in
-    let behind = ids_beside zones c.args.start c.in-Some.behind.now in
-    record {
-      values = rw c.in_ok-put_id.ensures.values (values_more c.components.values here behind ∙ (rw first at c.components.invariant.values));
-      days = rw c.in_ok-put_id.ensures.days (days_more c.components.days here behind ∙ (rw first at c.components.invariant.days));
-      left = All-tail HasReadId c.in-Some.component.now c.in-Some.behind.now (rw first at c.components.invariant.left);
-    }
-
 pub returns-then-branch : goal.returns-then-branch
-returns-then-branch c = ?
+returns-then-branch c =
+    let ids = ids_beside (tables_of c.args.zones.now) c.args.start c.args.components.now in
+    repeat_of_values ids c.in_ok-values.values c.in_ok-has_double.field-0 c.in_ok-values.ensures.values c.in_ok-has_double.ensures c.if-branch.true
 
 pub returns-in_ok-has_double-2 : goal.returns-in_ok-has_double-2
-returns-in_ok-has_double-2 c = ?
+returns-in_ok-has_double-2 c =
+    let ids = ids_beside (tables_of c.args.zones.now) c.args.start c.args.components.now in
+    repeat_of_days ids c.in_ok-values.values c.in_ok-values.days c.in_ok-has_double.field-0 c.in_ok-has_double-2.field-0 c.in_ok-values.ensures.values c.in_ok-values.ensures.days
+    c.in_ok-has_double.ensures c.if-branch.false c.in_ok-has_double-2.ensures

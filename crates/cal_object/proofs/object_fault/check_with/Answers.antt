@@ -28,7 +28,25 @@ returns-in-Some-2-clause-fault c =
     resource_told placed object zones c.in-Some-2.why c.requires.zones good why
 
 pub returns-in-Some-stamp_outside-clause-fault : goal.returns-in-Some-stamp_outside-clause-fault
-returns-in-Some-stamp_outside-clause-fault c = ?
+returns-in-Some-stamp_outside-clause-fault c =
+    let placed = placed_lines c.args.octets.now in
+    let object = c.args.object.now in
+    let zones = tables_of c.args.zones.now in
+    let names = c.args.names.now in
+    let good : None ≡ first_bad_component zones 0 (children_of object.tree) =
+    sym c.in_default.is ∙ c.bad_component.ensures ∙ ap (first_bad_component zones 0) c.as_slice-nodes.ensures in
+    let stored : None ≡ resource_fault object (kinds_among (children_in placed object.tree)) = sym c.in_default-2.is ∙ c.in_ok-why.ensures placed in
+    let there : Some c.in-Some-stamp_outside.stamp ≡ stamp_outside names (lines_in placed) = sym c.in-Some-stamp_outside.is ∙ c.stamp_outside.ensures ∙ c.requires.scan.outside names in
+    outside_told placed object zones names c.in-Some-stamp_outside.stamp c.requires.zones good stored c.requires.names there
 
 pub returns-in-None-clause-good : goal.returns-in-None-clause-good
-returns-in-None-clause-good c = ?
+returns-in-None-clause-good c =
+    let placed = placed_lines c.args.octets.now in
+    let object = c.args.object.now in
+    let zones = tables_of c.args.zones.now in
+    let names = c.args.names.now in
+    let good : None ≡ first_bad_component zones 0 (children_of object.tree) =
+    sym c.in_default.is ∙ c.bad_component.ensures ∙ ap (first_bad_component zones 0) c.as_slice-nodes.ensures in
+    let stored : None ≡ resource_fault object (kinds_among (children_in placed object.tree)) = sym c.in_default-2.is ∙ c.in_ok-why.ensures placed in
+    let there : None ≡ stamp_outside names (lines_in placed) = sym c.in-None.is ∙ c.stamp_outside.ensures ∙ c.requires.scan.outside names in
+    object_good placed object zones names c.requires.zones good stored c.requires.names there

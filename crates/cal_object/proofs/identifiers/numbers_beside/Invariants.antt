@@ -2,7 +2,7 @@ use Rattle.std.proofs.Common.{◌≡◌, ◌++◌, length}
 use Rattle.std.specs.Prelude.{All}
 use Rattle.cal_object.specs.Alignments.{tables_of}
 use Rattle.cal_object.specs.Identifiers.{HasReadId, ids_beside, values_in, days_in}
-use Rattle.cal_object.proofs.identifiers.has_repeat_beside.Given as goal
+use Rattle.cal_object.proofs.identifiers.numbers_beside.Given as goal
 
 -- the numbers so far, and those of the components that are left
 abbrev pub invariant-components : goal.invariant-components
