@@ -1,9 +1,12 @@
-//! stub
-ghost use Rattle.std.specs.Prelude.{◌≡◌, ◌<◌, ◌^◌, length, None, IfOk};
+//! What is found in all lines of a text before they go into a tree.
+ghost use Rattle.std.specs.Prelude.{◌≡◌, ◌-◌, ◌<◌, ◌^◌, ◌++◌, length, None, IfOk, OnOk};
 ghost use Rattle.cal_base.specs.Lines.ComponentTrees.{nesting_fault};
-ghost use Rattle.cal_object.specs.Scan.{IsScanOf};
+ghost use Rattle.cal_object.specs.Scan.{IsScanOf, child_numbers};
+ghost use Rattle.cal_object.specs.Children as spec;
 
-use crate::outside::FoundDate;
+use crate::marks::{is_begin, is_end};
+use crate::outside::{FoundDate, date_outside};
+use crate::own_fault::first_own_fault;
 use cal_base::{Line, List, NoMemory};
 use std::alloc::Global;
 
@@ -19,10 +22,60 @@ pub struct Scan {
     pub outside: Option<FoundDate>,
 }
 
-/// stub
-pub fn scan_lines(_alloc: Global, lines: &[Line]) -> Result<Scan, NoMemory>
+/// One more where a test holds.
+fn counted(count: u32, test: bool) -> u32
+    requires { count < 2 ^ 32 - 1 }
+    ensures { result ≡ spec.counted count test }
+{
+    if test { count + 1 } else { count }
+}
+
+/// Puts the number of a line behind others where a component within the outermost one begins there.
+fn put_child(
+    children: &mut List<u32>,
+    number: u32,
+    line: &Line,
+    begins: u32,
+    ends: u32,
+) -> Result<(), NoMemory>
+    ensures { OnOk result (children.new ≡ children.old ++ spec.child_at number begins ends line.now) }
+{
+    if is_begin(line) && begins.saturating_sub(ends) == 1 {
+        children.push(number)?;
+    }
+    Ok(())
+}
+
+/// The numbers of the lines at which the components within the outermost one begin: those of the
+/// BEGINs before which one more BEGIN than ENDs has come.
+fn child_begins(alloc: Global, lines: &[Line]) -> Result<List<u32>, NoMemory>
+    requires { length lines.now < 2 ^ 32 }
+    ensures { IfOk result (λ numbers. numbers ≡ child_numbers lines.now) }
+{
+    let mut children = List::new(alloc);
+    let mut begins = 0u32;
+    let mut ends = 0u32;
+    let mut number = 0u32;
+    let mut rest = lines;
+    'lines: while let Some((line, behind)) = rest.split_first() {
+        put_child(&mut children, number, line, begins, ends)?;
+        begins = counted(begins, is_begin(line));
+        ends = counted(ends, is_end(line));
+        number += 1;
+        rest = behind;
+    }
+    Ok(children)
+}
+
+/// Scans lines, each once for each of the three answers. Where they are not nested, the scan says
+/// nothing: the fault of nesting is then told by what builds the tree.
+pub fn scan_lines(alloc: Global, lines: &[Line]) -> Result<Scan, NoMemory>
     requires { length lines.now < 2 ^ 32 }
     ensures { IfOk result (λ found. nesting_fault lines.now ≡ None → IsScanOf lines.now found) }
 {
-    Err(NoMemory)
+    Ok(Scan {
+        own_fault: first_own_fault(alloc, lines)?,
+        children: child_begins(alloc, lines)?,
+        outside: date_outside(alloc, lines)?,
+    })
 }
