@@ -1,5 +1,5 @@
 -- The count from the front finds the lines at which the components within the outermost one begin.
-use Rattle.std.proofs.Common.{◌≡◌, ℕ, ◌+◌, ◌-◌, Bool, true, false, List, [], ◌∷◌, ◌++◌, map, length, take, refl, sym, ap, ap₂, ◌∙◌, append_assoc, length-append, arith, add-one}
+use Rattle.std.proofs.Common.{◌≡◌, ℕ, ◌+◌, ◌-◌, Bool, true, false, List, [], ◌∷◌, ◌++◌, map, length, take, refl, sym, ap, ap₂, ◌∙◌, append_assoc, length-append, arith}
 use Rattle.std.specs.Prelude.{filter, count_by, cond, ◌&&◌, ◌==◌, if◌then◌else◌}
 use Rattle.std.specs.List.{enumerate_from}
 use Rattle.std.proofs.Math.Seq.{take-append_seam}
@@ -8,7 +8,7 @@ use Rattle.cal_base.specs.declared.line.Line.{Line}
 use Rattle.cal_base.specs.Lines.ComponentTrees.{is_begin, is_end, depth}
 use Rattle.cal_model.specs.Objects.ObjectFaults.{begins_child}
 use Rattle.cal_object.specs.Scan.{child_numbers}
-use Rattle.cal_object.specs.Children.{counted, begins_here, child_at, children_from}
+use Rattle.cal_object.specs.Children.{counted, begins_here, children_from}
 
 added : (b : Bool) (count so_many : ℕ) → count ≡ so_many → counted count b ≡ so_many + (0 + cond b 1 0)
 added true count so_many is = omega (arith, is)

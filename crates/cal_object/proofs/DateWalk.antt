@@ -1,6 +1,6 @@
 -- The walk that keeps what is open finds the dates of a text, where its lines are nested.
 use Rattle.std.proofs.Common.{◌≡◌, ℕ, zero, suc, ◌+◌, Bool, true, false, List, [], ◌∷◌, ◌++◌, length, map, refl, sym, ap, ap₂, ◌∙◌, arith, eq-eqb}
-use Rattle.std.specs.Prelude.{◌&&◌, ◌||◌, ◌==◌, nat_lt, if◌then◌else◌, bytes_eq, codes, find, filter_map, flat_map, is_some, option_map, slice_get, Option, Some, None}
+use Rattle.std.specs.Prelude.{◌&&◌, ◌||◌, ◌==◌, nat_lt, if◌then◌else◌, bytes_eq, codes, find, filter_map, flat_map, is_some, option_map, Option, Some, None}
 use Rattle.std.specs.List.{enumerate_from, range_with_len, last_or}
 use Rattle.std.proofs.lemmas.Bool.{eqb-true, le-ltb}
 use Rattle.std.proofs.lemmas.List.{map-append, length-map}
@@ -15,7 +15,7 @@ use Rattle.cal_model.specs.declared.object.Kind.TheVariants.{Event, Todo, Journa
 use Rattle.cal_model.specs.Words.Limits.{first_date, last_date}
 use Rattle.std.specs.Prelude.{int_lt}
 use Rattle.cal_model.specs.Values.StampTexts.{line_zone, zone_number}
-use Rattle.cal_model.specs.Objects.ComponentLines.{kinds, kind_named}
+use Rattle.cal_model.specs.Objects.ComponentLines.{kind_named}
 use Rattle.cal_model.specs.Objects.ObjectFaults.{is_in_kind, is_in_alarm, dated_stamps, trigger_stamps, stamps_of_line, all_stamps, is_early, is_late, stamp_outside}
 use Rattle.cal_object.specs.declared.outside.FoundDate.{FoundDate}
 use Rattle.cal_object.specs.declared.outside.OpenKind.{OpenKind}
@@ -24,7 +24,7 @@ use Rattle.cal_object.specs.OwnFaults.{without_first}
 use Rattle.cal_object.specs.DatesOutside.{numbered, stamp_beside, is_kind_name, kind_of_name, kinds_behind, is_kind, is_alarm, in_kind, in_alarm, dates_within, found_in, dates_from, first_early, first_late}
 use Rattle.cal_object.proofs.NamedLemmas.{bytes_eq_sym}
 use Rattle.cal_object.proofs.ListSteps.{find-map, find-append, or_else_assoc}
-use Rattle.cal_object.proofs.NestedLines.{Stands, AreNested}
+use Rattle.cal_object.proofs.NestedLines.{AreNested}
 use Rattle.cal_object.proofs.NumberedStamps.{same_value, dated_numbered, trigger_numbered}
 use Rattle.cal_object.proofs.PropertyTable.{alike}
 

@@ -1,17 +1,16 @@
 -- The moments of a line that is read lie in the years 1 to 9999.
-use Rattle.std.proofs.Common.{◌≡◌, ℕ, Bool, true, false, List, [], ◌∷◌, ap, sym, subst, refl, ◌∙◌, All}
+use Rattle.std.proofs.Common.{◌≡◌, ℕ, Bool, true, false, List, [], ◌∷◌, ap, sym, subst, refl, All}
 use Rattle.std.specs.Prelude.{Option, Some, None, option_map, unwrap_or, if◌then◌else◌}
 use Rattle.std.specs.List.{AllByRecursion as Each}
 use Rattle.std.proofs.lemmas.Option.{none-some}
 use Rattle.std.proofs.lemmas.List.Elements.{All-from_recursion}
 use Rattle.cal_base.specs.declared.line.Line.{Line}
 use Rattle.cal_base.specs.Lines.ComponentTrees.{first}
-use Rattle.cal_moment.specs.declared.stamp.Day.{Day}
 use Rattle.cal_moment.specs.declared.stamp.Local.{Local}
 use Rattle.cal_moment.specs.declared.stamp.Period.{Period}
 use Rattle.cal_moment.specs.declared.stamp.PeriodEnd.{PeriodEnd}
 use Rattle.cal_moment.specs.declared.stamp.Stamp.{Stamp}
-use Rattle.cal_moment.specs.declared.stamp.Stamp.TheVariants.{Date, Floating, Zoned, Utc}
+use Rattle.cal_moment.specs.declared.stamp.Stamp.TheVariants.{Date, Utc}
 use Rattle.cal_model.specs.Recurrence.NextPassing.{IsWritten}
 use Rattle.cal_model.specs.Values.ValueTexts.{date_of, date_time_of, utc_of_local, moment_of, cut}
 use Rattle.cal_model.specs.Values.StampTexts.{stamp_of_time, time_stamp, utc_stamp, stamp_of, stamps_in_grammar, is_one_of, utc_names, is_date_text, line_zone, items_of, period_of_ends, written_period_end, period_with, period_of, periods_in_grammar}

@@ -18,10 +18,10 @@ use Rattle.cal_model.specs.declared.object.Trigger.{Trigger}
 use Rattle.cal_model.specs.declared.object.Trigger.TheVariants.{At as AtMoment, From}
 use Rattle.cal_model.specs.Instances.Alignment.{written_value}
 use Rattle.cal_model.specs.Values.ValueTexts.{date_of, date_time_of, moment_of, length_of, is_negative, cut}
-use Rattle.cal_model.specs.Values.StampTexts.{is_one_of, utc_names, utc_stamp, stamp_of_time, time_stamp, is_date_text, date_or_time, stamp_of, line_zone, zone_number, param_value, items_of, stamps_in_grammar, length_ahead, written_period_end, period_of_ends, period_with, period_of, periods_in_grammar, trigger_of}
+use Rattle.cal_model.specs.Values.StampTexts.{is_one_of, utc_names, utc_stamp, stamp_of_time, time_stamp, is_date_text, stamp_of, line_zone, zone_number, param_value, items_of, stamps_in_grammar, length_ahead, written_period_end, period_of_ends, period_with, period_of, periods_in_grammar, trigger_of}
 use Rattle.cal_model.specs.Objects.ComponentLines.{has_name}
 use Rattle.cal_model.specs.Objects.LineValues.{is_of_periods, stamps_in, periods_in}
-use Rattle.cal_model.specs.Objects.ObjectFaults.{dated_names, dated_stamps, stamps_of_period, stamps_of_end, trigger_moment, trigger_stamps, is_early, is_late}
+use Rattle.cal_model.specs.Objects.ObjectFaults.{dated_names, dated_stamps, stamps_of_period, stamps_of_end, trigger_moment, trigger_stamps}
 use Rattle.cal_model.proofs.Objects.TestedLines.{period_by}
 use Rattle.cal_object.specs.DatesOutside.{numbered}
 

@@ -1,6 +1,6 @@
 -- The walk that keeps which properties have come finds the first line that cannot stand, where the lines are nested.
-use Rattle.std.proofs.Common.{◌≡◌, ◌≢◌, ℕ, zero, suc, ◌+◌, ◌<◌, ◌≤◌, Bool, true, false, List, [], ◌∷◌, ◌++◌, length, take, refl, sym, ap, ap₂, ◌∙◌, subst, arith, inl, inr, add-one, eq-eqb}
-use Rattle.std.specs.Prelude.{not, ◌&&◌, ◌||◌, ◌==◌, nat_lt, if◌then◌else◌, find, filter, filter_map, Option, Some, None, option_map, slice_get, codes, get_or, bytes_eq}
+use Rattle.std.proofs.Common.{◌≡◌, ℕ, zero, suc, ◌+◌, ◌<◌, ◌≤◌, Bool, true, false, List, [], ◌∷◌, ◌++◌, length, take, refl, sym, ap, ap₂, ◌∙◌, subst, arith, eq-eqb}
+use Rattle.std.specs.Prelude.{not, ◌&&◌, ◌||◌, nat_lt, if◌then◌else◌, find, filter_map, Option, Some, None, option_map, slice_get, codes, bytes_eq}
 use Rattle.std.specs.List.{list_any, enumerate_from, range_with_len, last_or, cons_option, AllByRecursion as Each}
 use Rattle.std.proofs.lemmas.Bool.{false≢true, ne_eqb}
 use Rattle.std.proofs.lemmas.List.{take_more}
@@ -15,14 +15,14 @@ use Rattle.cal_base.proofs.Lines.FaultsFromFront.{AreOpen, innermost_line_is}
 use Rattle.cal_model.proofs.Words.EachLemmas.{each-weaker}
 use Rattle.cal_model.proofs.Words.ListTests.{any_filter}
 use Rattle.cal_model.specs.Objects.ComponentLines.{has_name}
-use Rattle.cal_model.specs.Objects.LineValues.{same_number, same_component, is_second, cannot_stand, has_own_fault, repeatable}
+use Rattle.cal_model.specs.Objects.LineValues.{same_number, same_component, is_second, cannot_stand, has_own_fault}
 use Rattle.cal_object.specs.declared.property.Property.{Property}
 use Rattle.cal_object.specs.declared.seen_names.SeenNames.{SeenNames}
-use Rattle.cal_object.specs.Properties.{property_named, test_of, is_repeatable, number_of}
-use Rattle.cal_object.specs.Seen.{none_seen, has_seen, seen_with}
-use Rattle.cal_object.specs.OwnFaults.{without_first, has_come, property_of, fails_as, fails, come_with, come_behind, fails_from}
+use Rattle.cal_object.specs.Properties.{property_named, test_of, number_of}
+use Rattle.cal_object.specs.Seen.{none_seen, has_seen}
+use Rattle.cal_object.specs.OwnFaults.{without_first, property_of, fails_as, fails, come_with, come_behind, fails_from}
 use Rattle.cal_object.specs.Scan.{own_number}
-use Rattle.cal_object.proofs.NestedLines.{Stands, AreNested, nested}
+use Rattle.cal_object.proofs.NestedLines.{Stands, AreNested}
 use Rattle.cal_object.proofs.PropertyTable.{is_property, is_of, has_name-is_of, has_own_fault-by_property, fault_by_property, may_repeat}
 use Rattle.cal_object.proofs.SeenBits.{seen_none, seen_more}
 

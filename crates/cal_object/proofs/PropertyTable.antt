@@ -1,13 +1,13 @@
 -- The table of the names that are looked at, as the code tells their properties apart.
-use Rattle.std.proofs.Common.{◌≡◌, ℕ, Bool, true, false, List, [], ◌∷◌, map, refl, sym, ap, ◌∙◌, subst, eq-eqb}
-use Rattle.std.specs.Prelude.{not, ◌&&◌, ◌||◌, ◌==◌, if◌then◌else◌, find, bytes_eq, codes, slice_get, Option, Some, None, option_map, unwrap_or}
+use Rattle.std.proofs.Common.{◌≡◌, ℕ, Bool, true, false, List, [], ◌∷◌, map, refl, sym, ap, ◌∙◌, eq-eqb}
+use Rattle.std.specs.Prelude.{◌==◌, if◌then◌else◌, find, bytes_eq, codes, slice_get, Option, Some, None, option_map, unwrap_or}
 use Rattle.std.specs.List.{list_any, AllByRecursion as Each}
 use Rattle.std.proofs.lemmas.Bool.{false≢true, eqb-true}
 use Rattle.std.proofs.lemmas.Option.{none-some}
 use Rattle.std.proofs.lemmas.Slice.Eq.{bytes_eq-Decides}
 use Rattle.cal_base.specs.declared.line.Line.{Line}
 use Rattle.cal_model.specs.Objects.ComponentLines.{has_name}
-use Rattle.cal_model.specs.Objects.LineValues.{looked_at, repeatable, cannot_stand, has_own_fault, is_second}
+use Rattle.cal_model.specs.Objects.LineValues.{repeatable, cannot_stand, has_own_fault}
 use Rattle.cal_object.specs.declared.property.Property.{Property}
 use Rattle.cal_object.specs.declared.property.Property.TheVariants.{Start, End, Due, Duration, Rule, Dates, Except, RecurrenceId, Completed, Created, TimeStamp, LastModified, FreeBusy, Trigger, Repeat, OffsetFrom, OffsetTo}
 use Rattle.cal_object.specs.Properties.{properties, named_in, property_named, test_of, is_repeatable, number_of}

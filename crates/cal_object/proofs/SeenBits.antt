@@ -1,5 +1,5 @@
 -- Which properties the bits of a word say.
-use Rattle.std.proofs.Common.{◌≡◌, ◌≢◌, ℕ, ◌*◌, ◌^◌, ◌%◌, ◌<◌, Bool, true, false, refl, ap, inl, inr, arith, w32, eq-eqb}
+use Rattle.std.proofs.Common.{◌≡◌, ℕ, ◌*◌, ◌^◌, ◌%◌, ◌<◌, Bool, true, false, refl, ap, inl, inr, arith, w32, eq-eqb}
 use Rattle.std.specs.Prelude.{◌==◌, ◌||◌, bit_or}
 use Rattle.std.specs.Int.{bit_at}
 use Rattle.std.proofs.lemmas.Bool.{cases_Bool, eqb-true}

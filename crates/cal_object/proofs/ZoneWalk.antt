@@ -1,6 +1,6 @@
 -- The walk over the components of a calendar finds the first zone that cannot stand.
-use Rattle.std.proofs.Common.{◌≡◌, ℕ, ◌+◌, ◌-◌, ◌≤◌, Bool, true, false, List, [], ◌∷◌, ◌++◌, length, map, take, refl, sym, ap, ap₂, ◌∙◌, subst, append_assoc, length-append, arith}
-use Rattle.std.specs.Prelude.{◌&&◌, ◌||◌, nat_lt, if◌then◌else◌, filter, find, get_or, sum, option_map, Option, Some, None}
+use Rattle.std.proofs.Common.{◌≡◌, ℕ, ◌+◌, ◌-◌, Bool, true, false, List, [], ◌∷◌, ◌++◌, length, map, take, refl, sym, ap, ap₂, ◌∙◌, subst, append_assoc, length-append, arith}
+use Rattle.std.specs.Prelude.{◌&&◌, ◌||◌, nat_lt, if◌then◌else◌, find, get_or, sum, option_map, Some}
 use Rattle.std.specs.List.{enumerate_from}
 use Rattle.std.proofs.Math.Seq.{take-append_seam}
 use Rattle.std.proofs.lemmas.Bool.{ltb-true, lt-ltb, ltb-false}
@@ -13,7 +13,7 @@ use Rattle.cal_model.specs.Objects.ComponentLines.{children_of}
 use Rattle.cal_model.specs.Objects.ObjectFaults.{Child, child_at, child_places, children_in, zones_among, is_bad_zone as is_bad_among, zone_fault}
 use Rattle.cal_model.specs.Objects.ZoneReading.{is_zone, has_zone_fault, are_too_many}
 use Rattle.cal_model.proofs.Words.EachLemmas.{neither}
-use Rattle.cal_object.specs.ZoneFaults.{zone_count, is_bad, room_behind, is_bad_zone, first_bad}
+use Rattle.cal_object.specs.ZoneFaults.{zone_count, is_bad, first_bad}
 use Rattle.cal_object.proofs.PropertyTable.{alike}
 
 abbrev tree_of : Child → Node

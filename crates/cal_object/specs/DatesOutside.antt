@@ -1,7 +1,7 @@
 -- The dates outside those that are served, as a walk from the front finds them: it keeps what is open, and reads each date beside no zones.
-use Rattle.std.specs.Prelude.{ℕ, Bool, true, false, ◌&&◌, ◌||◌, ◌==◌, length, slice_get, if◌then◌else◌, List, [], ◌∷◌, ◌++◌, map, flat_map, find, bytes_eq, codes, Option, Some, None, option_map}
+use Rattle.std.specs.Prelude.{ℕ, Bool, true, false, ◌&&◌, ◌||◌, ◌==◌, length, slice_get, if◌then◌else◌, List, [], ◌∷◌, ◌++◌, map, find, bytes_eq, codes, Option, Some, option_map}
 use Rattle.cal_base.specs.declared.line.Line.{Line}
-use Rattle.cal_base.specs.Lines.ComponentTrees.{is_begin, is_end, component_name, or_else}
+use Rattle.cal_base.specs.Lines.ComponentTrees.{is_begin, is_end, component_name}
 use Rattle.cal_moment.specs.declared.stamp.Stamp.{Stamp}
 use Rattle.cal_moment.specs.declared.stamp.Stamp.TheVariants.{Zoned}
 use Rattle.cal_model.specs.Values.StampTexts.{param_value, zone_number}

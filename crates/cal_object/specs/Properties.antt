@@ -1,5 +1,5 @@
 -- The properties whose values are looked at (RFC 5545, 3.8), as the code tells them apart: by the names, the numbers and the tests of `LineValues.looked_at`.
-use Rattle.std.specs.Prelude.{ℕ, Bool, true, false, List, [], ◌∷◌, ◌++◌, find, bytes_eq, codes, Option, option_map, is_some}
+use Rattle.std.specs.Prelude.{ℕ, Bool, true, false, List, [], ◌∷◌, find, bytes_eq, codes, Option, option_map, is_some}
 use Rattle.cal_base.specs.declared.line.Line.{Line}
 use Rattle.cal_model.specs.Values.ValueTexts.{length_of, offset_of}
 use Rattle.cal_model.specs.Values.StampTexts.{trigger_of, repeat_of}

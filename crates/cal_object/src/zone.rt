@@ -7,8 +7,9 @@ ghost use Rattle.cal_model.specs.Recurrence.NextPassing as passing;
 ghost use Rattle.cal_model.specs.Objects.ComponentLines.{lines_of};
 ghost use Rattle.cal_model.specs.Objects.ZoneReading as spec;
 
+use crate::line_dates::stamp_at;
 use crate::named::{has, is_named, one_of};
-use crate::zone_dates::{local_digits, offset_at, part_dates, rules_of, stamp_at};
+use crate::zone_dates::{local_digits, offset_at, part_dates, rules_of};
 use cal_base::{Line, List, NoMemory, Node};
 use cal_model::{Freq, Rule, ZonePart};
 use ical_values::ZoneNames;
@@ -26,7 +27,7 @@ fn part_of_lines(
     requires { zones.now ≡ [] }
     ensures { IfOk result (λ part. part ≡ spec.part_of_lines lines.now) }
 {
-    let start = stamp_at(alloc, zones, b"DTSTART", lines)?;
+    let start = stamp_at(zones, lines, b"DTSTART");
     let from = offset_at(lines, b"TZOFFSETFROM");
     let to = offset_at(lines, b"TZOFFSETTO");
     match (start, from, to) {
@@ -48,7 +49,7 @@ fn is_part(node: &Node) -> bool
     is_named(node, b"STANDARD") || is_named(node, b"DAYLIGHT")
 }
 
-/// Puts the part that a component is, if it is one, behind others.
+/// Puts the part that a component says, if it says one, behind others.
 fn put_part(
     alloc: Global,
     zones: &ZoneNames,
@@ -56,11 +57,8 @@ fn put_part(
     parts: &mut List<ZonePart>,
 ) -> Result<(), NoMemory>
     requires { zones.now ≡ [] }
-    ensures { OnOk result (parts.new ≡ parts.old ++ (if spec.is_part node.now then option_to_list (spec.part_of_lines (lines_of node.now)) else [])) }
+    ensures { OnOk result (parts.new ≡ parts.old ++ option_to_list (spec.part_of_lines (lines_of node.now))) }
 {
-    if !is_part(node) {
-        return Ok(());
-    }
     match part_of_lines(alloc, zones, node.lines.as_slice())? {
         Some(part) => parts.push(part),
         None => Ok(()),
@@ -75,7 +73,9 @@ fn parts_among(alloc: Global, zones: &ZoneNames, nodes: &[Node]) -> Result<List<
     let mut parts = List::new(alloc);
     let mut rest = nodes;
     'nodes: while let Some((node, behind)) = rest.split_first() {
-        put_part(alloc, zones, node, &mut parts)?;
+        if is_part(node) {
+            put_part(alloc, zones, node, &mut parts)?;
+        }
         rest = behind;
     }
     Ok(parts)

@@ -80,7 +80,7 @@ fn put_starts(periods: &[Period], dates: &mut List<Local>) -> Result<(), NoMemor
     Ok(())
 }
 
-/// Puts the dates of a line behind others, if it is an RDATE.
+/// Puts the dates of an RDATE behind others.
 fn put_dates(
     alloc: Global,
     zones: &ZoneNames,
@@ -88,11 +88,8 @@ fn put_dates(
     dates: &mut List<Local>,
 ) -> Result<(), NoMemory>
     requires { zones.now ≡ [] }
-    ensures { OnOk result (dates.new ≡ dates.old ++ (if has_name (codes "RDATE") line.now then spec.dates_of_line line.now else [])) }
+    ensures { OnOk result (dates.new ≡ dates.old ++ spec.dates_of_line line.now) }
 {
-    if !has_name(line, b"RDATE") {
-        return Ok(());
-    }
     let stamps = stamps_in(alloc, zones, line)?;
     put_stamps(stamps.as_slice(), dates)?;
     let periods = periods_in(alloc, zones, line)?;
@@ -107,19 +104,18 @@ pub fn part_dates(alloc: Global, zones: &ZoneNames, lines: &[Line]) -> Result<Li
     let mut dates = List::new(alloc);
     let mut rest = lines;
     'lines: while let Some((line, behind)) = rest.split_first() {
-        put_dates(alloc, zones, line, &mut dates)?;
+        if has_name(line, b"RDATE") {
+            put_dates(alloc, zones, line, &mut dates)?;
+        }
         rest = behind;
     }
     Ok(dates)
 }
 
-/// Puts the rule of a line behind others, if it is an RRULE whose value is a rule.
+/// Puts the rule of a line behind others, where its value is one.
 fn put_rule(alloc: Global, line: &Line, rules: &mut List<Rule>) -> Result<(), NoMemory>
-    ensures { OnOk result (rules.new ≡ rules.old ++ (if has_name (codes "RRULE") line.now then option_to_list (rule_of line.now.value) else [])) }
+    ensures { OnOk result (rules.new ≡ rules.old ++ option_to_list (rule_of line.now.value)) }
 {
-    if !has_name(line, b"RRULE") {
-        return Ok(());
-    }
     match read_rule(alloc, line.value.as_slice()) {
         Ok(rule) => rules.push(rule),
         Err(ValueFault::Bad { .. }) => Ok(()),
@@ -134,7 +130,9 @@ pub fn rules_of(alloc: Global, lines: &[Line]) -> Result<List<Rule>, NoMemory>
     let mut rules = List::new(alloc);
     let mut rest = lines;
     'lines: while let Some((line, behind)) = rest.split_first() {
-        put_rule(alloc, line, &mut rules)?;
+        if has_name(line, b"RRULE") {
+            put_rule(alloc, line, &mut rules)?;
+        }
         rest = behind;
     }
     Ok(rules)
@@ -148,39 +146,4 @@ pub fn offset_at(lines: &[Line], name: &[u8]) -> Option<i32>
         Some(line) => read_utc_offset(line.value.as_slice()).ok(),
         None => None,
     }
-}
-
-/// The first stamp of a line, if it has this name.
-fn first_stamp(
-    alloc: Global,
-    zones: &ZoneNames,
-    name: &[u8],
-    line: &Line,
-) -> Result<Option<Stamp>, NoMemory>
-    ensures { IfOk result (λ stamp. stamp ≡ (if has_name name.now line.now then first (values.stamps_in zones.now line.now) else None)) }
-{
-    if !has_name(line, name) {
-        return Ok(None);
-    }
-    let stamps = stamps_in(alloc, zones, line)?;
-    Ok(stamps.get(0).copied())
-}
-
-/// The first stamp of the lines of a name.
-pub fn stamp_at(
-    alloc: Global,
-    zones: &ZoneNames,
-    name: &[u8],
-    lines: &[Line],
-) -> Result<Option<Stamp>, NoMemory>
-    ensures { IfOk result (λ stamp. stamp ≡ values.stamp_at zones.now name.now lines.now) }
-{
-    let mut rest = lines;
-    'lines: while let Some((line, behind)) = rest.split_first() {
-        if let Some(stamp) = first_stamp(alloc, zones, name, line)? {
-            return Ok(Some(stamp));
-        }
-        rest = behind;
-    }
-    Ok(None)
 }

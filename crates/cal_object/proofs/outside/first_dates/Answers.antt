@@ -1,4 +1,4 @@
-use Rattle.std.proofs.Common.{ap, ◌∙◌, refl, [], find}
+use Rattle.std.proofs.Common.{ap, ◌∙◌, refl, []}
 use Rattle.std.specs.Prelude.{option_map}
 use Rattle.cal_base.specs.Lines.ComponentTrees.{or_else}
 use Rattle.cal_model.specs.Objects.ObjectFaults.{is_early, is_late}
