@@ -1,0 +1,16 @@
+pub mod Faults
+pub mod Alignments
+pub mod BadDates
+pub mod Classes
+pub mod Recurrences
+pub mod PartDates
+pub mod Identifiers
+pub mod KindNodes
+pub mod Children
+pub mod Properties
+pub mod Seen
+pub mod OwnFaults
+pub mod DatesOutside
+pub mod Scan
+pub mod ZoneFaults
+pub mod Outlines
