@@ -66,5 +66,5 @@ IsSeenAt directory state who path (Some seen) = IsSeenAs directory state who pat
 abbrev pub IsCalendarSeen : Directory → ServerState → ℕ → List ℕ → List ℕ → Option Subject → Type 0
 IsCalendarSeen directory state who user name found = IsSeenAt directory state who (CalendarPath user name) found
 
-abbrev pub IsObjectSeen : Directory → ServerState → ℕ → List ℕ → List ℕ → List ℕ → Option Subject → Type 0
-IsObjectSeen directory state who user calendar name found = IsSeenAt directory state who (ObjectPath user calendar name) found
+abbrev pub IsObjectSeen : Directory → ServerState → ℕ → (user within name : List ℕ) → Option Subject → Type 0
+IsObjectSeen directory state who user within name found = IsSeenAt directory state who (ObjectPath user within name) found

@@ -2,7 +2,7 @@
 ghost use Rattle.std.specs.Prelude.{◌≡◌, ◌++◌, OnOk, length, take};
 ghost use Rattle.cal_model.specs.Properties.PropertyValues.{bit_elements, held_elements};
 ghost use Rattle.cal_model.specs.Refusals.RefusalReplies.{privileges_of};
-ghost use Rattle.dav_props.specs.Contents.{bit_piece};
+ghost use Rattle.dav_props.specs.Contents.{bit_piece, bit_pieces};
 
 use crate::subjects::has_all;
 use cal_base::{NoMemory, Octets};
@@ -36,7 +36,14 @@ pub(crate) fn push_privileges(set: u16, out: &mut Octets) -> Result<(), NoMemory
     ensures text { OnOk result (out.new ≡ out.old ++ bit_elements set) }
     ensures front { take (length out.old) out.new ≡ out.old }
 {
-    'bits: for bit in &BITS {
+    push_bits(set, &BITS, out)
+}
+
+fn push_bits(set: u16, bits: &[u16], out: &mut Octets) -> Result<(), NoMemory>
+    ensures text { OnOk result (out.new ≡ out.old ++ bit_pieces set bits.now) }
+    ensures front { take (length out.old) out.new ≡ out.old }
+{
+    'bits: for bit in bits {
         push_if_held(set, *bit, out)?;
     }
     Ok(())
