@@ -31,20 +31,21 @@ bits_are set = rows_pieces set privileges (refl, (refl, (refl, (refl, (refl, (re
 abbrev kind_element : List ℕ × ℕ → List ℕ
 kind_element kind = element_with (codes "C:comp") (attribute (codes "name") kind.0) []
 
+abbrev in_set : ℕ → List ℕ × ℕ → Bool
+in_set set kind = has_all set kind.1
+
+abbrev kind_piece : ℕ → List ℕ × ℕ → List ℕ
+kind_piece set kind = cond (has_all set kind.1) (kind_element kind) []
+
 kinds_pieces : (set : ℕ) (a b c d : List ℕ × ℕ)
     → cond (has_all set a.1) (kind_element a) [] ++ (cond (has_all set b.1) (kind_element b) [] ++ (cond (has_all set c.1) (kind_element c) [] ++ cond (has_all set d.1) (kind_element d) []))
     ≡ flat_map kind_element (filter (λ (kind : List ℕ × ℕ). has_all set kind.1) (a ∷ b ∷ c ∷ d ∷ []))
 kinds_pieces set a b c d = sym (
-    flat_filter kind_element in_set a (b ∷ c ∷ d ∷ [])
-    ∙ ap (λ rest. piece a ++ rest) (flat_filter kind_element in_set b (c ∷ d ∷ [])
-    ∙ ap (λ rest. piece b ++ rest) (flat_filter kind_element in_set c (d ∷ [])
-    ∙ ap (λ rest. piece c ++ rest) (flat_filter kind_element in_set d [] ∙ append-nil (piece d))))
-    ) where
-      abbrev in_set : List ℕ × ℕ → Bool
-      in_set kind = has_all set kind.1
-
-      abbrev piece : List ℕ × ℕ → List ℕ
-      piece kind = cond (has_all set kind.1) (kind_element kind) []
+    flat_filter kind_element (in_set set) a (b ∷ c ∷ d ∷ [])
+    ∙ ap (λ rest. kind_piece set a ++ rest) (flat_filter kind_element (in_set set) b (c ∷ d ∷ [])
+    ∙ ap (λ rest. kind_piece set b ++ rest) (flat_filter kind_element (in_set set) c (d ∷ [])
+    ∙ ap (λ rest. kind_piece set c ++ rest) (flat_filter kind_element (in_set set) d [] ∙ append-nil (kind_piece set d))))
+    )
 
 -- the kinds of a set, one by one
 pub kinds_are : (set : ℕ)

@@ -1,13 +1,16 @@
 -- What a name finds in the code's table is what the definition's table says of it.
 use Rattle.std.proofs.Common.{◌≡◌, ℕ, Bool, true, false, cond, List, [], ◌∷◌, map, Option, Some, None, refl, sym, ap, ◌∙◌, subst, ◌==◌}
 use Rattle.std.specs.Prelude.{find, option_map, unwrap_or, bytes_eq, ◌&&◌}
+use Rattle.std.proofs.lemmas.Bool.{false≢true}
 use Rattle.std.proofs.lemmas.Slice.Eq.{bytes_eq-Decides}
 use Rattle.cal_model.specs.declared.property.PropName.{PropName}
 use Rattle.cal_model.specs.Access.Privileges.{same_name}
 use Rattle.cal_model.specs.Properties.PropertyTable.{Property, properties, listed_row, row_of, text_row, in_both, text}
 use Rattle.dav_props.specs.declared.rows.Row.{Row}
 use Rattle.dav_props.specs.declared.rows.Row.TheVariants as rows
-use Rattle.dav_props.specs.Rows.{name_of, property_of, listed_rows}
+use Rattle.cal_model.specs.Serving.SeenResources.{calendar_data}
+use Rattle.dav_props.specs.Contents.{IsShownHere}
+use Rattle.dav_props.specs.Rows.{name_of, property_of, listed_rows, IsOwnName}
 
 find_passes : {X : Type 0} (p : X → Bool) (xs : List X) (x : X) → find p xs ≡ Some x → p x ≡ true
 find_passes p [] x e = absurd cc
@@ -79,3 +82,55 @@ row_found name row e =
 pub row_not_found : (name : PropName) → None ≡ find (λ row. same_name (name_of row) name) listed_rows → row_of name ≡ property_of rows.Text name
 row_not_found name e =
     ap (λ found. unwrap_or found (text_row name in_both text)) (looked_up name ∙ ap (option_map (λ row. property_of row (name_of row))) (sym e))
+
+own_name : (row : Row) (name : PropName) → name_of row ≡ name → IsOwnName row name
+own_name rows.ResourceType name e = tt
+own_name rows.AskingPrincipal name e = tt
+own_name rows.Owner name e = tt
+own_name rows.HeldPrivileges name e = tt
+own_name rows.DisplayName name e = tt
+own_name rows.PrincipalUrl name e = tt
+own_name rows.CalendarHome name e = tt
+own_name rows.Etag name e = tt
+own_name rows.ContentType name e = tt
+own_name rows.ContentLength name e = tt
+own_name rows.CalendarData name e = e
+own_name rows.Description name e = tt
+own_name rows.Timezone name e = tt
+own_name rows.Kinds name e = tt
+own_name rows.DataType name e = tt
+own_name rows.MaxSize name e = tt
+own_name rows.MinDate name e = tt
+own_name rows.MaxDate name e = tt
+own_name rows.MaxInstances name e = tt
+own_name rows.Reports name e = tt
+own_name rows.Acl name e = tt
+own_name rows.Text name e = tt
+
+pub own_found : (name : PropName) (row : Row) → Some row ≡ find (λ row. same_name (name_of row) name) listed_rows → IsOwnName row name
+own_found name row e = own_name row name (same_name-true (name_of row) name (find_passes (λ row. same_name (name_of row) name) listed_rows row (sym e)))
+
+-- a name that is not that of calendar-data is of a property whose answer does not hang on what a report shows
+pub shown_anywhere : (row : Row) (name : PropName) (shown : Option (List ℕ → List ℕ)) → IsOwnName row name → same_name name calendar_data ≡ false → IsShownHere row shown
+shown_anywhere rows.ResourceType name shown own other = tt
+shown_anywhere rows.AskingPrincipal name shown own other = tt
+shown_anywhere rows.Owner name shown own other = tt
+shown_anywhere rows.HeldPrivileges name shown own other = tt
+shown_anywhere rows.DisplayName name shown own other = tt
+shown_anywhere rows.PrincipalUrl name shown own other = tt
+shown_anywhere rows.CalendarHome name shown own other = tt
+shown_anywhere rows.Etag name shown own other = tt
+shown_anywhere rows.ContentType name shown own other = tt
+shown_anywhere rows.ContentLength name shown own other = tt
+shown_anywhere rows.CalendarData name shown own other = absurd (false≢true (sym other ∙ ap (λ (n : PropName). same_name n calendar_data) (sym own)))
+shown_anywhere rows.Description name shown own other = tt
+shown_anywhere rows.Timezone name shown own other = tt
+shown_anywhere rows.Kinds name shown own other = tt
+shown_anywhere rows.DataType name shown own other = tt
+shown_anywhere rows.MaxSize name shown own other = tt
+shown_anywhere rows.MinDate name shown own other = tt
+shown_anywhere rows.MaxDate name shown own other = tt
+shown_anywhere rows.MaxInstances name shown own other = tt
+shown_anywhere rows.Reports name shown own other = tt
+shown_anywhere rows.Acl name shown own other = tt
+shown_anywhere rows.Text name shown own other = tt

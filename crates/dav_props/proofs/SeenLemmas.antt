@@ -1,17 +1,18 @@
 -- What is found in a store by look-ups is what a user sees at a path.
-use Rattle.std.proofs.Common.{◌≡◌, ℕ, zero, suc, Bool, true, false, not, ◌||◌, cond, ◌==◌, List, [], ◌∷◌, ◌++◌, map, Option, Some, None, refl, sym, ap, ◌∙◌, subst, append-nil}
+use Rattle.std.proofs.Common.{◌≡◌, ℕ, zero, suc, Bool, true, false, not, ◌||◌, cond, ◌==◌, List, [], ◌∷◌, ◌++◌, map, Option, Some, None, refl, sym, ap, ◌∙◌, subst, append-nil, arith}
 use Rattle.std.specs.Prelude.{option_map, option_and_then, option_to_list, flat_map, slice_get}
 use Rattle.std.specs.Borrow.{Bor}
-use Rattle.std.proofs.lemmas.Bool.{false≢true}
+use Rattle.std.proofs.lemmas.Bool.Decides.{nat_tests}
 use Rattle.std.proofs.lemmas.Map.Entries.{option_filter}
 use Rattle.cal_base.specs.Lists.NameMap.{Named, value_at}
-use Rattle.cal_model.specs.declared.path.Path.TheVariants.{Calendar as CalendarPath, Object as ObjectPath}
+use Rattle.cal_model.specs.declared.path.Path.{Path}
+use Rattle.cal_model.specs.declared.path.Path.TheVariants.{Root, Principal, Home, Calendar as CalendarPath, Object as ObjectPath}
 use Rattle.cal_model.specs.declared.store.CalendarData.{CalendarData}
 use Rattle.cal_model.specs.declared.stored.Stored.{Stored}
 use Rattle.cal_model.specs.Words.Lists.{is_empty}
 use Rattle.cal_model.specs.Access.Privileges.{privileges_held, has_all, read}
 use Rattle.cal_model.specs.State.PropertyTexts.{Texts}
-use Rattle.cal_model.specs.State.ServerState.{Directory, Calendar, Home, ServerState, user_number, home_at, calendar_at, octets_at}
+use Rattle.cal_model.specs.State.ServerState.{Directory, Calendar, Home as UserHome, ServerState, user_number, home_at, calendar_at, octets_at}
 use Rattle.cal_model.specs.State.StoredData.{data_of, data_at}
 use Rattle.cal_model.specs.State.SoundStates.{AreToUsers, IsSound}
 use Rattle.cal_model.specs.Sight.Views.{Contents, Sight, View, held_on, contents_of, only_where, sight_of, sight_with, seen_by, home_by}
@@ -58,17 +59,17 @@ module _ (directory : Directory) (state : ServerState) (who : ℕ) where
   calendar_seen : (owner : ℕ) (name : List ℕ) → IsSound directory state
       → calendar_by (Some owner) name ≡ option_map (sight_of directory owner who) (option_filter (holds_some directory owner who) (calendar_at state owner name))
   calendar_seen owner name sound = by (home_at state owner) refl where
-    by : (found : Option Home) → home_at state owner ≡ found → calendar_by (Some owner) name ≡ option_map (sight_of directory owner who) (option_filter (holds_some directory owner who) (calendar_at state owner name))
+    by : (found : Option UserHome) → home_at state owner ≡ found → calendar_by (Some owner) name ≡ option_map (sight_of directory owner who) (option_filter (holds_some directory owner who) (calendar_at state owner name))
     by None e =
         ap (λ o. at_both (option_and_then (λ (calendars : Named Sight). cond ((owner == who) || not (is_empty calendars)) (Some calendars) None) o) (Some name))
-        (home_in-view sight_of directory state who owner ∙ ap (option_map (λ (h : Home). home_by sight_of directory who (owner, h))) e)
-        ∙ sym (ap (λ (o : Option Home). option_map (sight_of directory owner who) (option_filter (holds_some directory owner who) (option_and_then (λ (h : Home). value_at h.calendars name) o))) e)
+        (home_in-view sight_of directory state who owner ∙ ap (option_map (λ (h : UserHome). home_by sight_of directory who (owner, h))) e)
+        ∙ sym (ap (λ (o : Option UserHome). option_map (sight_of directory owner who) (option_filter (holds_some directory owner who) (option_and_then (λ (h : UserHome). value_at h.calendars name) o))) e)
     by (Some home) e = calendar_in-scene sight_of directory state who owner home name e (home-sound directory state owner home sound e).in_order
 
   -- a store's data are those of the calendar
   data_is : (owner : ℕ) (name : List ℕ) → data_at state owner name ≡ option_map (data_of owner) (calendar_at state owner name)
   data_is owner name = by (home_at state owner) where
-    by : (found : Option Home) → option_and_then (λ (h : Home). option_map (data_of owner) (value_at h.calendars name)) found ≡ option_map (data_of owner) (option_and_then (λ (h : Home). value_at h.calendars name) found)
+    by : (found : Option UserHome) → option_and_then (λ (h : UserHome). option_map (data_of owner) (value_at h.calendars name)) found ≡ option_map (data_of owner) (option_and_then (λ (h : UserHome). value_at h.calendars name) found)
     by None = refl
     by (Some home) = refl
 
@@ -108,12 +109,15 @@ module _ (directory : Directory) (state : ServerState) (who : ℕ) where
         by true = refl
         by false = refl
 
+  not_zero : (n : ℕ) → (n ≡ 0 → ⊥) → not (n == 0) ≡ true
+  not_zero n some = let test : (n == 0) ≡ false = grind (arith, nat_tests) in ap not test
+
   pub hidden : (user name : List ℕ) (owner : ℕ) (kept : CalendarData) (held : ℕ) → IsSound directory state → Some owner ≡ user_number directory user → Some kept ≡ data_at state owner name
-      → held ≡ privileges_held [] kept.acl.grants owner who → (held == 0) ≡ true → resources_seen directory state who (CalendarPath user name) ≡ []
+      → held ≡ privileges_held [] kept.acl.grants owner who → held ≡ 0 → resources_seen directory state who (CalendarPath user name) ≡ []
   hidden user name owner kept held sound known e is none =
       let found = some_calendar owner name kept e in
       let same : held ≡ held_on directory owner who found.0 = is ∙ ap (λ (k : CalendarData). privileges_held [] k.acl.grants owner who) found.2 in
-      let test : holds_some directory owner who found.0 ≡ false = ap (λ h. not (h == 0)) (sym same) ∙ ap not none in
+      let test : holds_some directory owner who found.0 ≡ false = ap (λ h. not (h == 0)) (sym same ∙ none) in
       calendars_are user name
       ∙ ap (λ number. calendars_by user name (calendar_by number name)) (sym known)
       ∙ ap (calendars_by user name) (sight_there owner name found.0 sound found.1 ∙ ap (λ b. cond b (Some (sight_of directory owner who found.0)) None) test)
@@ -134,12 +138,12 @@ module _ (directory : Directory) (state : ServerState) (who : ℕ) where
       ∙ (λ i. calendar_sight (sym is i) (sym same i) (unseen_of owner within name c))
 
   pub found : (user : Bor (List ℕ)) (name : List ℕ) (owner : ℕ) (kept : Bor CalendarData) (held : ℕ) → IsSound directory state → Some owner ≡ user_number directory user.now
-      → Some kept.now ≡ data_at state owner name → held ≡ privileges_held [] kept.now.acl.grants owner who → (held == 0) ≡ false
+      → Some kept.now ≡ data_at state owner name → held ≡ privileges_held [] kept.now.acl.grants owner who → (held ≡ 0 → ⊥)
       → IsSeenAs directory state who (CalendarPath user.now name) (subject.Calendar user held kept)
   found user name owner kept held sound known e is some =
       let there = some_calendar owner name kept.now e in
       let same : held ≡ held_on directory owner who there.0 = is ∙ ap (λ (k : CalendarData). privileges_held [] k.acl.grants owner who) there.2 in
-      let test : holds_some directory owner who there.0 ≡ true = ap (λ h. not (h == 0)) (sym same) ∙ ap not some in
+      let test : holds_some directory owner who there.0 ≡ true = ap (λ h. not (h == 0)) (sym same) ∙ not_zero held some in
       record {
         unseen = unseen_of owner name [] there.0;
         is =
@@ -172,7 +176,7 @@ module _ (directory : Directory) (state : ServerState) (who : ℕ) where
   -- where read is held, some privilege is
   some_held : (held : ℕ) → has_all held read ≡ true → not (held == 0) ≡ true
   some_held zero h = absurd cc
-  some_held (suc n) h = refl
+  some_held (suc n) h = not_zero (suc n) (λ e. absurd (omega (arith, e)))
 
   octets_there : (owner : ℕ) (within name : List ℕ) (c : Calendar) → calendar_at state owner within ≡ Some c → octets_at state owner within name ≡ value_at c.objects name
   octets_there owner within name c there = ap (λ (o : Option Calendar). option_and_then (λ (calendar : Calendar). value_at calendar.objects name) o) there
@@ -214,3 +218,20 @@ module _ (directory : Directory) (state : ServerState) (who : ℕ) where
         path_is = refl;
         users = tt;
       }
+
+  -- Above the calendars
+
+  no_sight : Sight
+  no_sight = record { held = 0; contents = None; grants = None; busy = None }
+
+  nothing_unseen : Unseen
+  nothing_unseen = record { calendar = []; name = []; objects = []; sight = no_sight }
+
+  pub root_seen : (path : Path) → path ≡ Root → IsSeenAs directory state who path subject.Root
+  root_seen path is = record { unseen = nothing_unseen; is = ap (resources_seen directory state who) is; path_is = sym is; users = tt }
+
+  pub principal_seen : (path : Path) (user : Bor (List ℕ)) → path ≡ Principal user.now → IsSeenAs directory state who path (subject.Principal user)
+  principal_seen path user is = record { unseen = nothing_unseen; is = ap (resources_seen directory state who) is; path_is = sym is; users = tt }
+
+  pub home_seen : (path : Path) (user : Bor (List ℕ)) → path ≡ Home user.now → IsSeenAs directory state who path (subject.Home user)
+  home_seen path user is = record { unseen = nothing_unseen; is = ap (resources_seen directory state who) is; path_is = sym is; users = tt }

@@ -16,10 +16,11 @@ use Rattle.dav_props.specs.declared.rows.Row.TheVariants as rows
 use Rattle.dav_props.specs.declared.rows.Asked.{Asked}
 use Rattle.dav_props.specs.declared.subjects.Subject.{Subject}
 use Rattle.dav_props.specs.declared.subjects.Subject.TheVariants as subject
-use Rattle.dav_props.specs.Rows.{property_of, asked_name}
+use Rattle.dav_props.specs.declared.rows.Columns.{Columns}
+use Rattle.dav_props.specs.Rows.{property_of, asked_name, is_on, AreColumns}
 use Rattle.dav_props.specs.Subjects.{Unseen, resource_of, texts_of}
 use Rattle.dav_props.specs.Contents.{IsShownHere, shown_content, type_elements, text_element, display_element, kinds_shown, acl_shown, said_of_octets}
-use Rattle.dav_props.specs.Answers.{has_text_set, is_there_in}
+use Rattle.dav_props.specs.Answers.{answered, has_text_set, is_there_in, is_there_at}
 
 -- where all is held, what is shown is there
 shown_there : {X : Type 0} (test : Bool) (x : X) → test ≡ true → is_some (only_where test x) ≡ true
@@ -36,16 +37,16 @@ text_there true contents name e = mapped_there xml_text (text_at contents.texts 
 text_there false contents name e = absurd (false≢true e)
 
 module _ (directory : Directory) (who : ℕ) (shown : Option (List ℕ → List ℕ)) (unseen : Unseen) where
-  abbrev asker : Asker
+  abbrev pub asker : Asker
   asker = record { directory = directory; who = who; shown = shown }
 
-  abbrev value_at : Row → PropName → Subject → Option (List ℕ)
+  abbrev pub value_at : Row → PropName → Subject → Option (List ℕ)
   value_at row name seen = (property_of row name).value asker (resource_of seen unseen)
 
-  abbrev is_on_at : Row → PropName → Subject → Bool
+  abbrev pub is_on_at : Row → PropName → Subject → Bool
   is_on_at row name seen = (property_of row name).on (resource_of seen unseen)
 
-  abbrev is_held_at : Row → PropName → Subject → Bool
+  abbrev pub is_held_at : Row → PropName → Subject → Bool
   is_held_at row name seen = has_all (held_of (resource_of seen unseen)) (property_of row name).needs
 
   type_there : (name : PropName) (seen : Subject) → is_some (value_at rows.ResourceType name seen) ≡ true
@@ -157,32 +158,35 @@ module _ (directory : Directory) (who : ℕ) (shown : Option (List ℕ → List 
   only_mapped false x f content e = absurd cc
 
   type_is : (name : PropName) (seen : Subject) (content : List ℕ) → value_at rows.ResourceType name seen ≡ Some content → type_elements seen ≡ content
-  type_is name subject.Root content e = cc
-  type_is name (subject.Principal user) content e = cc
-  type_is name (subject.Home user) content e = cc
-  type_is name (subject.Calendar user set kept) content e = cc
-  type_is name (subject.Object user set stored) content e = cc
+  type_is name subject.Root content e = same_content _ content e
+  type_is name (subject.Principal user) content e = same_content _ content e
+  type_is name (subject.Home user) content e = same_content _ content e
+  type_is name (subject.Calendar user set kept) content e = same_content _ content e
+  type_is name (subject.Object user set stored) content e = same_content _ content e
+
+  same_content : (x content : List ℕ) → Some x ≡ Some content → x ≡ content
+  same_content x content e = cc
 
   held_is : (name : PropName) (seen : Subject) (content : List ℕ) → value_at rows.HeldPrivileges name seen ≡ Some content → shown_content directory who rows.HeldPrivileges name seen ≡ content
-  held_is name subject.Root content e = cc
-  held_is name (subject.Principal user) content e = cc
-  held_is name (subject.Home user) content e = cc
-  held_is name (subject.Calendar user set kept) content e = cc
-  held_is name (subject.Object user set stored) content e = cc
+  held_is name subject.Root content e = same_content _ content e
+  held_is name (subject.Principal user) content e = same_content _ content e
+  held_is name (subject.Home user) content e = same_content _ content e
+  held_is name (subject.Calendar user set kept) content e = same_content _ content e
+  held_is name (subject.Object user set stored) content e = same_content _ content e
 
   owner_is : (name : PropName) (seen : Subject) (content : List ℕ) → value_at rows.Owner name seen ≡ Some content → shown_content directory who rows.Owner name seen ≡ content
-  owner_is name subject.Root content e = cc
-  owner_is name (subject.Principal user) content e = cc
-  owner_is name (subject.Home user) content e = cc
-  owner_is name (subject.Calendar user set kept) content e = cc
-  owner_is name (subject.Object user set stored) content e = cc
+  owner_is name subject.Root content e = same_content _ content e
+  owner_is name (subject.Principal user) content e = same_content _ content e
+  owner_is name (subject.Home user) content e = same_content _ content e
+  owner_is name (subject.Calendar user set kept) content e = same_content _ content e
+  owner_is name (subject.Object user set stored) content e = same_content _ content e
 
   home_is : (name : PropName) (seen : Subject) (content : List ℕ) → value_at rows.CalendarHome name seen ≡ Some content → shown_content directory who rows.CalendarHome name seen ≡ content
-  home_is name subject.Root content e = cc
-  home_is name (subject.Principal user) content e = cc
-  home_is name (subject.Home user) content e = cc
-  home_is name (subject.Calendar user set kept) content e = cc
-  home_is name (subject.Object user set stored) content e = cc
+  home_is name subject.Root content e = same_content _ content e
+  home_is name (subject.Principal user) content e = same_content _ content e
+  home_is name (subject.Home user) content e = same_content _ content e
+  home_is name (subject.Calendar user set kept) content e = same_content _ content e
+  home_is name (subject.Object user set stored) content e = same_content _ content e
 
   text_is : (name : PropName) (seen : Subject) (content : List ℕ) → value_at rows.Text name seen ≡ Some content → text_element name seen ≡ content
   text_is name subject.Root content e = absurd cc
@@ -193,7 +197,7 @@ module _ (directory : Directory) (who : ℕ) (shown : Option (List ℕ → List 
 
   display_is : (name : PropName) (seen : Subject) (content : List ℕ) → value_at rows.DisplayName name seen ≡ Some content → display_element name seen ≡ content
   display_is name subject.Root content e = absurd cc
-  display_is name (subject.Principal user) content e = cc
+  display_is name (subject.Principal user) content e = same_content _ content e
   display_is name (subject.Home user) content e = absurd cc
   display_is name (subject.Calendar user set kept) content e = only_text (has_all set read) (record { kinds = kept.now.kinds; texts = texts_of kept.now.texts; objects = unseen.objects }) name content e
   display_is name (subject.Object user set stored) content e = absurd cc
@@ -203,21 +207,21 @@ module _ (directory : Directory) (who : ℕ) (shown : Option (List ℕ → List 
   etag_is name (subject.Principal user) content e = absurd cc
   etag_is name (subject.Home user) content e = absurd cc
   etag_is name (subject.Calendar user set kept) content e = absurd cc
-  etag_is name (subject.Object user set stored) content e = cc
+  etag_is name (subject.Object user set stored) content e = same_content _ content e
 
   content_type_is : (name : PropName) (seen : Subject) (content : List ℕ) → value_at rows.ContentType name seen ≡ Some content → shown_content directory who rows.ContentType name seen ≡ content
   content_type_is name subject.Root content e = absurd cc
   content_type_is name (subject.Principal user) content e = absurd cc
   content_type_is name (subject.Home user) content e = absurd cc
   content_type_is name (subject.Calendar user set kept) content e = absurd cc
-  content_type_is name (subject.Object user set stored) content e = cc
+  content_type_is name (subject.Object user set stored) content e = same_content _ content e
 
   length_is : (name : PropName) (seen : Subject) (content : List ℕ) → value_at rows.ContentLength name seen ≡ Some content → shown_content directory who rows.ContentLength name seen ≡ content
   length_is name subject.Root content e = absurd cc
   length_is name (subject.Principal user) content e = absurd cc
   length_is name (subject.Home user) content e = absurd cc
   length_is name (subject.Calendar user set kept) content e = absurd cc
-  length_is name (subject.Object user set stored) content e = cc
+  length_is name (subject.Object user set stored) content e = same_content _ content e
 
   kinds_is : (name : PropName) (seen : Subject) (content : List ℕ) → value_at rows.Kinds name seen ≡ Some content → kinds_shown seen ≡ content
   kinds_is name subject.Root content e = absurd cc
@@ -245,7 +249,7 @@ module _ (directory : Directory) (who : ℕ) (shown : Option (List ℕ → List 
   pub content_is : (row : Row) (name : PropName) (seen : Subject) (content : List ℕ) → IsShownHere row shown → value_at row name seen ≡ Some content
       → shown_content directory who row name seen ≡ content
   content_is rows.ResourceType name seen content here e = type_is name seen content e
-  content_is rows.AskingPrincipal name seen content here e = cc
+  content_is rows.AskingPrincipal name seen content here e = same_content _ content e
   content_is rows.Owner name seen content here e = owner_is name seen content e
   content_is rows.HeldPrivileges name seen content here e = held_is name seen content e
   content_is rows.DisplayName name seen content here e = display_is name seen content e
@@ -258,12 +262,12 @@ module _ (directory : Directory) (who : ℕ) (shown : Option (List ℕ → List 
   content_is rows.Description name seen content here e = text_is name seen content e
   content_is rows.Timezone name seen content here e = text_is name seen content e
   content_is rows.Kinds name seen content here e = kinds_is name seen content e
-  content_is rows.DataType name seen content here e = cc
-  content_is rows.MaxSize name seen content here e = cc
-  content_is rows.MinDate name seen content here e = cc
-  content_is rows.MaxDate name seen content here e = cc
-  content_is rows.MaxInstances name seen content here e = cc
-  content_is rows.Reports name seen content here e = cc
+  content_is rows.DataType name seen content here e = same_content _ content e
+  content_is rows.MaxSize name seen content here e = same_content _ content e
+  content_is rows.MinDate name seen content here e = same_content _ content e
+  content_is rows.MaxDate name seen content here e = same_content _ content e
+  content_is rows.MaxInstances name seen content here e = same_content _ content e
+  content_is rows.Reports name seen content here e = same_content _ content e
   content_is rows.Acl name seen content here e = acl_is name seen content e
   content_is rows.Text name seen content here e = text_is name seen content e
 
@@ -305,3 +309,17 @@ answer_without name false held value status is other = ap (without_value name) (
 answer_without name true false value status is other = ap (without_value name) (sym is)
 answer_without name true true None status is other = ap (without_value name) (sym is)
 answer_without name true true (Some c) status is other = absurd (other is)
+
+-- the status where all that is tested holds
+pub status_by : (directory : Directory) (who : ℕ) (shown : Option (List ℕ → List ℕ)) (unseen : Unseen) (asked : Asked) (seen : Subject) → IsShownHere asked.row shown
+    → (columns : Columns) (set : ℕ) (on held there : Bool) → AreColumns columns (property_of asked.row (asked_name asked)) → on ≡ is_on columns.place (resource_of seen unseen)
+    → set ≡ held_of (resource_of seen unseen) → held ≡ has_all set columns.needs → there ≡ is_there_at asked seen → on ≡ true → held ≡ true → there ≡ true
+    → 200 ≡ (answered directory who shown asked seen unseen).status
+status_by directory who shown unseen asked seen here columns set on held there say on_is set_is held_is there_is_at on_true held_true there_true =
+    let name = asked_name asked in
+    let resource = resource_of seen unseen in
+    let is_on_here : (property_of asked.row name).on resource ≡ true = ap (λ (test : Resource → Bool). test resource) say.on ∙ sym on_is ∙ on_true in
+    let is_held_here : has_all (held_of resource) (property_of asked.row name).needs ≡ true = (λ i. has_all (sym set_is i) (say.needs i)) ∙ sym held_is ∙ held_true in
+    status_there name ((property_of asked.row name).on resource) (has_all (held_of resource) (property_of asked.row name).needs) true
+    ((property_of asked.row name).value (record { directory = directory; who = who; shown = shown }) resource) is_on_here is_held_here
+    (λ o h. there_is directory who shown unseen asked asked.row seen here o h ∙ sym there_is_at ∙ there_true)

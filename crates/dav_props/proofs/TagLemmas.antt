@@ -1,5 +1,5 @@
 -- The element of a property, made of its pieces; and the element of a path.
-use Rattle.std.proofs.Common.{◌≡◌, ℕ, suc, ◌+◌, ◌<◌, Bool, true, false, cond, ◌==◌, List, [], ◌∷◌, ◌++◌, length, take, Option, Some, None, refl, sym, ap, ◌∙◌, subst, arith, append_assoc, append-nil, length-append}
+use Rattle.std.proofs.Common.{◌≡◌, ℕ, zero, suc, ◌+◌, ◌<◌, ◌≤◌, Bool, true, false, cond, ◌==◌, List, [], ◌∷◌, ◌++◌, length, take, Option, Some, None, refl, sym, ap, ◌∙◌, subst, arith, append_assoc, append-nil, length-append}
 use Rattle.std.specs.Prelude.{codes}
 use Rattle.std.proofs.lemmas.Bool.Decides.{nat_tests}
 use Rattle.cal_base.specs.Xml.CanonicalXml.{known_prefix, declaration, element_with, named_element}
@@ -89,3 +89,22 @@ closed_is old space name (first ∷ content) written place at is =
     ∙ ap (λ text. text ++ ((first ∷ content) ++ end_tag space name)) (append_assoc old (opened space name) (codes ">"))
     ∙ append_assoc old (opened space name ++ codes ">") ((first ∷ content) ++ end_tag space name)
     ∙ ap (λ text. old ++ text) (named-filled space name content first)
+
+-- A place in what is written
+
+pub within : (front opening written content : List ℕ) (place : ℕ) → place ≡ length front → opening ≡ front ++ codes ">" → written ≡ opening ++ content → place < length written
+within front opening written content place at first more = omega (arith, at, ap length first, ap length more, length-append front (codes ">"), length-append opening content)
+
+take_shorter : {X : Type 0} (n m : ℕ) (xs : List X) → n ≤ m → take n (take m xs) ≡ take n xs
+take_shorter zero m xs le = refl
+take_shorter (suc n) zero xs le = absurd (omega (arith, le))
+take_shorter (suc n) (suc m) [] le = refl
+take_shorter (suc n) (suc m) (x ∷ xs) le = ap (λ rest. x ∷ rest) (take_shorter n m xs (omega (arith, le)))
+
+-- what stands before a place behind it stays
+pub kept_front : (old new written : List ℕ) (place : ℕ) → length old ≤ place → take place new ≡ take place written → take (length old) written ≡ old → take (length old) new ≡ old
+kept_front old new written place before same front =
+    sym (take_shorter (length old) place new before) ∙ ap (take (length old)) same ∙ take_shorter (length old) place written before ∙ front
+
+pub opened_behind : (old opened after : List ℕ) (place : ℕ) → after ≡ old ++ opened → place ≡ length after → length old ≤ place
+opened_behind old opened after place is at = omega (arith, at, ap length is, length-append old opened)

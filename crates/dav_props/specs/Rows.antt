@@ -1,5 +1,5 @@
 -- What the code's names for properties, and for the columns of the table, stand for.
-use Rattle.std.specs.Prelude.{◌≡◌, ℕ, Bool, List, [], ◌∷◌, codes, length}
+use Rattle.std.specs.Prelude.{◌≡◌, ℕ, Bool, List, [], ◌∷◌, codes, decimal, length}
 use Rattle.cal_model.specs.declared.property.PropName.{PropName}
 use Rattle.cal_model.specs.Access.Privileges.{read, read_acl, read_held}
 use Rattle.cal_model.specs.Sight.Resources.{Resource, any_resource, is_principal, is_calendar, is_object, is_named, is_owned}
@@ -10,7 +10,6 @@ use Rattle.cal_model.specs.Replies.Etags.{etag_of, etag_text}
 use Rattle.cal_model.specs.Refusals.RequestLimits.{resource_limit, instances_limit}
 use Rattle.cal_model.specs.Busy.FreeBusyText.{utc_text}
 use Rattle.cal_model.specs.Words.Limits.{first_date, last_date}
-use Rattle.std.specs.Prelude.{decimal}
 use Rattle.dav_props.specs.declared.rows.Row.{Row}
 use Rattle.dav_props.specs.declared.rows.Row.TheVariants as rows
 use Rattle.dav_props.specs.declared.rows.Place.{Place}
@@ -110,3 +109,8 @@ pub record AreColumns (columns : Columns) (property : Property) : Type 0 where
 -- the name that a property is asked for by
 abbrev pub asked_name : Asked → PropName
 asked_name asked = record { space = asked.space.now; name = asked.name.now }
+
+-- what is found as calendar-data has its name
+abbrev pub IsOwnName : Row → PropName → Type 0
+IsOwnName rows.CalendarData name = name_of rows.CalendarData ≡ name
+IsOwnName other name = Unit {0}

@@ -101,9 +101,9 @@ pub(crate) fn push_property<V: View>(
     let status = status_of(asked, subject);
     if status == 200 {
         push_whole(alloc, seen, asked, subject, out)?;
-    } else {
-        push_empty(asked, out)?;
+        return Ok(200);
     }
+    push_empty(asked, out)?;
     Ok(status)
 }
 

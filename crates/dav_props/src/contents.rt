@@ -188,7 +188,8 @@ fn push_moment(moment: i64, out: &mut Octets) -> Result<(), NoMemory>
     ensures text { OnOk result (out.new ≡ out.old ++ utc_text moment) }
     ensures front { take (length out.old) out.new ≡ out.old }
 {
-    out.extend_from_slice(&write_utc(Utc(moment)))
+    let text = write_utc(Utc(moment));
+    out.extend_from_slice(text.as_slice())
 }
 
 /// Appends an element for each kind of a set.

@@ -227,6 +227,7 @@ pub(crate) fn columns_of(row: Row) -> Columns
 pub(crate) fn asked_for(name: &PropName) -> Asked<'_>
     ensures name { spec.asked_name result ≡ name.now }
     ensures row { table.row_of name.now ≡ spec.property_of result.row name.now }
+    ensures own { spec.IsOwnName result.row name.now }
 {
     Asked {
         row: row_of(name),
@@ -237,7 +238,8 @@ pub(crate) fn asked_for(name: &PropName) -> Asked<'_>
 
 /// The row of a name.
 pub(crate) fn row_of(name: &PropName) -> Row
-    ensures { table.row_of name.now ≡ spec.property_of result name.now }
+    ensures row { table.row_of name.now ≡ spec.property_of result name.now }
+    ensures own { spec.IsOwnName result name.now }
 {
     match first_named(&ROWS, name) {
         Some(row) => *row,
