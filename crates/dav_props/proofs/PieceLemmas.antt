@@ -1,14 +1,22 @@
 -- Elements of sets, one piece after another.
-use Rattle.std.proofs.Common.{◌≡◌, ℕ, Bool, true, false, cond, List, [], ◌∷◌, ◌++◌, map, refl, sym, ap, ◌∙◌, append-nil}
+use Rattle.std.proofs.Common.{◌≡◌, ℕ, Bool, true, false, cond, List, [], ◌∷◌, ◌++◌, map, refl, sym, ap, ◌∙◌, subst, arith, append-nil, append_assoc, length, ◌<◌}
 use Rattle.std.specs.Prelude.{flat_map, filter, codes}
 use Rattle.std.specs.List.{AllByRecursion}
 use Rattle.cal_base.specs.Xml.CanonicalXml.{attribute, attribute_text, element_with}
 use Rattle.cal_model.specs.declared.property.PropName.{PropName}
 use Rattle.cal_model.specs.Access.Privileges.{privileges, has_all}
-use Rattle.cal_model.specs.Properties.PropertyValues.{bit_elements, kinds_elements}
+use Rattle.cal_model.specs.Properties.PropertyValues.{bit_elements, kinds_elements, grantee, grant_element}
+use Rattle.cal_model.specs.declared.path.Path.TheVariants.{Principal}
+use Rattle.cal_model.specs.declared.privilege.Grant.{Grant}
+use Rattle.cal_model.specs.declared.privilege.Who.{Who}
+use Rattle.cal_model.specs.declared.privilege.Who.TheVariants.{Everyone, Owner, Principal as ToPrincipal}
+use Rattle.cal_model.specs.State.ServerState.{Directory, user_name}
+use Rattle.cal_model.specs.Replies.XmlText.{element}
+use Rattle.dav_write.proofs.ErrorLemmas.{filled}
+use Rattle.dav_props.proofs.TagLemmas.{href_pieces}
 use Rattle.cal_model.specs.Refusals.RefusalReplies.{privileges_of}
 use Rattle.cal_model.specs.Replies.ReplyElements.{privilege_element}
-use Rattle.dav_props.specs.Contents.{bit_piece, bit_pieces, piece_where}
+use Rattle.dav_props.specs.Contents.{bit_piece, bit_pieces, piece_where, ace_front}
 
 flat_filter : {X : Type 0} (f : X → List ℕ) (p : X → Bool) (x : X) (xs : List X) → flat_map f (filter p (x ∷ xs)) ≡ cond (p x) (f x) [] ++ flat_map f (filter p xs)
 flat_filter f p x xs = by (p x) where
@@ -54,3 +62,24 @@ pub kinds_are : (set : ℕ)
     ≡ kinds_elements set
 unfolding attribute_text
 kinds_are set = kinds_pieces set (codes "VEVENT", 1) (codes "VTODO", 2) (codes "VJOURNAL", 4) (codes "VFREEBUSY", 8)
+
+-- Aces
+
+grantee_there : (directory : Directory) (who : Who) → 0 < length (grantee directory who)
+grantee_there directory Everyone = omega arith
+grantee_there directory Owner = omega arith
+grantee_there directory (ToPrincipal user) = subst (λ text. 0 < length text) (href_pieces (Principal (user_name directory user))) (omega arith)
+
+-- the ace of a grant, piece by piece
+pub grant_pieces : (directory : Directory) (grant : Grant)
+    → ace_front (grantee directory grant.who) ++ (element (codes "D:grant") (bit_elements grant.held.0) ++ codes "</D:ace>") ≡ grant_element directory grant
+grant_pieces directory grant =
+    let who = grantee directory grant.who in
+    let given = element (codes "D:grant") (bit_elements grant.held.0) in
+    let opening = codes "<D:principal>" in
+    let closing = codes "</D:principal>" in
+    ap (λ text. codes "<D:ace><D:principal>" ++ text) (append_assoc who closing (given ++ codes "</D:ace>"))
+    ∙ ap (λ text. codes "<D:ace>" ++ (opening ++ text)) (sym (append_assoc who closing (given ++ codes "</D:ace>")))
+    ∙ ap (λ text. codes "<D:ace>" ++ text) (sym (append_assoc opening (who ++ closing) (given ++ codes "</D:ace>")) ∙ sym (append_assoc (opening ++ (who ++ closing)) given (codes "</D:ace>")))
+    ∙ ap (λ text. codes "<D:ace>" ++ (((opening ++ (who ++ closing)) ++ text) ++ codes "</D:ace>")) (sym (append-nil given))
+    ∙ ap (λ text. element (codes "D:ace") (text ++ (given ++ []))) (sym (filled (codes "D:principal") [] who (grantee_there directory grant.who)))

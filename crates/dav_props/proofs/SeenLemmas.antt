@@ -1,6 +1,6 @@
 -- What is found in a store by look-ups is what a user sees at a path.
 use Rattle.std.proofs.Common.{◌≡◌, ℕ, zero, suc, Bool, true, false, not, ◌||◌, cond, ◌==◌, List, [], ◌∷◌, ◌++◌, map, Option, Some, None, refl, sym, ap, ◌∙◌, subst, append-nil, arith}
-use Rattle.std.specs.Prelude.{option_map, option_and_then, option_to_list, flat_map, slice_get}
+use Rattle.std.specs.Prelude.{option_map, option_and_then, option_to_list, flat_map, IfOk, Result, Ok, Err}
 use Rattle.std.specs.Borrow.{Bor}
 use Rattle.std.proofs.lemmas.Bool.Decides.{nat_tests}
 use Rattle.std.proofs.lemmas.Map.Entries.{option_filter}
@@ -18,13 +18,22 @@ use Rattle.cal_model.specs.State.SoundStates.{AreToUsers, IsSound}
 use Rattle.cal_model.specs.Sight.Views.{Contents, Sight, View, held_on, contents_of, only_where, sight_of, sight_with, seen_by, home_by}
 use Rattle.cal_model.specs.Sight.Scenes.{scene_at, at_both, visible_home, octets_seen}
 use Rattle.cal_model.specs.Sight.Resources.{Resource, calendar, object}
-use Rattle.cal_model.specs.Serving.SeenResources.{resources_seen}
+use Rattle.cal_model.specs.declared.property.PropName.{PropName}
+use Rattle.cal_model.specs.Properties.PropertyTable.{answer, answer_of_row, row_of, without_value}
+use Rattle.cal_model.specs.Serving.SeenResources.{resources_seen, answer_at, seen_answer}
+use Rattle.dav_props.specs.declared.rows.Asked.{Asked}
+use Rattle.dav_props.specs.Answers.{answered}
+use Rattle.dav_props.specs.Rows.{asked_name, property_of}
 use Rattle.cal_model.proofs.Sight.SceneLaws.{holds_some, home_in-view, calendar_in-scene}
 use Rattle.cal_model.proofs.State.NameWalkLaws.{home-sound, calendar-sound}
 use Rattle.dav_props.specs.declared.subjects.Subject.{Subject}
 use Rattle.dav_props.specs.declared.subjects.Subject.TheVariants as subject
-use Rattle.dav_props.specs.Subjects.{Unseen, calendar_sight, IsSeenAs, texts_of}
+use Rattle.dav_props.specs.Subjects.{Unseen, calendar_sight, resource_of, IsSeenAs, texts_of}
 use Rattle.dav_props.proofs.TextLemmas.{texts_back}
+
+pub if_ok_then : {X E : Type 0} {P Q : X → Type 0} (result : Result X E) → ((x : X) → P x → Q x) → IfOk result P → IfOk result Q
+if_ok_then (Ok x) next holds = next x holds
+if_ok_then (Err e) next holds = holds
 
 module _ (directory : Directory) (state : ServerState) (who : ℕ) where
   abbrev view : View
@@ -235,3 +244,17 @@ module _ (directory : Directory) (state : ServerState) (who : ℕ) where
 
   pub home_seen : (path : Path) (user : Bor (List ℕ)) → path ≡ Home user.now → IsSeenAs directory state who path (subject.Home user)
   home_seen path user is = record { unseen = nothing_unseen; is = ap (resources_seen directory state who) is; path_is = sym is; users = tt }
+
+-- What is said of a property of what is seen is what the table answers of it.
+pub seen_is : (directory : Directory) (state : ServerState) (who : ℕ) (path : Path) (name : PropName) (asked : Asked) (seen : Subject) (unseen : Unseen) (shown : Option (List ℕ → List ℕ))
+    → resources_seen directory state who path ≡ resource_of seen unseen ∷ [] → asked_name asked ≡ name → row_of name ≡ property_of asked.row name
+    → seen_answer directory state who shown path name ≡ answered directory who shown asked seen unseen
+unfolding answer
+seen_is directory state who path name asked seen unseen shown is named row =
+    ap (λ resources. answer_at (record { directory = directory; who = who; shown = shown }) resources name) is
+    ∙ ap (answer_of_row (record { directory = directory; who = who; shown = shown }) (resource_of seen unseen) name) row
+    ∙ ap (λ (n : PropName). answer_of_row (record { directory = directory; who = who; shown = shown }) (resource_of seen unseen) n (property_of asked.row n)) (sym named)
+
+pub nothing_is : (directory : Directory) (state : ServerState) (who : ℕ) (path : Path) (name : PropName) (shown : Option (List ℕ → List ℕ))
+    → resources_seen directory state who path ≡ [] → seen_answer directory state who shown path name ≡ without_value name 404
+nothing_is directory state who path name shown is = ap (λ resources. answer_at (record { directory = directory; who = who; shown = shown }) resources name) is

@@ -145,6 +145,9 @@ module _ (directory : Directory) (who : ℕ) (shown : Option (List ℕ → List 
 
   -- Contents
 
+  same_content : (x content : List ℕ) → Some x ≡ Some content → x ≡ content
+  same_content x content e = cc
+
   only_text : (test : Bool) (contents : Contents) (name : PropName) (content : List ℕ)
       → option_and_then (λ (c : Contents). option_map xml_text (text_at c.texts name)) (only_where test contents) ≡ Some content → xml_text (unwrap_or (text_at contents.texts name) []) ≡ content
   only_text true contents name content e = by (text_at contents.texts name) e where
@@ -163,9 +166,6 @@ module _ (directory : Directory) (who : ℕ) (shown : Option (List ℕ → List 
   type_is name (subject.Home user) content e = same_content _ content e
   type_is name (subject.Calendar user set kept) content e = same_content _ content e
   type_is name (subject.Object user set stored) content e = same_content _ content e
-
-  same_content : (x content : List ℕ) → Some x ≡ Some content → x ≡ content
-  same_content x content e = cc
 
   held_is : (name : PropName) (seen : Subject) (content : List ℕ) → value_at rows.HeldPrivileges name seen ≡ Some content → shown_content directory who rows.HeldPrivileges name seen ≡ content
   held_is name subject.Root content e = same_content _ content e

@@ -108,3 +108,11 @@ kept_front old new written place before same front =
 
 pub opened_behind : (old opened after : List ℕ) (place : ℕ) → after ≡ old ++ opened → place ≡ length after → length old ≤ place
 opened_behind old opened after place is at = omega (arith, at, ap length is, length-append old opened)
+
+pub front_stays : (old a b c written : List ℕ) → written ≡ ((old ++ a) ++ b) ++ c → take (length old) written ≡ old
+front_stays old a b c written is =
+    ap (take (length old)) (is ∙ append_assoc (old ++ a) b c ∙ append_assoc old a (b ++ c)) ∙ take_front old (a ++ (b ++ c))
+
+pub behind_front : (old a mid new : List ℕ) → mid ≡ old ++ a → take (length mid) new ≡ mid → take (length old) new ≡ old
+behind_front old a mid new is front =
+    sym (take_shorter (length old) (length mid) new (omega (arith, ap length is, length-append old a))) ∙ ap (take (length old)) (front ∙ is) ∙ take_front old a

@@ -108,3 +108,7 @@ bit_pieces set bits = flat_map (bit_piece set) bits
 -- an element where its bit is in a set
 abbrev pub piece_where : ℕ → ℕ → List ℕ → List ℕ
 piece_where set bit element = if has_all set bit then element else []
+
+-- what an ace has before what it grants
+abbrev pub ace_front : List ℕ → List ℕ
+ace_front who = codes "<D:ace><D:principal>" ++ (who ++ codes "</D:principal>")

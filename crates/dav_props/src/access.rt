@@ -4,6 +4,7 @@ ghost use Rattle.cal_model.specs.Properties.PropertyValues.{acl_elements, grant_
 ghost use Rattle.cal_model.specs.Replies.XmlText.{element};
 ghost use Rattle.cal_model.specs.State.SoundStates.{AreToUsers, IsToUser};
 ghost use Rattle.std.specs.Prelude.{codes};
+ghost use Rattle.dav_props.specs.Contents.{ace_front};
 
 use crate::hrefs::push_principal;
 use crate::privileges_held::push_privileges;
@@ -59,11 +60,25 @@ fn push_grant<V: View>(
     ensures text { OnOk result (out.new ≡ out.old ++ grant_element (V.directory seen.now.view.now) grant.now) }
     ensures front { take (length out.old) out.new ≡ out.old }
 {
-    out.extend_from_slice(b"<D:ace><D:principal>")?;
-    push_grantee(alloc, seen, grant.who, out)?;
-    out.extend_from_slice(b"</D:principal>")?;
+    push_ace_front(alloc, seen, grant.who, out)?;
     push_granted(grant.held.0, out)?;
     out.extend_from_slice(b"</D:ace>")
+}
+
+/// Appends what an ace has before what it grants.
+fn push_ace_front<V: View>(
+    alloc: Global,
+    seen: &Seen<'_, V>,
+    who: Who,
+    out: &mut Octets,
+) -> Result<(), NoMemory>
+    requires { IsToUser (V.directory seen.now.view.now) who }
+    ensures text { OnOk result (out.new ≡ out.old ++ ace_front (grantee (V.directory seen.now.view.now) who)) }
+    ensures front { take (length out.old) out.new ≡ out.old }
+{
+    out.extend_from_slice(b"<D:ace><D:principal>")?;
+    push_grantee(alloc, seen, who, out)?;
+    out.extend_from_slice(b"</D:principal>")
 }
 
 /// Appends the element of whom a grant is to.

@@ -10,9 +10,9 @@ ghost use Rattle.dav_props.specs.Subjects.{HasUsers};
 
 use crate::access::push_acl;
 use crate::hrefs::{push_home, push_principal};
-use crate::privileges_held::push_held;
+use crate::privileges_held::{push_held, push_if_all};
 use crate::rows::{Asked, Row};
-use crate::subjects::{Subject, has_all, held_on};
+use crate::subjects::{Subject, held_on};
 use crate::tags::push_text;
 use crate::texts::text_of;
 use cal_base::{NoMemory, Octets};
@@ -197,20 +197,9 @@ fn push_kinds(kinds: u8, out: &mut Octets) -> Result<(), NoMemory>
     ensures text { OnOk result (out.new ≡ out.old ++ kinds_elements kinds) }
     ensures front { take (length out.old) out.new ≡ out.old }
 {
-    push_kind(kinds, 1, b"<C:comp name=\"VEVENT\"/>", out)?;
-    push_kind(kinds, 2, b"<C:comp name=\"VTODO\"/>", out)?;
-    push_kind(kinds, 4, b"<C:comp name=\"VJOURNAL\"/>", out)?;
-    push_kind(kinds, 8, b"<C:comp name=\"VFREEBUSY\"/>", out)
-}
-
-/// Appends the element of a kind, where it is in a set.
-fn push_kind(kinds: u8, kind: u8, element: &[u8], out: &mut Octets) -> Result<(), NoMemory>
-    ensures text { OnOk result (out.new ≡ out.old ++ spec.piece_where kinds kind element.now) }
-    ensures front { take (length out.old) out.new ≡ out.old }
-{
-    if has_all(u16::from(kinds), u16::from(kind)) {
-        out.extend_from_slice(element)
-    } else {
-        Ok(())
-    }
+    let set = u16::from(kinds);
+    push_if_all(set, 1, b"<C:comp name=\"VEVENT\"/>", out)?;
+    push_if_all(set, 2, b"<C:comp name=\"VTODO\"/>", out)?;
+    push_if_all(set, 4, b"<C:comp name=\"VJOURNAL\"/>", out)?;
+    push_if_all(set, 8, b"<C:comp name=\"VFREEBUSY\"/>", out)
 }

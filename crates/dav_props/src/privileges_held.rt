@@ -2,7 +2,7 @@
 ghost use Rattle.std.specs.Prelude.{◌≡◌, ◌++◌, OnOk, length, take};
 ghost use Rattle.cal_model.specs.Properties.PropertyValues.{bit_elements, held_elements};
 ghost use Rattle.cal_model.specs.Refusals.RefusalReplies.{privileges_of};
-ghost use Rattle.dav_props.specs.Contents.{bit_piece, bit_pieces};
+ghost use Rattle.dav_props.specs.Contents.{bit_piece, bit_pieces, piece_where};
 
 use crate::subjects::has_all;
 use cal_base::{NoMemory, Octets};
@@ -22,13 +22,25 @@ pub(crate) fn push_held(set: u16, out: &mut Octets) -> Result<(), NoMemory>
     ensures front { take (length out.old) out.new ≡ out.old }
 {
     push_privileges(set, out)?;
-    if has_all(set, WRITE) {
-        out.extend_from_slice(b"<D:privilege><D:write/></D:privilege>")?;
+    push_if_all(set, WRITE, b"<D:privilege><D:write/></D:privilege>", out)?;
+    push_if_all(set, ALL, b"<D:privilege><D:all/></D:privilege>", out)
+}
+
+/// Appends an element where some bits are all in a set.
+pub(crate) fn push_if_all(
+    set: u16,
+    bits: u16,
+    element: &[u8],
+    out: &mut Octets,
+) -> Result<(), NoMemory>
+    ensures text { OnOk result (out.new ≡ out.old ++ piece_where set bits element.now) }
+    ensures front { take (length out.old) out.new ≡ out.old }
+{
+    if has_all(set, bits) {
+        out.extend_from_slice(element)
+    } else {
+        Ok(())
     }
-    if has_all(set, ALL) {
-        out.extend_from_slice(b"<D:privilege><D:all/></D:privilege>")?;
-    }
-    Ok(())
 }
 
 /// Appends an element for each privilege of a set.

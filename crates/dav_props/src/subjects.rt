@@ -4,6 +4,7 @@ ghost use Rattle.cal_model.specs.Access.Privileges as privilege;
 ghost use Rattle.cal_model.specs.State.ServerState.{ServerState};
 ghost use Rattle.cal_model.specs.Sight.Resources.{held_of};
 ghost use Rattle.cal_model.specs.Serving.SeenResources.{resources_seen};
+ghost use Rattle.dav_props.specs.Contents.{held_at};
 ghost use Rattle.dav_props.specs.Rows.{is_on as is_at};
 ghost use Rattle.dav_props.specs.Subjects.{Unseen, resource_of, IsSeenAs, IsCalendarSeen, IsObjectSeen};
 
@@ -32,7 +33,8 @@ pub(crate) enum Subject<'a> {
 
 /// The privileges held on a resource: what has none of its own shows all.
 pub(crate) fn held_on(subject: &Subject<'_>) -> u16
-    ensures { (unseen : Unseen) → held_of (resource_of subject.now unseen) ≡ result }
+    ensures held { result ≡ held_at subject.now }
+    ensures seen { (unseen : Unseen) → held_of (resource_of subject.now unseen) ≡ result }
 {
     match subject {
         Subject::Root | Subject::Principal(_) | Subject::Home(_) => ALL,

@@ -3,7 +3,7 @@ use Rattle.std.specs.Prelude.{codes}
 use Rattle.dav_write.proofs.Appending.{on_ok_then}
 use Rattle.cal_model.specs.Properties.PropertyValues.{bit_elements}
 use Rattle.dav_props.specs.PropertyTags.{opened}
-use Rattle.dav_props.proofs.TagLemmas.{closed_is, within, kept_front, opened_behind}
+use Rattle.dav_props.proofs.TagLemmas.{closed_is, within, kept_front, front_stays, opened_behind}
 use Rattle.dav_props.proofs.access.push_granted.Goals as goal
 
 pub push_close-requires : goal.push_close-requires
@@ -21,4 +21,6 @@ returns-clause-text c =
 
 pub returns-clause-front : goal.returns-clause-front
 returns-clause-front c =
-    kept_front c.args.out.now _ _ _ (opened_behind c.args.out.now (opened (codes "DAV:") (codes "grant")) _ _ c.in_ok-push_open.ensures.text c.len-place.ensures) c.push_close.ensures.front ?
+    kept_front c.args.out.now _ _ _ (opened_behind c.args.out.now (opened (codes "DAV:") (codes "grant")) _ _ c.in_ok-push_open.ensures.text c.len-place.ensures) c.push_close.ensures.front
+    (front_stays c.args.out.now (opened (codes "DAV:") (codes "grant")) (codes ">") (bit_elements c.args.set) _
+    (c.in_ok-push_privileges.ensures.text ∙ ap (λ text. text ++ bit_elements c.args.set) (c.in_ok-push.ensures.ok ∙ ap (λ text. text ++ codes ">") c.in_ok-push_open.ensures.text)))

@@ -7,7 +7,7 @@ use Rattle.dav_props.specs.PropertyTags.{opened}
 use Rattle.dav_props.specs.Contents.{shown_content}
 use Rattle.dav_props.specs.Rows.{asked_name}
 use Rattle.dav_props.proofs.StatusLemmas.{is_on_at, is_held_at, value_at, content_is, answer_whole}
-use Rattle.dav_props.proofs.TagLemmas.{closed_is, within, kept_front, opened_behind}
+use Rattle.dav_props.proofs.TagLemmas.{closed_is, within, kept_front, front_stays, opened_behind}
 use Rattle.dav_props.proofs.answers.push_whole.Goals as goal
 
 pub push_close-requires : goal.push_close-requires
@@ -33,4 +33,8 @@ returns-clause-element g c =
 
 pub returns-clause-front : goal.returns-clause-front
 returns-clause-front g c =
-    kept_front c.args.out.now _ _ _ (opened_behind c.args.out.now (opened c.args.asked.now.space.now c.args.asked.now.name.now) _ _ c.in_ok-push_open.ensures.text c.len-place.ensures) c.push_close.ensures.front ?
+    let asked = c.args.asked.now in
+    let content = shown_content (g.V.View.directory c.args.seen.now.view.now) c.args.seen.now.who asked.row (asked_name asked) c.args.subject.now in
+    kept_front c.args.out.now _ _ _ (opened_behind c.args.out.now (opened asked.space.now asked.name.now) _ _ c.in_ok-push_open.ensures.text c.len-place.ensures) c.push_close.ensures.front
+    (front_stays c.args.out.now (opened asked.space.now asked.name.now) (codes ">") content _
+    (c.in_ok-push_content.ensures.text ∙ ap (λ text. text ++ content) (c.in_ok-push.ensures.ok ∙ ap (λ text. text ++ codes ">") c.in_ok-push_open.ensures.text)))

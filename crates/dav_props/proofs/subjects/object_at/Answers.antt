@@ -1,6 +1,10 @@
-use Rattle.std.proofs.Common.{sym, ap, ◌∙◌}
+use Rattle.std.proofs.Common.{ℕ, List, Some, sym, ap, subst, ◌∙◌}
 use Rattle.cal_model.specs.State.ServerState.{user_number, octets_at}
 use Rattle.cal_model.specs.State.StoredData.{data_at}
+use Rattle.cal_model.specs.declared.path.Path.TheVariants.{Object as ObjectPath}
+use Rattle.cal_model.specs.declared.stored.Stored.{Stored}
+use Rattle.dav_props.specs.declared.subjects.Subject.TheVariants as subject
+use Rattle.dav_props.specs.Subjects.{IsSeenAs}
 use Rattle.dav_props.proofs.SeenLemmas.{no_user_of_object, not_there_of_object, unread_object, no_object, found_object}
 use Rattle.dav_props.proofs.subjects.object_at.Goals as goal
 
@@ -38,5 +42,7 @@ returns g c =
     let directory = g.V.View.directory c.args.seen.now.view.now in
     let state = g.V.View.state c.args.seen.now.view.now in
     let there = found_object directory state c.args.seen.now.who c.as_slice-5.result c.args.calendar.now c.args.name.now c.in_ok-owner.owner c.in_ok-data.data.now c.held-held.result.0 c.deref.result c.calendar.ensures.sound
-    (c.in_ok-owner.ensures.number ∙ ap (user_number directory) (c.as_slice.ensures ∙ sym c.as_slice-5.ensures)) (c.in_ok-data.ensures.«data» ∙ ap (data_at state c.in_ok-owner.owner) c.as_slice-2.ensures) c.held-held.ensures (sym c.if-not-has_all.ensures) ? in
-    rw c.as_slice-5.ensures at there
+    (c.in_ok-owner.ensures.number ∙ ap (user_number directory) (c.as_slice.ensures ∙ sym c.as_slice-5.ensures)) (c.in_ok-data.ensures.«data» ∙ ap (data_at state c.in_ok-owner.owner) c.as_slice-2.ensures) c.held-held.ensures (sym c.if-not-has_all.ensures)
+    (ap (λ (stored : Stored). Some stored.octets) c.deref.ensures ∙ c.in_ok-stored.ensures.octets ∙ (λ i. octets_at state c.in_ok-owner.owner (c.as_slice-3.ensures i) (c.as_slice-4.ensures i))) in
+    subst (λ (user : List ℕ). IsSeenAs directory state c.args.seen.now.who (ObjectPath user c.args.calendar.now c.args.name.now) (subject.Object c.as_slice-5.result c.held-held.result.0 c.deref.result))
+    c.as_slice-5.ensures there
