@@ -1,6 +1,6 @@
 -- The element of a property, made of its pieces; and the element of a path.
 use Rattle.std.proofs.Common.{◌≡◌, ℕ, zero, suc, ◌+◌, ◌<◌, ◌≤◌, Bool, true, false, cond, ◌==◌, List, [], ◌∷◌, ◌++◌, length, take, Option, Some, None, refl, sym, ap, ◌∙◌, subst, arith, append_assoc, append-nil, length-append}
-use Rattle.std.specs.Prelude.{codes}
+use Rattle.std.specs.Prelude.{codes, Result, Ok, Err, OnOk, OnErr}
 use Rattle.std.proofs.lemmas.Bool.Decides.{nat_tests}
 use Rattle.cal_base.specs.Xml.CanonicalXml.{known_prefix, declaration, element_with, named_element}
 use Rattle.cal_model.specs.declared.path.Path.{Path}
@@ -116,3 +116,8 @@ front_stays old a b c written is =
 pub behind_front : (old a mid new : List ℕ) → mid ≡ old ++ a → take (length mid) new ≡ mid → take (length old) new ≡ old
 behind_front old a mid new is front =
     sym (take_shorter (length old) (length mid) new (omega (arith, ap length is, length-append old a))) ∙ ap (take (length old)) (front ∙ is) ∙ take_front old a
+
+-- a last piece, whether there was memory for it or not
+pub ends_front : {X E : Type 0} (result : Result X E) (mid new more : List ℕ) → OnOk result (new ≡ mid ++ more) → OnErr result (new ≡ mid) → take (length mid) new ≡ mid
+ends_front (Ok x) mid new more is same = ap (take (length mid)) is ∙ take_front mid more
+ends_front (Err e) mid new more is same = ap (take (length mid)) (same ∙ sym (append-nil mid)) ∙ take_front mid []

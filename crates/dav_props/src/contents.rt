@@ -151,7 +151,7 @@ fn push_kinds_of(subject: &Subject<'_>, out: &mut Octets) -> Result<(), NoMemory
     ensures front { take (length out.old) out.new ≡ out.old }
 {
     match subject {
-        Subject::Calendar(_, _, data) => push_kinds(data.kinds, out),
+        Subject::Calendar(_, _, data) => push_kinds(u16::from(data.kinds), out),
         _ => Ok(()),
     }
 }
@@ -183,23 +183,22 @@ fn push_data_type(out: &mut Octets) -> Result<(), NoMemory>
 }
 
 /// Appends a moment in UTC.
-fn push_moment(moment: i64, out: &mut Octets) -> Result<(), NoMemory>
-    requires { IsCalendarMoment moment }
-    ensures text { OnOk result (out.new ≡ out.old ++ utc_text moment) }
+fn push_moment(moment: Utc, out: &mut Octets) -> Result<(), NoMemory>
+    requires { IsCalendarMoment moment.0 }
+    ensures text { OnOk result (out.new ≡ out.old ++ utc_text moment.0) }
     ensures front { take (length out.old) out.new ≡ out.old }
 {
-    let text = write_utc(Utc(moment));
+    let text = write_utc(moment);
     out.extend_from_slice(text.as_slice())
 }
 
 /// Appends an element for each kind of a set.
-fn push_kinds(kinds: u8, out: &mut Octets) -> Result<(), NoMemory>
+fn push_kinds(kinds: u16, out: &mut Octets) -> Result<(), NoMemory>
     ensures text { OnOk result (out.new ≡ out.old ++ kinds_elements kinds) }
     ensures front { take (length out.old) out.new ≡ out.old }
 {
-    let set = u16::from(kinds);
-    push_if_all(set, 1, b"<C:comp name=\"VEVENT\"/>", out)?;
-    push_if_all(set, 2, b"<C:comp name=\"VTODO\"/>", out)?;
-    push_if_all(set, 4, b"<C:comp name=\"VJOURNAL\"/>", out)?;
-    push_if_all(set, 8, b"<C:comp name=\"VFREEBUSY\"/>", out)
+    push_if_all(kinds, 1, b"<C:comp name=\"VEVENT\"/>", out)?;
+    push_if_all(kinds, 2, b"<C:comp name=\"VTODO\"/>", out)?;
+    push_if_all(kinds, 4, b"<C:comp name=\"VJOURNAL\"/>", out)?;
+    push_if_all(kinds, 8, b"<C:comp name=\"VFREEBUSY\"/>", out)
 }
