@@ -23,9 +23,14 @@ use itoa::Buffer;
 use std::alloc::Global;
 
 /// The first and the last moment of the dates that are served.
-const FIRST_DATE: i64 = -11_676_096_000;
+const FIRST_DATE: Utc = Utc(-11_676_096_000);
 
-const LAST_DATE: i64 = 4_133_980_799;
+const LAST_DATE: Utc = Utc(4_133_980_799);
+
+/// The most octets of an object, and the most instances.
+const RESOURCE_LIMIT: usize = 262_144;
+
+const INSTANCES_LIMIT: usize = 250_000;
 
 const DATA_TYPE: &[u8] = b"<C:calendar-data content-type=\"text/calendar\" version=\"2.0\"/>";
 
@@ -61,10 +66,10 @@ pub(crate) fn push_content<V: View>(
         Row::Timezone => push_set_text(asked, subject, out),
         Row::Kinds => push_kinds_of(subject, out),
         Row::DataType => push_data_type(out),
-        Row::MaxSize => out.extend_from_slice(b"262144"),
+        Row::MaxSize => push_number(RESOURCE_LIMIT, out),
         Row::MinDate => push_moment(FIRST_DATE, out),
         Row::MaxDate => push_moment(LAST_DATE, out),
-        Row::MaxInstances => out.extend_from_slice(b"250000"),
+        Row::MaxInstances => push_number(INSTANCES_LIMIT, out),
         Row::Reports => out.extend_from_slice(REPORTS),
         Row::Acl => push_acl_of(alloc, seen, subject, out),
         Row::Text => push_set_text(asked, subject, out),
@@ -137,10 +142,7 @@ fn push_length(subject: &Subject<'_>, out: &mut Octets) -> Result<(), NoMemory>
     ensures front { take (length out.old) out.new ≡ out.old }
 {
     match subject {
-        Subject::Object(_, _, stored) => {
-            let mut digits = Buffer::new();
-            out.extend_from_slice(digits.format(stored.octets.len()).as_bytes())
-        }
+        Subject::Object(_, _, stored) => push_number(stored.octets.len(), out),
         _ => Ok(()),
     }
 }
@@ -180,6 +182,15 @@ fn push_data_type(out: &mut Octets) -> Result<(), NoMemory>
     ensures front { take (length out.old) out.new ≡ out.old }
 {
     out.extend_from_slice(DATA_TYPE)
+}
+
+/// Appends a number in decimal digits.
+fn push_number(number: usize, out: &mut Octets) -> Result<(), NoMemory>
+    ensures text { OnOk result (out.new ≡ out.old ++ decimal number) }
+    ensures front { take (length out.old) out.new ≡ out.old }
+{
+    let mut digits = Buffer::new();
+    out.extend_from_slice(digits.format(number).as_bytes())
 }
 
 /// Appends a moment in UTC.

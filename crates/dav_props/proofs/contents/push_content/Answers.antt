@@ -11,18 +11,6 @@ returns-in-ContentType-clause-text g c =
     (λ written. written ∙ ap (λ (row : Row). c.args.out.now ++ shown_content (g.V.View.directory c.args.seen.now.view.now) c.args.seen.now.who row (asked_name c.args.asked.now) c.args.subject.now) (sym c.in-ContentType.is))
     c.extend_from_slice-in-ContentType.ensures.ok
 
-pub returns-in-MaxSize-clause-text : goal.returns-in-MaxSize-clause-text
-returns-in-MaxSize-clause-text g c =
-    on_ok_then c.extend_from_slice-in-MaxSize.result
-    (λ written. written ∙ ap (λ (row : Row). c.args.out.now ++ shown_content (g.V.View.directory c.args.seen.now.view.now) c.args.seen.now.who row (asked_name c.args.asked.now) c.args.subject.now) (sym c.in-MaxSize.is))
-    c.extend_from_slice-in-MaxSize.ensures.ok
-
-pub returns-in-MaxInstances-clause-text : goal.returns-in-MaxInstances-clause-text
-returns-in-MaxInstances-clause-text g c =
-    on_ok_then c.extend_from_slice-in-MaxInstances.result
-    (λ written. written ∙ ap (λ (row : Row). c.args.out.now ++ shown_content (g.V.View.directory c.args.seen.now.view.now) c.args.seen.now.who row (asked_name c.args.asked.now) c.args.subject.now) (sym c.in-MaxInstances.is))
-    c.extend_from_slice-in-MaxInstances.ensures.ok
-
 pub returns-in-Reports-clause-text : goal.returns-in-Reports-clause-text
 returns-in-Reports-clause-text g c =
     on_ok_then c.extend_from_slice-in-Reports.result
