@@ -15,7 +15,7 @@ use Rattle.cal_model.specs.State.PropertyTexts.{Texts}
 use Rattle.cal_model.specs.State.ServerState.{Directory, Calendar, Home as UserHome, ServerState, user_number, home_at, calendar_at, octets_at}
 use Rattle.cal_model.specs.State.StoredData.{data_of, data_at}
 use Rattle.cal_model.specs.State.SoundStates.{AreToUsers, IsSound}
-use Rattle.cal_model.specs.Sight.Views.{Contents, Sight, View, held_on, contents_of, only_where, sight_of, sight_with, seen_by, home_by}
+use Rattle.cal_model.specs.Sight.Views.{Sight, View, held_on, contents_of, only_where, sight_of, sight_with, seen_by, home_by}
 use Rattle.cal_model.specs.Sight.Scenes.{scene_at, at_both, visible_home, octets_seen}
 use Rattle.cal_model.specs.Sight.Resources.{Resource, calendar, object}
 use Rattle.cal_model.specs.declared.property.PropName.{PropName}
@@ -28,7 +28,7 @@ use Rattle.cal_model.proofs.Sight.SceneLaws.{holds_some, home_in-view, calendar_
 use Rattle.cal_model.proofs.State.NameWalkLaws.{home-sound, calendar-sound}
 use Rattle.dav_props.specs.declared.subjects.Subject.{Subject}
 use Rattle.dav_props.specs.declared.subjects.Subject.TheVariants as subject
-use Rattle.dav_props.specs.Subjects.{Unseen, calendar_sight, resource_of, IsSeenAs, texts_of}
+use Rattle.dav_props.specs.Subjects.{Unseen, calendar_sight, resource_of, IsSeenAs}
 use Rattle.dav_props.proofs.TextLemmas.{texts_back}
 
 pub if_ok_then : {X E : Type 0} {P Q : X → Type 0} (result : Result X E) → ((x : X) → P x → Q x) → IfOk result P → IfOk result Q

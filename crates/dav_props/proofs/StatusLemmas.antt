@@ -1,5 +1,5 @@
 -- What the definition's table answers, by the code's tests and contents.
-use Rattle.std.proofs.Common.{◌≡◌, ℕ, Bool, true, false, not, cond, List, [], ◌∷◌, ◌++◌, Option, Some, None, refl, sym, ap, ◌∙◌, subst, arith}
+use Rattle.std.proofs.Common.{◌≡◌, ℕ, Bool, true, false, not, cond, List, [], Option, Some, None, refl, sym, ap, ◌∙◌, arith}
 use Rattle.std.specs.Prelude.{is_some, option_map, option_and_then, unwrap_or, if◌then◌else◌}
 use Rattle.std.proofs.lemmas.Bool.{false≢true}
 use Rattle.cal_model.specs.declared.property.PropName.{PropName}
@@ -9,8 +9,8 @@ use Rattle.cal_model.specs.State.PropertyTexts.{text_at}
 use Rattle.cal_model.specs.Replies.XmlText.{xml_text}
 use Rattle.cal_model.specs.Sight.Views.{Contents, only_where}
 use Rattle.cal_model.specs.Sight.Resources.{Asker, Resource, held_of}
-use Rattle.cal_model.specs.Properties.PropertyTable.{Answer, Property, without_value, answer_of_row}
-use Rattle.cal_model.specs.Properties.PropertyValues.{resource_type, kinds_elements, acl_elements}
+use Rattle.cal_model.specs.Properties.PropertyTable.{Answer, without_value}
+use Rattle.cal_model.specs.Properties.PropertyValues.{kinds_elements, acl_elements}
 use Rattle.dav_props.specs.declared.rows.Row.{Row}
 use Rattle.dav_props.specs.declared.rows.Row.TheVariants as rows
 use Rattle.dav_props.specs.declared.rows.Asked.{Asked}
@@ -19,7 +19,7 @@ use Rattle.dav_props.specs.declared.subjects.Subject.TheVariants as subject
 use Rattle.dav_props.specs.declared.rows.Columns.{Columns}
 use Rattle.dav_props.specs.Rows.{property_of, asked_name, is_on, AreColumns}
 use Rattle.dav_props.specs.Subjects.{Unseen, resource_of, texts_of}
-use Rattle.dav_props.specs.Contents.{IsShownHere, shown_content, type_elements, text_element, display_element, kinds_shown, acl_shown, said_of_octets}
+use Rattle.dav_props.specs.Contents.{IsShownHere, shown_content, type_elements, text_element, display_element, kinds_shown, acl_shown}
 use Rattle.dav_props.specs.Answers.{answered, has_text_set, is_there_in, is_there_at}
 
 -- where all is held, what is shown is there

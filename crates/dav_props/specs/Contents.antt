@@ -1,5 +1,5 @@
 -- The content of a property of a resource as it is seen, by the code's names for both. Where the property is not there this says nothing of use; that it is the table's content elsewhere is proved.
-use Rattle.std.specs.Prelude.{◌≡◌, ℕ, if◌then◌else◌, List, [], ◌∷◌, ◌++◌, flat_map, length, codes, decimal, unwrap_or, Option, None}
+use Rattle.std.specs.Prelude.{◌≡◌, ℕ, if◌then◌else◌, List, [], ◌++◌, flat_map, length, codes, decimal, unwrap_or, Option, None}
 use Rattle.cal_model.specs.declared.path.Path.TheVariants.{Principal, Home}
 use Rattle.cal_model.specs.declared.property.PropName.{PropName}
 use Rattle.cal_model.specs.Access.Privileges.{has_all}

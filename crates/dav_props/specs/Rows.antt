@@ -1,5 +1,5 @@
 -- What the code's names for properties, and for the columns of the table, stand for.
-use Rattle.std.specs.Prelude.{◌≡◌, ℕ, Bool, List, [], ◌∷◌, codes, decimal, length}
+use Rattle.std.specs.Prelude.{◌≡◌, Bool, List, [], ◌∷◌, codes, decimal, length}
 use Rattle.cal_model.specs.declared.property.PropName.{PropName}
 use Rattle.cal_model.specs.Access.Privileges.{read, read_acl, read_held}
 use Rattle.cal_model.specs.Sight.Resources.{Resource, any_resource, is_principal, is_calendar, is_object, is_named, is_owned}

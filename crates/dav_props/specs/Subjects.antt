@@ -1,5 +1,5 @@
 -- A resource as its properties show it, and what else there is of it, which no property shows.
-use Rattle.std.specs.Prelude.{◌≡◌, ◌<◌, ℕ, List, [], ◌∷◌, map, length, Option, Some, None, unwrap_or}
+use Rattle.std.specs.Prelude.{◌≡◌, ℕ, List, [], ◌∷◌, map, Option, Some, None, unwrap_or}
 use Rattle.cal_base.specs.Lists.NameMap.{Named}
 use Rattle.cal_model.specs.declared.path.Path.{Path}
 use Rattle.cal_model.specs.declared.path.Path.TheVariants.{Calendar as CalendarPath, Object as ObjectPath}
@@ -10,7 +10,7 @@ use Rattle.cal_model.specs.Access.Privileges.{has_all, read, read_acl}
 use Rattle.cal_model.specs.State.PropertyTexts.{Texts}
 use Rattle.cal_model.specs.State.ServerState.{Directory, ServerState}
 use Rattle.cal_model.specs.State.SoundStates.{AreToUsers}
-use Rattle.cal_model.specs.Sight.Views.{Contents, Sight, only_where}
+use Rattle.cal_model.specs.Sight.Views.{Sight, only_where}
 use Rattle.cal_model.specs.Sight.Resources.{Resource, root, principal, home, calendar, object, path_of_resource}
 use Rattle.cal_model.specs.Serving.SeenResources.{resources_seen}
 use Rattle.dav_props.specs.declared.subjects.Subject.{Subject}

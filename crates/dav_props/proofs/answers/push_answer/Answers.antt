@@ -3,8 +3,6 @@ use Rattle.dav_write.proofs.Appending.{on_ok_then}
 use Rattle.cal_model.specs.Properties.PropertyTable.{Answer, without_value}
 use Rattle.cal_model.specs.declared.property.PropName.{PropName}
 use Rattle.cal_model.specs.Properties.PropertyReplies.{property_element}
-use Rattle.cal_model.specs.Serving.SeenResources.{seen_answer}
-use Rattle.dav_props.specs.Answers.{answered}
 use Rattle.dav_props.proofs.RowLemmas.{shown_anywhere}
 use Rattle.dav_props.proofs.SeenLemmas.{seen_is, nothing_is, if_ok_then}
 use Rattle.dav_props.proofs.answers.push_answer.Goals as goal

@@ -1,4 +1,3 @@
-use Rattle.std.proofs.Common.{◌++◌}
 use Rattle.std.specs.Prelude.{codes}
 use Rattle.dav_write.proofs.Appending.{then_more, on_ok_then}
 use Rattle.cal_model.specs.Properties.PropertyValues.{bit_elements}

@@ -1,7 +1,5 @@
-use Rattle.std.proofs.Common.{refl, sym, ap, ◌∙◌, []}
+use Rattle.std.proofs.Common.{sym, ap, ◌∙◌}
 use Rattle.cal_model.specs.declared.path.Path.TheVariants.{Principal, Home}
-use Rattle.dav_props.specs.Subjects.{IsSeenAs}
-use Rattle.dav_props.specs.declared.subjects.Subject.TheVariants as subject
 use Rattle.dav_props.proofs.SeenLemmas.{root_seen, principal_seen, home_seen}
 use Rattle.dav_props.proofs.subjects.subject_at.Goals as goal
 
