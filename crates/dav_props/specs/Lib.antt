@@ -1,0 +1,5 @@
+pub mod Rows
+pub mod Subjects
+pub mod Contents
+pub mod PropertyTags
+pub mod Answers

@@ -1,0 +1,18 @@
+//! The properties of resources (RFC 4918, 4, 9.1 and 9.2; RFC 3744, 5; RFC 4791, 5.2).
+//!
+//! Given: a state as a user sees it, and what is asked of a path; or settings of a calendar. Gives:
+//! the reply to a PROPFIND, the answer to one property, which reports ask, and what refuses settings.
+//! Used by: the book, which serves requests, and which hands the answers to reports.
+#![tactic(auto)]
+
+mod access;
+mod answers;
+mod contents;
+mod hrefs;
+mod privileges_held;
+mod rows;
+mod subjects;
+mod tags;
+mod texts;
+
+pub use answers::DavAnswers;
