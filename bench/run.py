@@ -2,9 +2,9 @@
 """Times the programs over generated input, and prints the figures. It needs Python 3, and Debian's package `time` for the memory.
 
 Build the programs once before: `rt run` in crates/caldav_server and in each crate whose name ends in _bench.
-Words name the parts that are to run (scripts, lines, values, rules, rows, filters, bodies, requests, wire, busy, index, turns); without a word all do.
+Words name the parts that are to run (scripts, lines, values, rules, filters, bodies, requests, wire, busy, index, turns); without a word all do.
 """
-import datetime, os, re, resource, subprocess, sys, tempfile, time
+import os, re, resource, subprocess, sys, tempfile, time
 
 TOP = os.path.dirname(os.path.dirname(os.path.abspath(__file__)))
 SERVER = os.path.join(TOP, "crates/caldav_server/out/caldav_server")
@@ -16,7 +16,6 @@ BODIES = os.path.join(TOP, "crates/xml_bench/out/xml_bench")
 REQUESTS = os.path.join(TOP, "crates/elements_bench/out/elements_bench")
 VALUES = os.path.join(TOP, "crates/values_bench/out/values_bench")
 RULES = os.path.join(TOP, "crates/rules_bench/out/rules_bench")
-ROWS = os.path.join(TOP, "crates/rows_bench/out/rows_bench")
 FILTERS = os.path.join(TOP, "crates/filter_bench/out/filter_bench")
 WIRE = os.path.join(TOP, "crates/wire_bench/out/wire_bench")
 USERS = b"user alice ba7816bf8f01cfea414140de5dae2223b00361a396177a9cb410ff61f20015ad\n"
@@ -238,64 +237,16 @@ def rules():
         print(f"{f'{label}, {unit}':34} {plain:8d} {step:8d} {plain / step:14.1f}")
 
 
-NEW_YORK = [
-    b"BEGIN:VTIMEZONE", b"TZID:NY",
-    b"BEGIN:DAYLIGHT", b"DTSTART:16010101T020000", b"RRULE:FREQ=YEARLY;BYDAY=2SU;BYMONTH=3", b"TZOFFSETFROM:-0500", b"TZOFFSETTO:-0400", b"END:DAYLIGHT",
-    b"BEGIN:STANDARD", b"DTSTART:16010101T020000", b"RRULE:FREQ=YEARLY;BYDAY=1SU;BYMONTH=11", b"TZOFFSETFROM:-0400", b"TZOFFSETTO:-0500", b"END:STANDARD",
-    b"END:VTIMEZONE",
-]
-
-
-def calendar(zone, *events):
-    """A calendar object with a zone or none, and some events, each by its lines."""
-    parts = [b"BEGIN:VCALENDAR", *zone]
-    for event in events:
-        parts += [b"BEGIN:VEVENT", b"UID:a", *event, b"END:VEVENT"]
-    return b"\r\n".join([*parts, b"END:VCALENDAR", b""])
-
-
-def stamps(first, step, count):
-    """So many moments of UTC, one a step after the other."""
-    moment = datetime.datetime(*first)
-    return [(moment + datetime.timedelta(seconds=step * n)).strftime("%Y%m%dT%H%M%SZ").encode() for n in range(count)]
-
-
-def recurring(start, zone=b"", rule=b"", count=0):
-    """An event that recurs from the start on."""
-    begin = (b"DTSTART;TZID=NY:%sT090000" if zone else b"DTSTART:%sT090000Z") % start
-    return [begin, b"DURATION:PT30M", b"RRULE:FREQ=" + rule + (b";COUNT=%d" % count if count else b"")]
-
-
-def row_objects():
-    """The objects whose rows are found, by name."""
-    objects = {}
-    for rule, count in ((b"DAILY", 40000), (b"WEEKLY", 5000), (b"MONTHLY", 1000), (b"YEARLY", 100)):
-        name = rule.decode()
-        objects[f"{name} since 1970"] = calendar([], recurring(b"19700105", rule=rule))
-        objects[f"{name} since 1970, with COUNT"] = calendar([], recurring(b"19700105", rule=rule, count=count))
-    objects["DAILY since 2005"] = calendar([], recurring(b"20050103", rule=b"DAILY"))
-    objects["DAILY since 1970 in New York"] = calendar(NEW_YORK, recurring(b"19700105", b"NY", b"DAILY"))
-    objects["HOURLY since 1970"] = calendar([], recurring(b"19700105", rule=b"HOURLY"))
-    objects["last weekday of a month since 1970"] = calendar([], recurring(b"19700130", rule=b"MONTHLY;BYDAY=MO,TU,WE,TH,FR;BYSETPOS=-1"))
-    for number in (1250, 2500, 5000):
-        master = recurring(b"20000101", rule=b"DAILY")
-        moved = [[b"RECURRENCE-ID:" + at, b"DTSTART:" + at[:8] + b"T100000Z"] for at in stamps((2014, 1, 1, 9), 86400, number)]
-        objects[f"{number} overrides"] = calendar([], master, *moved)
-    for number in (2500, 5000, 10000):
-        dates = stamps((2025, 12, 1), 3600, number)
-        without = stamps((2025, 12, 1), 7200, number)
-        event = [b"DTSTART:20251130T000000Z", b"RDATE:" + b",".join(reversed(dates)), b"EXDATE:" + b",".join(without)]
-        objects[f"{number} RDATEs and EXDATEs"] = calendar([], event)
-    return objects
-
-
-def rows():
-    print(f"{'rows of the window from 27 January 2026':42} {'octets':>8} {'rows':>6} {'us':>9} {'us a row':>9}")
-    for name, text in row_objects().items():
-        found = [re.findall(rb"\d+", run(ROWS, ["320", "20"], text)[2]) for _ in range(3)]
-        number = int(found[0][0])
-        micros = min(int(nanos) for _, nanos in found) / 1000
-        print(f"{name:42} {len(text):8d} {number:6d} {micros:9.1f} {micros / max(number, 1):9.3f}")
+def filters():
+    print(f"{'filter':34} {'objects':>8} {'ns each':>8}  answer")
+    for count in (2500, 5000, 10000):
+        best = {}
+        for _ in range(3):
+            output = run(FILTERS, [str(count), "20"], b"")[2].decode()
+            for label, answer, nanos in re.findall(r"(.*): (\d+ match)\n.*: (\d+) ns an object", output):
+                best[label, answer] = min(int(nanos), best.get((label, answer), int(nanos)))
+        for (label, answer), nanos in best.items():
+            print(f"{label:34} {count:8d} {nanos:8d}  {answer}")
 
 
 def busy():
@@ -330,7 +281,7 @@ def wire():
 
 
 PARTS = {
-    "scripts": (scripts, SERVER), "lines": (lines, LINES), "values": (values, VALUES), "rules": (rules, RULES), "rows": (rows, ROWS), "filters": (filters, FILTERS),
+    "scripts": (scripts, SERVER), "lines": (lines, LINES), "values": (values, VALUES), "rules": (rules, RULES), "filters": (filters, FILTERS),
     "bodies": (bodies, BODIES), "requests": (requests, REQUESTS), "wire": (wire, WIRE), "busy": (busy, BUSY), "index": (index, INDEX), "turns": (turns, TURNS),
 }
 chosen = sys.argv[1:] or list(PARTS)
