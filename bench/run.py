@@ -2,7 +2,7 @@
 """Times the programs over generated input, and prints the figures. It needs Python 3, and Debian's package `time` for the memory.
 
 Build the programs once before: `rt run` in crates/caldav_server and in each crate whose name ends in _bench.
-Words name the parts that are to run (scripts, lines, values, rules, bodies, requests, wire, busy, index, turns); without a word all do.
+Words name the parts that are to run (scripts, lines, values, rules, filters, bodies, requests, wire, busy, index, turns); without a word all do.
 """
 import os, re, resource, subprocess, sys, tempfile, time
 
@@ -16,6 +16,7 @@ BODIES = os.path.join(TOP, "crates/xml_bench/out/xml_bench")
 REQUESTS = os.path.join(TOP, "crates/elements_bench/out/elements_bench")
 VALUES = os.path.join(TOP, "crates/values_bench/out/values_bench")
 RULES = os.path.join(TOP, "crates/rules_bench/out/rules_bench")
+FILTERS = os.path.join(TOP, "crates/filter_bench/out/filter_bench")
 WIRE = os.path.join(TOP, "crates/wire_bench/out/wire_bench")
 USERS = b"user alice ba7816bf8f01cfea414140de5dae2223b00361a396177a9cb410ff61f20015ad\n"
 
@@ -236,6 +237,18 @@ def rules():
         print(f"{f'{label}, {unit}':34} {plain:8d} {step:8d} {plain / step:14.1f}")
 
 
+def filters():
+    print(f"{'filter':34} {'objects':>8} {'ns each':>8}  answer")
+    for count in (2500, 5000, 10000):
+        best = {}
+        for _ in range(3):
+            output = run(FILTERS, [str(count), "20"], b"")[2].decode()
+            for label, answer, nanos in re.findall(r"(.*): (\d+ match)\n.*: (\d+) ns an object", output):
+                best[label, answer] = min(int(nanos), best.get((label, answer), int(nanos)))
+        for (label, answer), nanos in best.items():
+            print(f"{label:34} {count:8d} {nanos:8d}  {answer}")
+
+
 def busy():
     print(f"{'busy times':34} {'seconds':>8} {'us each':>8} {'MiB':>6}  answer")
     for count in (50000, 100000, 200000):
@@ -268,7 +281,7 @@ def wire():
 
 
 PARTS = {
-    "scripts": (scripts, SERVER), "lines": (lines, LINES), "values": (values, VALUES), "rules": (rules, RULES),
+    "scripts": (scripts, SERVER), "lines": (lines, LINES), "values": (values, VALUES), "rules": (rules, RULES), "filters": (filters, FILTERS),
     "bodies": (bodies, BODIES), "requests": (requests, REQUESTS), "wire": (wire, WIRE), "busy": (busy, BUSY), "index": (index, INDEX), "turns": (turns, TURNS),
 }
 chosen = sys.argv[1:] or list(PARTS)
