@@ -1,0 +1,15 @@
+pub mod NamedLemmas
+pub mod IndexLemmas
+pub mod CalendarLemmas
+pub mod SettingLemmas
+pub mod SetLemmas
+pub mod KindLemmas
+pub mod HomeLemmas
+pub mod StateLemmas
+pub mod HomesLemmas
+pub mod AcceptedLemmas
+pub mod MadeLemmas
+pub mod OtherChanges
+pub mod LookLemmas
+pub mod OpeningLemmas
+pub mod StoreLemmas

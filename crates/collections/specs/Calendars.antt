@@ -1,0 +1,35 @@
+-- A calendar that is kept: how contracts see it, and what holds of it.
+-- Given: its parts.
+use Rattle.std.specs.Prelude.{◌≡◌, ℕ, List}
+use Rattle.std.specs.List.Sorted.{IsStrictlySortedBy}
+use Rattle.std.specs.Map.{keys_of}
+use Rattle.cal_base.specs.Lists.NameMap.{Named}
+use Rattle.cal_model.specs.declared.stored.Stored.{Stored}
+use Rattle.cal_model.specs.declared.store.CalendarData.{CalendarData}
+use Rattle.cal_model.specs.State.PropertyTexts.{prop_order, as_settings}
+use Rattle.cal_model.specs.State.ServerState.{own_zone}
+use Rattle.collections.specs.declared.objects.ObjectEntry.{ObjectEntry}
+use Rattle.collections.specs.KeptCalendars.{KeptObject, KeptCalendar, each_value}
+use Rattle.collections.specs.Objects.{IsIndexed, ArePlaced}
+use Rattle.collections.specs.Settings.{texts_of}
+
+abbrev pub kept_entry : ObjectEntry → KeptObject
+kept_entry entry = record { octets = entry.stored.octets; origin = entry.origin }
+
+abbrev pub kept_with : List ℕ → CalendarData → Named ObjectEntry → KeptCalendar
+kept_with name kept by_name = record {
+  home = kept.owner;
+  name = name;
+  grants = kept.acl.grants;
+  kinds = kept.kinds;
+  texts = texts_of kept.texts;
+  objects = each_value kept_entry by_name;
+}
+
+-- The zone is that of the properties, these are all set and in order, and the objects are in this calendar, each at its UID in the index.
+pub record IsCalendar (name : List ℕ) (kept : CalendarData) (by_name : Named ObjectEntry) (by_uid : Named Stored) : Type 0 where
+  pub zone : kept.zone ≡ own_zone (texts_of kept.texts)
+  pub set : kept.texts ≡ as_settings (texts_of kept.texts)
+  pub in_order : IsStrictlySortedBy prop_order (keys_of (texts_of kept.texts))
+  pub indexed : IsIndexed by_name by_uid
+  pub placed : ArePlaced kept.owner name by_name

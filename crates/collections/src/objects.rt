@@ -1,0 +1,74 @@
+//! The objects of a calendar by their names, and the index of their UIDs.
+ghost use Rattle.std.specs.Prelude.{◌≡◌, OnOk, OnErr, option_map};
+ghost use Rattle.cal_base.specs.Lists.NameMap.{value_at, with_value, without};
+ghost use Rattle.collections.specs.declared.objects.ObjectEntry.{ObjectEntry as Entry};
+ghost use Rattle.collections.specs.Objects.{IsIndexed, IsAlone};
+
+use cal_base::{Arc, NameMap, NoMemory, Octets};
+use cal_model::Stored;
+use std::alloc::Global;
+
+/// An object, and its origin: the number of the journal's entry that made it.
+#[derive(Drop)]
+pub(crate) struct ObjectEntry {
+    pub(crate) stored: Arc<Stored>,
+    pub(crate) origin: u64,
+}
+
+/// Puts an object under its name and its UID, in the place of the one that was there. Without memory
+/// the objects stay as they were.
+///
+/// The index is written first: where the object has to be new there too, its entry is taken back if
+/// there is no memory for the name.
+pub(crate) fn put_object(
+    alloc: Global,
+    by_name: &mut NameMap<ObjectEntry>,
+    by_uid: &mut NameMap<Arc<Stored>>,
+    stored: &Arc<Stored>,
+    origin: u64,
+) -> Result<(), NoMemory>
+    requires indexed { IsIndexed by_name.old by_uid.old }
+    requires alone { IsAlone by_name.old stored.now }
+    ensures ok { OnOk result (by_name.new ≡ with_value by_name.old stored.now.path.object (record { stored = stored.now; origin = origin })) }
+    ensures err { OnErr result (by_name.new ≡ by_name.old) }
+    ensures indexed { IsIndexed by_name.new by_uid.new }
+{
+    let name = Octets::of(alloc, stored.path.object.as_slice())?;
+    let uid = Octets::of(alloc, stored.object.uid.as_slice())?;
+    let entry = ObjectEntry {
+        stored: Arc::try_clone(stored)?,
+        origin,
+    };
+    by_uid.insert(uid, Arc::try_clone(stored)?)?;
+    match by_name.insert(name, entry) {
+        Ok(()) => Ok(()),
+        Err(NoMemory) => {
+            let _indexed = by_uid.remove(stored.object.uid.as_slice());
+            Err(NoMemory)
+        }
+    }
+}
+
+/// Takes out the object of a name, if it is there, from the index too. Takes no memory.
+pub(crate) fn take_object(
+    by_name: &mut NameMap<ObjectEntry>,
+    by_uid: &mut NameMap<Arc<Stored>>,
+    name: &[u8],
+) -> Option<Arc<Stored>>
+    requires indexed { IsIndexed by_name.old by_uid.old }
+    ensures object { result ≡ option_map (λ (entry : Entry). entry.stored) (value_at by_name.old name.now) }
+    ensures rest { by_name.new ≡ without by_name.old name.now }
+    ensures indexed { IsIndexed by_name.new by_uid.new }
+{
+    match by_name.remove(name) {
+        Some(entry) => {
+            let ObjectEntry {
+                stored,
+                origin: _origin,
+            } = entry;
+            let _gone = by_uid.remove(stored.object.uid.as_slice());
+            Some(stored)
+        }
+        None => None,
+    }
+}
