@@ -1,5 +1,5 @@
 -- Stamps beside a start, with the zones of an object at hand.
-use Rattle.std.specs.Prelude.{ℕ, ◌<◌, List, map, length}
+use Rattle.std.specs.Prelude.{ℕ, ◌<◌, List, map}
 use Rattle.cal_moment.specs.declared.stamp.Stamp.{Stamp}
 use Rattle.cal_moment.specs.declared.stamp.Stamp.TheVariants.{Floating, Zoned}
 use Rattle.cal_model.specs.declared.local_times.LocalTimes.{LocalTimes}

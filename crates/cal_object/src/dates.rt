@@ -1,5 +1,5 @@
 //! The stamps and the periods of one line (RFC 5545, 3.3.9 and 3.8.5.2).
-ghost use Rattle.std.specs.Prelude.{◌≡◌, flat_map, IfOk};
+ghost use Rattle.std.specs.Prelude.{◌≡◌, IfOk};
 ghost use Rattle.cal_model.specs.Values.StampTexts as texts;
 ghost use Rattle.cal_model.specs.Objects.LineValues as spec;
 

@@ -1,10 +1,9 @@
 //! The first date outside those that are served, of the components of the four kinds and of their
 //! alarms.
-ghost use Rattle.std.specs.Prelude.{◌≡◌, ◌++◌, ℕ, List, [], None, find, flat_map, option_map, if◌then◌else◌, IfOk, OnOk};
+ghost use Rattle.std.specs.Prelude.{◌≡◌, ◌++◌, ℕ, List, [], None, find, flat_map, option_map, IfOk, OnOk};
 ghost use Rattle.std.specs.Option.{option_copied};
 ghost use Rattle.cal_base.specs.Texts.Text.{raised_all};
 ghost use Rattle.cal_base.specs.Lines.ComponentTrees.{component_name, nesting_fault, or_else};
-ghost use Rattle.cal_moment.specs.declared.stamp.Stamp.{Stamp};
 ghost use Rattle.cal_model.specs.Values.StampTexts as texts;
 ghost use Rattle.cal_model.specs.Objects.ObjectFaults as faults;
 ghost use Rattle.cal_object.specs.DatesOutside as spec;

@@ -6,7 +6,7 @@ ghost use Rattle.cal_moment.specs.declared.stamp.Period.{Period};
 ghost use Rattle.cal_model.specs.Ranges.Overlap as overlap;
 ghost use Rattle.cal_model.specs.Values.RuleTexts.{rule_of};
 ghost use Rattle.cal_model.specs.Values.StampTexts.{trigger_of};
-ghost use Rattle.cal_model.specs.Values.ValueTexts.{length_of, offset_of};
+ghost use Rattle.cal_model.specs.Values.ValueTexts.{length_of};
 ghost use Rattle.cal_model.specs.Objects.LineValues as spec;
 ghost use Rattle.cal_object.specs.Properties.{test_of};
 

@@ -1,5 +1,5 @@
 //! The parts of a VTIMEZONE, and whether it can stand (RFC 5545, 3.6.5).
-ghost use Rattle.std.specs.Prelude.{◌≡◌, ◌++◌, [], codes, filter, filter_map, option_to_list, if◌then◌else◌, IfOk, OnOk};
+ghost use Rattle.std.specs.Prelude.{◌≡◌, ◌++◌, [], filter, filter_map, option_to_list, IfOk, OnOk};
 ghost use Rattle.std.specs.List.{list_any};
 ghost use Rattle.cal_base.specs.declared.line.Node.{Node};
 ghost use Rattle.cal_model.specs.declared.zone.ZonePart.{ZonePart};

@@ -1,14 +1,12 @@
 //! What the lines of a part of a zone say (RFC 5545, 3.6.5): its dates by their digits, its rules and
 //! its offsets.
-ghost use Rattle.std.specs.Prelude.{◌≡◌, ◌++◌, [], None, codes, map, option_to_list, if◌then◌else◌, All, IfOk, IfSome, OnOk};
-ghost use Rattle.cal_base.specs.Lines.ComponentTrees.{first};
+ghost use Rattle.std.specs.Prelude.{◌≡◌, ◌++◌, [], map, option_to_list, All, IfOk, OnOk};
 ghost use Rattle.cal_moment.specs.Calendar.{IsCalendarMoment};
 ghost use Rattle.cal_moment.specs.Texts.{local_of_seconds};
 ghost use Rattle.cal_moment.specs.declared.stamp.Period.{Period};
 ghost use Rattle.cal_model.specs.Values.StampTexts as texts;
 ghost use Rattle.cal_model.specs.Values.RuleTexts.{rule_of};
 ghost use Rattle.cal_model.specs.Values.ValueTexts.{offset_of};
-ghost use Rattle.cal_model.specs.Objects.ComponentLines.{has_name};
 ghost use Rattle.cal_model.specs.Objects.LineValues as values;
 ghost use Rattle.cal_model.specs.Objects.ZoneReading as spec;
 ghost use Rattle.cal_object.specs.PartDates.{HasMoment, StartsAtMoment};

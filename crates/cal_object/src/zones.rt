@@ -1,9 +1,8 @@
 //! The zones of a calendar, each as a table (RFC 5545, 3.6.5).
-ghost use Rattle.std.specs.Prelude.{◌≡◌, ◌+◌, ◌++◌, ◌∷◌, ℕ, List, [], None, Some, true, false, filter, get_or, map, All, IfOk, OnOk, IsErrOf, IfErr};
+ghost use Rattle.std.specs.Prelude.{◌≡◌, ◌+◌, ◌++◌, ℕ, List, [], None, Some, true, false, filter, get_or, map, All, IfOk, OnOk, IsErrOf};
 ghost use Rattle.cal_base.specs.Lines.ContentLines.{Placed};
 ghost use Rattle.cal_model.specs.Recurrence.RecurrenceSet.{every_moment};
 ghost use Rattle.cal_model.specs.TimeZones.TableBounds.{IsTable};
-ghost use Rattle.cal_model.specs.Objects.ComponentLines.{children_of};
 ghost use Rattle.cal_model.specs.Objects.ObjectFaults.{child_places, children_in, zones_among, zone_fault};
 ghost use Rattle.cal_model.specs.Objects.ZoneReading as spec;
 ghost use Rattle.cal_object.specs.ZoneFaults.{first_bad, is_bad_zone, room_behind, tables_from, IsMadeOf};
