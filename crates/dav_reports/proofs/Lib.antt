@@ -1,0 +1,10 @@
+pub mod CalendarWalks
+pub mod CalendarZones
+pub mod KeptObjects
+pub mod LengthLemmas
+pub mod ListSteps
+pub mod NeededRows
+pub mod StoredTimes
+pub mod StretchLemmas
+pub mod TimeClasses
+pub mod WindowsFound

@@ -1,0 +1,52 @@
+-- The objects of a calendar in a state, which pieces of their rows are right, and what it costs to find the other rows that a report needs.
+use Rattle.std.specs.Prelude.{◌≡◌, ℕ, List, map, flat_map, option_to_list, sum, Option, Some, None, Ok}
+use Rattle.std.specs.List.{AllByRecursion}
+use Rattle.cal_base.specs.Lists.NameMap.{Named}
+use Rattle.cal_model.specs.declared.object.Object.{Object}
+use Rattle.cal_model.specs.declared.report.ReportRequest.{ReportRequest}
+use Rattle.cal_model.specs.declared.report.ReportRequest.TheVariants.{FreeBusy}
+use Rattle.cal_model.specs.declared.row.Range.{Range}
+use Rattle.cal_model.specs.declared.zone.ZoneTable.{ZoneTable}
+use Rattle.cal_model.specs.Busy.BusyTimes.{BusyTime}
+use Rattle.cal_model.specs.History.Origins.{Origins}
+use Rattle.cal_model.specs.Objects.ObjectReading.{read_object}
+use Rattle.cal_model.specs.Reports.NeededWindows.{windows_needed}
+use Rattle.cal_model.specs.State.ServerState.{Calendar, ServerState, calendar_at, object_of, objects_of}
+use Rattle.dav_reports.specs.ObjectTimes.{times_by_windows}
+use Rattle.dav_reports.specs.PieceRows.{AreRowsOf, Held, windows_cost}
+
+-- the objects of a calendar, by their names
+abbrev pub objects_at : ServerState → ℕ → List ℕ → Named (List ℕ)
+objects_at state home calendar = flat_map (λ (c : Calendar). c.objects) (option_to_list (calendar_at state home calendar))
+
+-- the origins of the objects of a calendar, by their names
+abbrev pub OriginOf : Type 0
+OriginOf = List ℕ → Option ℕ
+
+-- what is held of an object are its rows
+abbrev pub IsHeldRight : Held → OriginOf → List ℕ × List ℕ → Type 0
+IsHeldRight held origin_of entry = (origin : ℕ) (object : Object) → origin_of entry.0 ≡ Some origin → read_object entry.1 ≡ Ok object → AreRowsOf held origin object
+
+-- Of each object of a calendar what is held are its rows. Nothing is asked of what is held of other objects.
+abbrev pub AreHeldRight : Held → Origins → ServerState → ℕ → List ℕ → Type 0
+AreHeldRight held origins state home calendar = AllByRecursion (IsHeldRight held (origins home calendar)) (objects_at state home calendar)
+
+-- the steps that an object costs: those of the windows that a report needs and of which no rows are held
+abbrev pub object_cost : Held → ReportRequest → Option ℕ → Option Object → ℕ
+object_cost held report None object = 0
+object_cost held report (Some origin) None = 0
+object_cost held report (Some origin) (Some object) = windows_cost held origin object (windows_needed object report)
+
+abbrev pub entry_cost : Held → ReportRequest → OriginOf → List ℕ × List ℕ → ℕ
+entry_cost held report origin_of entry = object_cost held report (origin_of entry.0) (object_of entry.1)
+
+-- and all objects
+abbrev pub entries_cost : Held → ReportRequest → OriginOf → Named (List ℕ) → ℕ
+entries_cost held report origin_of entries = sum (map (entry_cost held report origin_of) entries)
+
+-- the busy times of some objects, over the rows in the windows that a range may need
+abbrev pub times_needed : ZoneTable → Range → Object → List BusyTime
+times_needed zone range object = times_by_windows zone object (windows_needed object (FreeBusy range))
+
+abbrev pub times_of_entries : ZoneTable → Range → Named (List ℕ) → List BusyTime
+times_of_entries zone range entries = flat_map (times_needed zone range) (objects_of entries)

@@ -1,0 +1,5 @@
+pub mod CalendarObjects
+pub mod Lengths
+pub mod ObjectTimes
+pub mod PieceRows
+pub mod Stretches

@@ -1,0 +1,222 @@
+//! The busy times of an object (RFC 4791, 7.10).
+ghost use Rattle.std.specs.Prelude.{◌≡◌, ◌+◌, ◌≤◌, ◌++◌, All, IfOk, OnOk, flat_map};
+ghost use Rattle.cal_model.specs.declared.object.Component.{Component};
+ghost use Rattle.cal_model.specs.declared.report.ReportRequest.TheVariants.{FreeBusy};
+ghost use Rattle.cal_model.specs.Busy.BusyTimes as spec;
+ghost use Rattle.cal_model.specs.Instances.Rows.{rows_in};
+ghost use Rattle.cal_model.specs.Reports.NeededWindows.{windows_needed as needed_windows};
+ghost use Rattle.cal_model.specs.TimeZones.TableBounds.{IsTable};
+ghost use Rattle.freebusy.specs.Times.{times_of};
+ghost use Rattle.overlap_rules.specs.Bounds.{IsNearRow};
+ghost use Rattle.dav_reports.specs.ObjectTimes.{IsNearStored, stored_times, times_by_windows, times_in, times_of_rows};
+ghost use Rattle.dav_reports.specs.PieceRows.{AreRowsOf, IsKept, window_cost, windows_cost};
+
+use crate::windows::windows_needed;
+use cal_base::{List, NoMemory, Steps};
+use cal_model::view::Pieces;
+use cal_model::{Class, Component, Kind, Object, Range, Row, ZoneTable};
+use cal_moment::Period;
+use freebusy::BusyRow;
+use overlap_rules::{fixed, stored_period};
+use override_merge::zones::local_times;
+use rrule_sets::window_rows;
+use std::alloc::Global;
+use std::sync::ledger::Ledger;
+
+/// The class of a row: that of its component; none for one that counts as free.
+fn class_of(object: &Object, row: &Row) -> Option<Class>
+    ensures { result ≡ spec.class_of_row object.now row.now }
+{
+    match object.components.get(row.component as usize) {
+        Some(component) => component.busy,
+        None => None,
+    }
+}
+
+/// Puts the time of a row behind others, where it makes busy. Floating times are read in the zone.
+fn put_row(
+    object: &Object,
+    row: &Row,
+    zone: &ZoneTable,
+    out: &mut List<BusyRow>,
+) -> Result<(), NoMemory>
+    requires zone { IsTable zone.now }
+    requires near { IsNearRow row.now }
+    ensures { OnOk result (times_of out.new ≡ times_of out.old ++ spec.times_of_row zone.now object.now row.now) }
+{
+    match class_of(object, row) {
+        Some(class) => {
+            let at = fixed(row, zone);
+            out.push(BusyRow {
+                class,
+                start: at.start,
+                end: at.end,
+            })
+        }
+        None => Ok(()),
+    }
+}
+
+/// Puts the times of some rows behind others.
+fn put_rows(
+    object: &Object,
+    rows: &[Row],
+    zone: &ZoneTable,
+    out: &mut List<BusyRow>,
+) -> Result<(), NoMemory>
+    requires zone { IsTable zone.now }
+    requires near { All IsNearRow rows.now }
+    ensures { OnOk result (times_of out.new ≡ times_of out.old ++ times_of_rows zone.now object.now rows.now) }
+{
+    let mut rest = rows;
+    'rows: while let Some((row, behind)) = rest.split_first() {
+        put_row(object, row, zone, out)?;
+        rest = behind;
+    }
+    Ok(())
+}
+
+/// Puts the times of an object's rows in a window behind others. The rows are those of its piece, where
+/// there is one, and else they are found anew.
+fn put_window<P: Pieces, L: Ledger>(
+    alloc: Global,
+    pieces: &P,
+    origin: u64,
+    object: &Object,
+    window: i32,
+    zone: &ZoneTable,
+    out: &mut List<BusyRow>,
+    steps: &mut Steps<L>,
+) -> Result<(), NoMemory>
+    requires object { IsKept object.now }
+    requires right { AreRowsOf (P.held pieces.now) origin object.now }
+    requires zone { IsTable zone.now }
+    ensures steps { steps.new ≤ steps.old + window_cost (P.held pieces.now) origin object.now window }
+    ensures times { OnOk result (times_of out.new ≡ times_of out.old ++ times_of_rows zone.now object.now (rows_in object.now window)) }
+{
+    if let Some(rows) = pieces.rows(origin, window) {
+        return put_rows(object, rows.as_slice(), zone, out);
+    }
+    let rows = window_rows(alloc, object, window, steps)?;
+    put_rows(object, rows.as_slice(), zone, out)
+}
+
+/// The same of several windows.
+fn put_windows<P: Pieces, L: Ledger>(
+    alloc: Global,
+    pieces: &P,
+    origin: u64,
+    object: &Object,
+    windows: &[i32],
+    zone: &ZoneTable,
+    out: &mut List<BusyRow>,
+    steps: &mut Steps<L>,
+) -> Result<(), NoMemory>
+    requires object { IsKept object.now }
+    requires right { AreRowsOf (P.held pieces.now) origin object.now }
+    requires zone { IsTable zone.now }
+    ensures steps { steps.new ≤ steps.old + windows_cost (P.held pieces.now) origin object.now windows.now }
+    ensures times { OnOk result (times_of out.new ≡ times_of out.old ++ times_in zone.now object.now windows.now) }
+{
+    let mut rest = windows;
+    'windows: while let Some((window, behind)) = rest.split_first() {
+        put_window(alloc, pieces, origin, object, *window, zone, out, steps)?;
+        rest = behind;
+    }
+    Ok(())
+}
+
+/// Puts a stored period behind other times, unless it is free.
+fn put_period(stored: &(Option<Class>, Period), out: &mut List<BusyRow>) -> Result<(), NoMemory>
+    requires { IsNearStored stored.now }
+    ensures { OnOk result (times_of out.new ≡ times_of out.old ++ spec.times_of_stored stored.now) }
+{
+    match stored.0 {
+        Some(class) => {
+            let (start, end) = stored_period(&stored.1);
+            out.push(BusyRow {
+                class,
+                start: start as i64,
+                end: end as i64,
+            })
+        }
+        None => Ok(()),
+    }
+}
+
+/// The same of several.
+fn put_periods(stored: &[(Option<Class>, Period)], out: &mut List<BusyRow>) -> Result<(), NoMemory>
+    requires { All IsNearStored stored.now }
+    ensures { OnOk result (times_of out.new ≡ times_of out.old ++ flat_map spec.times_of_stored stored.now) }
+{
+    let mut rest = stored;
+    'periods: while let Some((period, behind)) = rest.split_first() {
+        put_period(period, out)?;
+        rest = behind;
+    }
+    Ok(())
+}
+
+/// The stored periods of a component: a VFREEBUSY alone has some.
+fn periods_of(component: &Component) -> &[(Option<Class>, Period)]
+    ensures { result.now ≡ spec.stored_periods component.now.kind component.now }
+{
+    match component.kind {
+        Kind::FreeBusy => component.stored_busy.as_slice(),
+        _ => &[],
+    }
+}
+
+/// Puts the stored periods of some components behind other times.
+fn put_stored(components: &[Component], out: &mut List<BusyRow>) -> Result<(), NoMemory>
+    requires { All (λ (c : Component). All IsNearStored c.stored_busy) components.now }
+    ensures { OnOk result (times_of out.new ≡ times_of out.old ++ stored_times components.now) }
+{
+    let mut rest = components;
+    'components: while let Some((component, behind)) = rest.split_first() {
+        put_periods(periods_of(component), out)?;
+        rest = behind;
+    }
+    Ok(())
+}
+
+/// Puts the times at which an object may make busy in a range behind others: those of its rows in the
+/// windows that the range may need, and those that it stores.
+pub(crate) fn put_object<P: Pieces, L: Ledger>(
+    alloc: Global,
+    pieces: &P,
+    origin: u64,
+    object: &Object,
+    range: Range,
+    zone: &ZoneTable,
+    out: &mut List<BusyRow>,
+    steps: &mut Steps<L>,
+) -> Result<(), NoMemory>
+    requires object { IsKept object.now }
+    requires right { AreRowsOf (P.held pieces.now) origin object.now }
+    requires zone { IsTable zone.now }
+    ensures steps { steps.new ≤ steps.old + windows_cost (P.held pieces.now) origin object.now (needed_windows object.now (FreeBusy range)) }
+    ensures times { OnOk result (times_of out.new ≡ times_of out.old ++ times_by_windows zone.now object.now (needed_windows object.now (FreeBusy range))) }
+{
+    let windows = windows_of(alloc, object, range)?;
+    put_windows(
+        alloc,
+        pieces,
+        origin,
+        object,
+        windows.as_slice(),
+        zone,
+        out,
+        steps,
+    )?;
+    put_stored(object.components.as_slice(), out)
+}
+
+/// The windows of an object that a range may need.
+fn windows_of(alloc: Global, object: &Object, range: Range) -> Result<List<i32>, NoMemory>
+    requires { IsKept object.now }
+    ensures { IfOk result (λ windows. windows ≡ needed_windows object.now (FreeBusy range)) }
+{
+    let zones = local_times(alloc, object.zones.as_slice())?;
+    windows_needed(alloc, zones.as_slice(), object, &[range])
+}

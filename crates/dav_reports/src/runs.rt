@@ -1,0 +1,102 @@
+//! When a calendar is busy (RFC 4791, 7.10).
+ghost use Rattle.std.specs.Prelude.{◌≡◌, ◌+◌, ◌≤◌, IfOk, Some, map, unwrap_or};
+ghost use Rattle.cal_model.specs.declared.report.ReportRequest.TheVariants.{FreeBusy};
+ghost use Rattle.cal_model.specs.Busy.BusyRuns as spec;
+ghost use Rattle.cal_model.specs.Instances.Alignment.{utc_zone};
+ghost use Rattle.cal_model.specs.Reports.FloatingZone.{floating_zone};
+ghost use Rattle.cal_model.specs.State.ServerState.{Calendar, calendar_at, objects_of, own_zone};
+ghost use Rattle.cal_model.specs.State.SoundStates.{IsSound};
+ghost use Rattle.cal_model.specs.TimeZones.TableBounds.{IsTable};
+ghost use Rattle.freebusy.specs.Times.{time_of_run, times_of};
+ghost use Rattle.dav_reports.specs.CalendarObjects.{AreHeldRight, entries_cost, objects_at, times_of_entries};
+
+use crate::busy::put_object;
+use cal_base::{List, NoMemory, Octets, Steps};
+use cal_model::view::{Pieces, View};
+use cal_model::{CalendarData, Range, Seen, ZoneTable};
+use freebusy::{BusyRow, Run, busy_runs};
+use std::alloc::Global;
+use std::sync::ledger::Ledger;
+
+/// The times at which the objects of a calendar may make busy in a range. Floating times are read in
+/// the zone.
+fn times_in_calendar<V: View, P: Pieces, L: Ledger>(
+    alloc: Global,
+    view: &V,
+    home: u32,
+    name: &[u8],
+    pieces: &P,
+    range: Range,
+    zone: &ZoneTable,
+    steps: &mut Steps<L>,
+) -> Result<List<BusyRow>, NoMemory>
+    requires sound { IsSound (V.directory view.now) (V.state view.now) }
+    requires right { AreHeldRight (P.held pieces.now) (V.origins view.now) (V.state view.now) home name.now }
+    requires zone { IsTable zone.now }
+    ensures steps { steps.new ≤ steps.old + entries_cost (P.held pieces.now) (FreeBusy range) (V.origins view.now home name.now) (objects_at (V.state view.now) home name.now) }
+    ensures times { IfOk result (λ times. times_of times ≡ times_of_entries zone.now range (objects_at (V.state view.now) home name.now)) }
+{
+    let mut times = List::new(alloc);
+    let mut last: &[u8] = &[];
+    'objects: while let Some((stored, origin)) = view.object_after(home, name, last) {
+        put_object(
+            alloc,
+            pieces,
+            origin,
+            &stored.object,
+            range,
+            zone,
+            &mut times,
+            steps,
+        )?;
+        last = stored.path.object.as_slice();
+    }
+    Ok(times)
+}
+
+/// The clock of UTC.
+fn utc(alloc: Global) -> ZoneTable
+    ensures value { result ≡ utc_zone }
+    ensures table { IsTable result }
+{
+    ZoneTable {
+        name: Octets::new(alloc),
+        before: 0,
+        onsets: List::new(alloc),
+    }
+}
+
+/// The zone of a calendar, or another where it has none.
+fn zone_or<'a>(kept: &'a CalendarData, other: &'a ZoneTable) -> &'a ZoneTable
+    ensures { result.now ≡ unwrap_or kept.now.zone other.now }
+{
+    match &kept.zone {
+        Some(zone) => zone,
+        None => other,
+    }
+}
+
+/// The longest runs of one class of a calendar in a range, in order (RFC 4791, 7.10). Floating times are
+/// read in the calendar's own zone, or in UTC where it has none. Rows come from pieces wherever there is
+/// one. Whether the user may see them is not looked at here.
+pub fn calendar_runs<V: View, P: Pieces, L: Ledger>(
+    alloc: Global,
+    seen: &Seen<'_, V>,
+    calendar: (u32, &[u8]),
+    pieces: &P,
+    range: Range,
+    steps: &mut Steps<L>,
+) -> Result<List<Run>, NoMemory>
+    requires right { AreHeldRight (P.held pieces.now) (V.origins seen.now.view.now) (V.state seen.now.view.now) calendar.0 calendar.1.now }
+    ensures steps { steps.new ≤ steps.old + entries_cost (P.held pieces.now) (FreeBusy range) (V.origins seen.now.view.now calendar.entry.0 calendar.entry.1.now) (objects_at (V.state seen.now.view.now) calendar.entry.0 calendar.entry.1.now) }
+    ensures runs { IfOk result (λ found. (c : Calendar) → calendar_at (V.state seen.now.view.now) calendar.entry.0 calendar.entry.1.now ≡ Some c → map time_of_run found ≡ spec.calendar_runs (floating_zone None (own_zone c.texts)) (objects_of c.objects) range) }
+{
+    let (home, name) = calendar;
+    let Some(data) = seen.view.calendar(home, name) else {
+        return Ok(List::new(alloc));
+    };
+    let own = utc(alloc);
+    let zone = zone_or(data, &own);
+    let times = times_in_calendar(alloc, seen.view, home, name, pieces, range, zone, steps)?;
+    busy_runs(alloc, &times, range)
+}

@@ -1,0 +1,4 @@
+pub mod PropertyTags
+pub mod ReplyPieces
+pub mod Answered
+pub mod NameKeys
