@@ -2,9 +2,9 @@
 """Times the programs over generated input, and prints the figures. It needs Python 3, and Debian's package `time` for the memory.
 
 Build the programs once before: `rt run` in crates/caldav_server and in each crate whose name ends in _bench.
-Words name the parts that are to run (scripts, lines, values, rules, filters, bodies, requests, wire, busy, index, turns); without a word all do.
+Words name the parts that are to run (scripts, lines, values, objects, rules, rows, filters, bodies, requests, wire, busy, index, turns); without a word all do.
 """
-import os, re, resource, subprocess, sys, tempfile, time
+import datetime, os, re, resource, subprocess, sys, tempfile, time
 
 TOP = os.path.dirname(os.path.dirname(os.path.abspath(__file__)))
 SERVER = os.path.join(TOP, "crates/caldav_server/out/caldav_server")
@@ -16,6 +16,8 @@ BODIES = os.path.join(TOP, "crates/xml_bench/out/xml_bench")
 REQUESTS = os.path.join(TOP, "crates/elements_bench/out/elements_bench")
 VALUES = os.path.join(TOP, "crates/values_bench/out/values_bench")
 RULES = os.path.join(TOP, "crates/rules_bench/out/rules_bench")
+OBJECTS = os.path.join(TOP, "crates/objects_bench/out/objects_bench")
+ROWS = os.path.join(TOP, "crates/rows_bench/out/rows_bench")
 FILTERS = os.path.join(TOP, "crates/filter_bench/out/filter_bench")
 WIRE = os.path.join(TOP, "crates/wire_bench/out/wire_bench")
 USERS = b"user alice ba7816bf8f01cfea414140de5dae2223b00361a396177a9cb410ff61f20015ad\n"
@@ -237,6 +239,140 @@ def rules():
         print(f"{f'{label}, {unit}':34} {plain:8d} {step:8d} {plain / step:14.1f}")
 
 
+NEW_YORK = [
+    b"BEGIN:VTIMEZONE", b"TZID:NY",
+    b"BEGIN:DAYLIGHT", b"DTSTART:16010101T020000", b"RRULE:FREQ=YEARLY;BYDAY=2SU;BYMONTH=3", b"TZOFFSETFROM:-0500", b"TZOFFSETTO:-0400", b"END:DAYLIGHT",
+    b"BEGIN:STANDARD", b"DTSTART:16010101T020000", b"RRULE:FREQ=YEARLY;BYDAY=1SU;BYMONTH=11", b"TZOFFSETFROM:-0400", b"TZOFFSETTO:-0500", b"END:STANDARD",
+    b"END:VTIMEZONE",
+]
+
+
+def calendar(zone, *events):
+    """A calendar object with a zone or none, and some events, each by its lines."""
+    parts = [b"BEGIN:VCALENDAR", *zone]
+    for event in events:
+        parts += [b"BEGIN:VEVENT", b"UID:a", *event, b"END:VEVENT"]
+    return b"\r\n".join([*parts, b"END:VCALENDAR", b""])
+
+
+def filled(size, before, after, piece):
+    """A text of at most so many octets: what stands before, as many pieces as fit, each by its number, and what stands after."""
+    parts, room, number = [before], size - len(before) - len(after), 0
+    while True:
+        more = piece(number)
+        if len(more) > room:
+            return b"".join([*parts, after])
+        parts.append(more)
+        room -= len(more)
+        number += 1
+
+
+def content(*lines):
+    return b"".join(line + b"\r\n" for line in lines)
+
+
+def object_kinds(size):
+    """Calendar objects of at most so many octets, by name: the ordinary kind first, then those that are hard to read."""
+    begin = content(b"BEGIN:VCALENDAR", b"VERSION:2.0")
+    event = content(b"BEGIN:VEVENT", b"UID:a", b"DTSTART:19900101T090000Z")
+    end = content(b"END:VEVENT", b"END:VCALENDAR")
+    only_end = content(b"END:VCALENDAR")
+    days = stamps((1990, 1, 1, 9), 86400, 20000)
+    master = event + content(b"RRULE:FREQ=DAILY", b"END:VEVENT")
+
+    def moved(number):
+        return content(
+            b"BEGIN:VEVENT", b"UID:a", b"DTSTAMP:20250101T000000Z", b"RECURRENCE-ID:" + days[number], b"DTSTART:" + days[number][:8] + b"T100000Z", b"DURATION:PT1H",
+            b"SUMMARY:Stand-up, moved", b"LOCATION:Room %d" % number, b"STATUS:CONFIRMED", b"TRANSP:OPAQUE", b"SEQUENCE:1", b"ORGANIZER:mailto:alice@example.org",
+            b"ATTENDEE;PARTSTAT=ACCEPTED;CN=Bob:mailto:bob@example.org", b"END:VEVENT",
+        )
+
+    def zone(number):
+        return content(b"BEGIN:VTIMEZONE", b"TZID:%d" % number, b"BEGIN:STANDARD", b"DTSTART:19700101T000000", b"TZOFFSETFROM:+0000", b"TZOFFSETTO:+0000", b"END:STANDARD", b"END:VTIMEZONE")
+
+    return {
+        "overrides with some ten lines each": filled(size, begin + master, only_end, moved),
+        "overrides of three lines": filled(size, begin + master, only_end, lambda n: content(b"BEGIN:VEVENT", b"UID:a", b"RECURRENCE-ID:" + days[n], b"END:VEVENT")),
+        "components without lines": filled(size, begin + event, end, lambda n: content(b"BEGIN:A", b"END:A")),
+        "alarms": filled(size, begin + event, end, lambda n: content(b"BEGIN:VALARM", b"ACTION:AUDIO", b"TRIGGER:-PT%dM" % n, b"END:VALARM")),
+        "zones without use": filled(size, begin, event + end, zone),
+        "onsets of one zone, as RDATEs": filled(
+            size, begin + content(b"BEGIN:VTIMEZONE", b"TZID:0", b"BEGIN:STANDARD", b"DTSTART:19700101T000000", b"TZOFFSETFROM:+0000", b"TZOFFSETTO:+0100") + b"RDATE:19710101T000000",
+            b"\r\n" + content(b"END:STANDARD", b"END:VTIMEZONE") + event + end, lambda n: b"," + days[n][:15],
+        ),
+        "lines without a value": filled(size, begin + event, end, lambda n: b"A:\r\n"),
+        "one line of parameters": filled(size, begin + event + b"A", b":\r\n" + end, lambda n: b";A=b"),
+        "one parameter of many values": filled(size, begin + event + b"A;A=b", b":\r\n" + end, lambda n: b",b"),
+        "one line folded at each octet": filled(size, begin + event + b"A:", b"\r\n" + end, lambda n: b"\r\n b"),
+        "one RDATE of many dates": filled(size, begin + event + b"RDATE:" + days[1], b"\r\n" + end, lambda n: b"," + days[n + 2]),
+        "one EXDATE of one date again": filled(size, begin + event + b"EXDATE:" + days[1], b"\r\n" + end, lambda n: b"," + days[1]),
+        "RDATEs of periods": filled(size, begin + event, end, lambda n: content(b"RDATE;VALUE=PERIOD:" + days[n] + b"/PT1H")),
+        "categories": filled(size, begin + event + b"CATEGORIES:a", b"\r\n" + end, lambda n: b",a"),
+    }
+
+
+def objects():
+    print(f"{'object':36} {'octets':>8} {'ns an octet':>12} {'of it kept':>11}")
+    sizes = [object_kinds(size) for size in (65536, 131072, 262144)]
+    for name in sizes[0]:
+        for text in (kinds[name] for kinds in sizes):
+            one, many = run(OBJECTS, ["1"], text)[1], run(OBJECTS, ["9"], text)[1]
+            found = [re.findall(rb"\d+", run(OBJECTS, ["7"], text)[2]) for _ in range(3)]
+            if any(len(it) != 2 for it in found):
+                sys.exit(f"{name}: {run(OBJECTS, ['1'], text)[2]!r}")
+            nanos = min(int(nanos) for _, nanos in found)
+            print(f"{name:36} {len(text):8d} {nanos / len(text):12.1f} {(many - one) / 8 * 1048576 / len(text):11.1f}")
+    for name, zone in (("an event of 700 octets", []), ("the same with its zone", NEW_YORK)):
+        start = b"DTSTART;TZID=NY:20260105T090000" if zone else b"DTSTART:20260105T090000Z"
+        text = calendar(zone, [b"DTSTAMP:20250101T000000Z", start, b"DURATION:PT30M", b"RRULE:FREQ=WEEKLY", b"SUMMARY:Stand-up", b"DESCRIPTION:" + b"x" * 440, b"LOCATION:Room 1", b"STATUS:CONFIRMED"])
+        one, many = run(OBJECTS, ["1"], text)[1], run(OBJECTS, ["4001"], text)[1]
+        print(f"{name:36} {len(text):8d} octets: {(many - one) * 1048576 / 4000:.0f} octets kept for an object")
+
+
+def stamps(first, step, count):
+    """So many moments of UTC, one a step after the other."""
+    moment = datetime.datetime(*first)
+    return [(moment + datetime.timedelta(seconds=step * n)).strftime("%Y%m%dT%H%M%SZ").encode() for n in range(count)]
+
+
+def recurring(start, zone=b"", rule=b"", count=0):
+    """An event that recurs from the start on."""
+    begin = (b"DTSTART;TZID=NY:%sT090000" if zone else b"DTSTART:%sT090000Z") % start
+    return [begin, b"DURATION:PT30M", b"RRULE:FREQ=" + rule + (b";COUNT=%d" % count if count else b"")]
+
+
+def row_objects():
+    """The objects whose rows are found, by name."""
+    objects = {}
+    for rule, count in ((b"DAILY", 40000), (b"WEEKLY", 5000), (b"MONTHLY", 1000), (b"YEARLY", 100)):
+        name = rule.decode()
+        objects[f"{name} since 1970"] = calendar([], recurring(b"19700105", rule=rule))
+        objects[f"{name} since 1970, with COUNT"] = calendar([], recurring(b"19700105", rule=rule, count=count))
+    objects["DAILY since 2005"] = calendar([], recurring(b"20050103", rule=b"DAILY"))
+    objects["DAILY since 1970 in New York"] = calendar(NEW_YORK, recurring(b"19700105", b"NY", b"DAILY"))
+    objects["HOURLY since 1970"] = calendar([], recurring(b"19700105", rule=b"HOURLY"))
+    objects["last weekday of a month since 1970"] = calendar([], recurring(b"19700130", rule=b"MONTHLY;BYDAY=MO,TU,WE,TH,FR;BYSETPOS=-1"))
+    for number in (1250, 2500, 5000):
+        master = recurring(b"20000101", rule=b"DAILY")
+        moved = [[b"RECURRENCE-ID:" + at, b"DTSTART:" + at[:8] + b"T100000Z"] for at in stamps((2014, 1, 1, 9), 86400, number)]
+        objects[f"{number} overrides"] = calendar([], master, *moved)
+    for number in (2500, 5000, 10000):
+        dates = stamps((2025, 12, 1), 3600, number)
+        without = stamps((2025, 12, 1), 7200, number)
+        event = [b"DTSTART:20251130T000000Z", b"RDATE:" + b",".join(reversed(dates)), b"EXDATE:" + b",".join(without)]
+        objects[f"{number} RDATEs and EXDATEs"] = calendar([], event)
+    return objects
+
+
+def rows():
+    print(f"{'rows of the window from 27 January 2026':42} {'octets':>8} {'rows':>6} {'us':>9} {'us a row':>9}")
+    for name, text in row_objects().items():
+        found = [re.findall(rb"\d+", run(ROWS, ["320", "20"], text)[2]) for _ in range(3)]
+        number = int(found[0][0])
+        micros = min(int(nanos) for _, nanos in found) / 1000
+        print(f"{name:42} {len(text):8d} {number:6d} {micros:9.1f} {micros / max(number, 1):9.3f}")
+
+
 def filters():
     print(f"{'filter':34} {'objects':>8} {'ns each':>8}  answer")
     for count in (2500, 5000, 10000):
@@ -281,7 +417,7 @@ def wire():
 
 
 PARTS = {
-    "scripts": (scripts, SERVER), "lines": (lines, LINES), "values": (values, VALUES), "rules": (rules, RULES), "filters": (filters, FILTERS),
+    "scripts": (scripts, SERVER), "lines": (lines, LINES), "values": (values, VALUES), "objects": (objects, OBJECTS), "rules": (rules, RULES), "rows": (rows, ROWS), "filters": (filters, FILTERS),
     "bodies": (bodies, BODIES), "requests": (requests, REQUESTS), "wire": (wire, WIRE), "busy": (busy, BUSY), "index": (index, INDEX), "turns": (turns, TURNS),
 }
 chosen = sys.argv[1:] or list(PARTS)
