@@ -1,0 +1,3 @@
+pub mod SightingLemmas
+pub mod HomeLemmas
+pub mod LeastScenes
