@@ -77,9 +77,9 @@ home_known look directory state owner who sound known =
     let there = home_there directory state owner sound known in
     let calendars = there.0.calendars in
     let all : calendars_above state owner [] ≡ calendars =
-        calendars_above-first directory state owner sound
-        ∙ ap (λ o. flat_map (λ (home : UserHome). home.calendars) (option_to_list o)) there.1
-        ∙ append-nil calendars in
+    calendars_above-first directory state owner sound
+    ∙ ap (λ o. flat_map (λ (home : UserHome). home.calendars) (option_to_list o)) there.1
+    ∙ append-nil calendars in
     ap (λ o. is_some (option_and_then (λ (shown : Named Sight). cond ((owner == who) || not (is_empty shown)) (Some shown) None) o))
     (home_in-view (eyes_of look) directory state who owner ∙ ap (option_map (λ (h : UserHome). home_by (eyes_of look) directory who (owner, h))) there.1)
     ∙ tested ((owner == who) || not (is_empty (home_by (eyes_of look) directory who (owner, there.0)))) (home_by (eyes_of look) directory who (owner, there.0))
@@ -87,6 +87,17 @@ home_known look directory state owner who sound known =
       tested : (test : Bool) (shown : Named Sight) → is_some (cond test (Some shown) None) ≡ test
       tested true shown = refl
       tested false shown = refl
+
+-- and so once the walk has ended
+pub home_where : (look : Look) (directory : Directory) (state : ServerState) (owner who : ℕ) (found : Bool) → IsSound directory state → owner < length directory.names
+    → found ≡ any_held owner who (calendars_above state owner []) → (found || (owner == who)) ≡ home_shows look directory state who (Some owner)
+home_where look directory state owner who found sound known any =
+    turned found (owner == who) ∙ ap (λ b. (owner == who) || b) any ∙ sym (home_known look directory state owner who sound known) where
+      turned : (a b : Bool) → (a || b) ≡ (b || a)
+      turned true true = refl
+      turned true false = refl
+      turned false true = refl
+      turned false false = refl
 
 -- where a calendar is seen its home is
 pub home_of_calendar : (look : Look) (directory : Directory) (state : ServerState) (who : ℕ) (user : Option ℕ) (name : Option (List ℕ))

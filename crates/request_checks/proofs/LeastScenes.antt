@@ -7,7 +7,9 @@ use Rattle.std.proofs.lemmas.Bool.{false≢true}
 use Rattle.cal_model.specs.declared.path.Path.{Path}
 use Rattle.cal_model.specs.declared.path.Path.TheVariants.{Root, Principal, Home, Calendar, Object}
 use Rattle.cal_model.specs.declared.reply.Reply.{Reply}
+use Rattle.cal_model.specs.declared.reply.Refusal.{Refusal}
 use Rattle.cal_model.specs.declared.request.Content.{Content}
+use Rattle.cal_model.specs.declared.request.Content.TheVariants.{Bad}
 use Rattle.cal_model.specs.declared.request.Method.{Method}
 use Rattle.cal_model.specs.declared.request.Method.TheVariants.{Options, Get, Head, Put, Delete, Propfind, Proppatch, Report, Mkcalendar, Acl}
 use Rattle.cal_model.specs.declared.request.Request.{Request}
@@ -16,8 +18,7 @@ use Rattle.cal_model.specs.Access.Privileges.{has_all, read, write_content, bind
 use Rattle.cal_model.specs.Objects.ObjectReading.{first_there}
 use Rattle.cal_model.specs.Replies.BareReplies.{bare_reply}
 use Rattle.cal_model.specs.Refusals.RefusalReplies.{when, refusal_reply, need_privileges}
-use Rattle.cal_model.specs.Refusals.SharedRefusals
-    .{Need, nothing, held, owned, makes_or_asks, is_missing, is_calendar_missing, need, need_of_report, unmet, needs_object, is_object_missing, fault_of, is_options, is_get, not_modified, if_match_fails, if_none_match_fails, shared_rows}
+use Rattle.cal_model.specs.Refusals.SharedRefusals.{Need, nothing, held, owned, makes_or_asks, is_missing, is_calendar_missing, need, need_of_report, unmet, needs_object, is_object_missing, fault_of, is_options, is_get, not_modified, if_match_fails, if_none_match_fails, shared_rows}
 use Rattle.cal_model.specs.Serving.Outcomes.{accepted_status}
 use Rattle.cal_model.specs.Serving.ReadingReplies.{get_reply}
 use Rattle.cal_model.specs.Sight.Scenes.{Scene as Sighted, held_in, object_in}
@@ -95,17 +96,17 @@ pub rows-least : (shown : Scene) (scene : Sighted) (request : Request) → IsSce
 unfolding shared_rows
 rows-least shown scene request is =
     let missing : is_missing request.method (least_of shown) shown.path.now ≡ is_missing request.method scene scene.path =
-        ap (is_missing request.method (least_of shown)) is.path ∙ missing-least request.method scene.path shown scene is.user is.home is.calendar in
+    ap (is_missing request.method (least_of shown)) is.path ∙ missing-least request.method scene.path shown scene is.user is.home is.calendar in
     let lacked : unmet (least_of shown) (need (least_of shown) request.method request.content) ≡ unmet scene (need scene request.method request.content) =
-        ap (unmet (least_of shown)) (need-least request.method request.content shown scene is) ∙ unmet-least (need scene request.method request.content) shown scene is in
+    ap (unmet (least_of shown)) (need-least request.method request.content shown scene is) ∙ unmet-least (need scene request.method request.content) shown scene is in
     λ i. when (missing i) (bare_reply 404)
-        ∷ lacked i
-        ∷ when (needs_object request.method && is_some (object_in (is.path i)) && is_none (is.object i)) (bare_reply 404)
-        ∷ fault_of request.content
-        ∷ when ((is_some (object_in (is.path i)) && not (is_options request.method)) && if_match_fails request.if_match (is.object i)) (bare_reply 412)
-        ∷ when ((is_some (object_in (is.path i)) && not (is_options request.method)) && if_none_match_fails request.if_none (is.object i))
-        (cond (is_get request.method) (not_modified (is.object i)) (bare_reply 412))
-        ∷ []
+    ∷ lacked i
+    ∷ when (needs_object request.method && is_some (object_in (is.path i)) && is_none (is.object i)) (bare_reply 404)
+    ∷ fault_of request.content
+    ∷ when ((is_some (object_in (is.path i)) && not (is_options request.method)) && if_match_fails request.if_match (is.object i)) (bare_reply 412)
+    ∷ when ((is_some (object_in (is.path i)) && not (is_options request.method)) && if_none_match_fails request.if_none (is.object i))
+    (cond (is_get request.method) (not_modified (is.object i)) (bare_reply 412))
+    ∷ []
 
 -- The first row
 
@@ -135,6 +136,48 @@ unmet-set scene (owned set) = by (owns scene.user scene.who) where
   by true = refl
   by false = refl
 
+-- a content without a fault
+no_fault : (content : Content) → ((refusal : Refusal) → content ≡ Bad refusal → ⊥) → None ≡ fault_of content
+no_fault (Bad refusal) none = absurd (none refusal refl)
+no_fault other none = refl
+
+module _ (scene : Sighted) (request : Request) where
+  abbrev wanted : Need
+  wanted = need scene request.method request.content
+
+  abbrev answered : Bool → Option Reply → Bool → Option Reply → Option Reply
+  answered missing lacked absent fault = firsts missing lacked absent fault (condition_rows scene request)
+
+  nothing_lacked : None ≡ unmet_set scene wanted → None ≡ unmet scene wanted
+  nothing_lacked e = ap (option_map (lack_reply scene.path)) e ∙ unmet-set scene wanted
+
+  pub first-missing : true ≡ is_missing request.method scene scene.path → Some (bare_reply 404) ≡ first_there (shared_rows scene request)
+  first-missing missing =
+      ap (λ b. answered b (unmet scene wanted) (is_object_missing request.method scene) (fault_of request.content)) missing ∙ sym (first-rows scene request)
+
+  pub first-lacked : (set : ℕ) → false ≡ is_missing request.method scene scene.path → Some set ≡ unmet_set scene wanted → Some (lack_reply scene.path set) ≡ first_there (shared_rows scene request)
+  first-lacked set missing lacked =
+      let reply = ap (option_map (lack_reply scene.path)) lacked ∙ unmet-set scene wanted in
+      (λ i. answered (missing i) (reply i) (is_object_missing request.method scene) (fault_of request.content)) ∙ sym (first-rows scene request)
+
+  pub first-absent : false ≡ is_missing request.method scene scene.path → None ≡ unmet_set scene wanted → true ≡ is_object_missing request.method scene
+      → Some (bare_reply 404) ≡ first_there (shared_rows scene request)
+  first-absent missing lacked absent =
+      let none = nothing_lacked lacked in
+      (λ i. answered (missing i) (none i) (absent i) (fault_of request.content)) ∙ sym (first-rows scene request)
+
+  pub first-bad : (refusal : Refusal) → false ≡ is_missing request.method scene scene.path → None ≡ unmet_set scene wanted → false ≡ is_object_missing request.method scene
+      → request.content ≡ Bad refusal → Some (refusal_reply refusal) ≡ first_there (shared_rows scene request)
+  first-bad refusal missing lacked absent bad =
+      let none = nothing_lacked lacked in
+      (λ i. answered (missing i) (none i) (absent i) (fault_of (sym bad i))) ∙ sym (first-rows scene request)
+
+  pub first-condition : false ≡ is_missing request.method scene scene.path → None ≡ unmet_set scene wanted → false ≡ is_object_missing request.method scene
+      → ((refusal : Refusal) → request.content ≡ Bad refusal → ⊥) → first_there (condition_rows scene request) ≡ first_there (shared_rows scene request)
+  first-condition missing lacked absent good =
+      let none = nothing_lacked lacked in
+      let fault = no_fault request.content good in
+      (λ i. answered (missing i) (none i) (absent i) (fault i)) ∙ sym (first-rows scene request)
 
 -- Replies that go by the object alone
 

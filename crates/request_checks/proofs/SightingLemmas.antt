@@ -1,6 +1,7 @@
 -- What a store's look-ups give of a calendar and of an object is what is seen of them at a path.
-use Rattle.std.proofs.Common.{◌≡◌, ℕ, Bool, true, false, not, ◌||◌, cond, ◌==◌, List, [], Option, Some, None, refl, sym, ap, ◌∙◌, arith}
+use Rattle.std.proofs.Common.{◌≡◌, ℕ, Bool, true, false, not, ◌||◌, cond, ◌==◌, List, [], Option, Some, None, refl, sym, ap, subst, ◌∙◌, arith}
 use Rattle.std.specs.Prelude.{option_map, option_and_then, is_some}
+use Rattle.std.specs.Borrow.{Bor}
 use Rattle.std.proofs.lemmas.Bool.{false≢true}
 use Rattle.std.proofs.lemmas.Bool.Decides.{nat_tests}
 use Rattle.std.proofs.lemmas.Map.Entries.{option_filter}
@@ -19,7 +20,7 @@ use Rattle.cal_model.proofs.Sight.SceneLaws.{holds_some, home_in-view, calendar_
 use Rattle.cal_model.proofs.State.NameWalkLaws.{home-sound}
 use Rattle.request_checks.specs.declared.looks.Look.{Look}
 use Rattle.request_checks.specs.declared.looks.Look.TheVariants.{Own, Whole}
-use Rattle.request_checks.specs.Sightings.{eyes_of, calendar_seen, held_on_sight, held_or_nothing, shows_objects}
+use Rattle.request_checks.specs.Sightings.{eyes_of, calendar_seen, held_of, held_on_sight, held_or_nothing, shows_objects, IsSoundAt}
 
 -- whatever is looked at, what is held is the same
 held-eyes : (look : Look) (directory : Directory) (owner who : ℕ) (c : Calendar) → (eyes_of look directory owner who c).held ≡ held_on directory owner who c
@@ -108,7 +109,7 @@ module _ (look : Look) (directory : Directory) (state : ServerState) (who : ℕ)
       let same : held ≡ held_on directory owner who found.0 = is ∙ ap (λ (k : CalendarData). privileges_held [] k.acl.grants owner who) found.2 in
       let test : holds_some directory owner who found.0 ≡ true = ap (λ h. not (h == 0)) (sym same) ∙ not_zero held some in
       let seen : looked owner name ≡ Some (eyes_of look directory owner who found.0) =
-          sight_there owner name found.0 sound found.1 ∙ ap (λ b. cond b (Some (eyes_of look directory owner who found.0)) None) test in
+      sight_there owner name found.0 sound found.1 ∙ ap (λ b. cond b (Some (eyes_of look directory owner who found.0)) None) test in
       ap Some (same ∙ sym (held-eyes look directory owner who found.0)) ∙ sym (ap held_on_sight seen)
 
   -- Objects
@@ -126,9 +127,9 @@ module _ (look : Look) (directory : Directory) (state : ServerState) (who : ℕ)
   object_of_sight Whole owner c name true e = sym (ap (λ b. cond b (value_at c.objects name) None) e)
   object_of_sight Whole owner c name false e = refl
 
-  same_none : {X : Type 0} (b : Bool) (none : Option X) → none ≡ None → cond b none None ≡ None
-  same_none true none e = e
-  same_none false none e = refl
+  same_none : {X : Type 0} (b : Bool) (o : Option X) → o ≡ None → cond b o None ≡ None
+  same_none true o e = e
+  same_none false o e = refl
 
   octets_there : (owner : ℕ) (within name : List ℕ) (found : Option Calendar) → calendar_at state owner within ≡ found
       → octets_at state owner within name ≡ option_and_then (λ (calendar : Calendar). value_at calendar.objects name) found
@@ -158,3 +159,16 @@ no_object_named look directory state who user path e = ap (at_both (octets_seen 
 pub no_object_without_user : (look : Look) (directory : Directory) (state : ServerState) (who : ℕ) (path : Path)
     → at_both (octets_seen (calendar_seen look directory state who None (calendar_in path))) (object_in path) ≡ None
 no_object_without_user look directory state who path = refl
+
+-- the object at a path, where it is known what its calendar is
+pub object_answer : (look : Look) (directory : Directory) (state : ServerState) (who : ℕ) (user : Option ℕ) (path : Path) (kept : Option (ℕ × Bor CalendarData)) (owner : ℕ) (name within object : List ℕ)
+    (held : ℕ) (shown : Bool) → user ≡ Some owner → path ≡ ObjectPath name within object → IsSoundAt user (calendar_in path) directory state
+    → held_of kept ≡ held_on_sight (calendar_seen look directory state who user (calendar_in path)) → held ≡ held_or_nothing (held_of kept) → shown ≡ shows_objects look held
+    → cond shown (octets_at state owner within object) None ≡ at_both (octets_seen (calendar_seen look directory state who user (calendar_in path))) (object_in path)
+object_answer look directory state who user path kept owner name within object held shown known is sound seen told shows =
+    let named : (user, path) ≡ (Some owner, ObjectPath name within object) = λ i. (known i, is i) in
+    let at_place = subst (λ (p : Option ℕ × Path). IsSoundAt p.0 (calendar_in p.1) directory state) named sound in
+    let on_it = told ∙ ap held_or_nothing (seen ∙ ap (λ (p : Option ℕ × Path). held_on_sight (calendar_seen look directory state who p.0 (calendar_in p.1))) named) in
+    ap (λ b. cond b (octets_at state owner within object) None) shows
+    ∙ sym (object_known look directory state who owner within object held at_place on_it)
+    ∙ sym (ap (λ (p : Option ℕ × Path). at_both (octets_seen (calendar_seen look directory state who p.0 (calendar_in p.1))) (object_in p.1)) named)

@@ -1,7 +1,9 @@
 -- What the refusals in memory say: their replies, and the needs of requests (RFC 9110, 13.1; RFC 3744, 7.1.1).
-use Rattle.std.specs.Prelude.{ℕ, Bool, true, false, ◌&&◌, if◌then◌else◌, List, [], ◌∷◌, Option, Some, None}
+use Rattle.std.specs.Prelude.{◌≡◌, ◌≤◌, ℕ, Bool, true, false, not, ◌&&◌, ◌||◌, bytes_eq, if◌then◌else◌, List, [], ◌∷◌, Option, Some, None}
+use Rattle.cal_base.specs.Lists.Reserved.{Reserved}
 use Rattle.cal_model.specs.declared.path.Path.{Path}
 use Rattle.cal_model.specs.declared.reply.Media.TheVariants.{Calendar as CalendarMedia}
+use Rattle.cal_model.specs.declared.reply.Etag.{Etag}
 use Rattle.cal_model.specs.declared.reply.Reply.{Reply}
 use Rattle.cal_model.specs.declared.request.Request.{Request}
 use Rattle.cal_model.specs.Access.Privileges.{has_all}
@@ -10,6 +12,7 @@ use Rattle.cal_model.specs.Replies.BareReplies.{bare_reply}
 use Rattle.cal_model.specs.Replies.ReplyForms.{tagged_reply}
 use Rattle.cal_model.specs.Refusals.RefusalReplies.{refusal_reply, need_privileges, when}
 use Rattle.cal_model.specs.Refusals.SharedRefusals as shared
+use Rattle.dav_write.specs.ShortPaths.{HasShortNames}
 use Rattle.request_checks.specs.declared.needs.Need.{Need}
 use Rattle.request_checks.specs.declared.needs.Need.TheVariants as needs
 use Rattle.request_checks.specs.declared.refusals.SharedRefusal.{SharedRefusal}
@@ -33,6 +36,21 @@ abbrev pub takes_memory : SharedRefusal → Bool
 takes_memory (Refused refusal) = true
 takes_memory other = false
 
+-- and one in room that was taken before
+abbrev pub takes_room : SharedRefusal → Bool
+takes_room (NeedPrivileges set) = true
+takes_room other = false
+
+pub record IsRoomFor (path : Path) (room : Reserved ℕ) : Type 0 where
+  pub names : HasShortNames path
+  pub empty : room.items ≡ []
+  pub enough : 4096 ≤ room.room
+
+-- there is room where it is needed
+abbrev pub FitsRoom : Path → SharedRefusal → Reserved ℕ → Type 0
+FitsRoom path (NeedPrivileges set) room = IsRoomFor path room
+FitsRoom path other room = Unit {0}
+
 -- the privileges that are needed and lacked
 abbrev pub unmet_set : Scene → shared.Need → Option ℕ
 unmet_set scene shared.nothing = None
@@ -50,3 +68,7 @@ condition_rows scene request =
 -- an object as it is answered
 abbrev pub object_shown : List ℕ → Reply
 object_shown octets = record (tagged_reply 200 octets) { media = CalendarMedia; body = octets }
+
+-- a tag of a request fits an entity tag
+abbrev pub fits_etag : Bool → Etag → Bool × List ℕ → Bool
+fits_etag weakly etag tag = (weakly || not tag.0) && bytes_eq tag.1 etag.0

@@ -1,5 +1,5 @@
 //! Conditional requests (RFC 9110, 13.1.1, 13.1.2 and 13.2.2).
-ghost use Rattle.std.specs.Prelude.{◌≡◌, ℕ, List, option_map, if◌then◌else◌};
+ghost use Rattle.std.specs.Prelude.{◌≡◌, option_map, if◌then◌else◌};
 ghost use Rattle.std.specs.List.{list_any};
 ghost use Rattle.cal_model.specs.Objects.ObjectReading.{first_there};
 ghost use Rattle.cal_model.specs.Refusals.SharedRefusals as spec;
@@ -7,7 +7,7 @@ ghost use Rattle.cal_model.specs.Replies.Etags.{etag_of};
 ghost use Rattle.cal_model.specs.Replies.BareReplies.{bare_reply};
 ghost use Rattle.request_checks.specs.Scenes.{least_of};
 ghost use Rattle.request_checks.specs.Sightings.{octets_lent};
-ghost use Rattle.request_checks.specs.SharedReplies.{condition_rows, shared_reply};
+ghost use Rattle.request_checks.specs.SharedReplies.{condition_rows, fits_etag, shared_reply};
 
 use crate::needs::is_of_object;
 use crate::refusals::SharedRefusal;
@@ -24,20 +24,15 @@ pub(crate) fn tag_of(stored: &Stored) -> Etag
 
 /// Whether a tag is this one; a weak tag counts only where weak tags do.
 fn tag_fits(weakly: bool, etag: &Etag, tag: &(bool, Octets)) -> bool
-    ensures { (octets : List ℕ) → etag.now ≡ etag_of octets → result ≡ spec.tag_fits weakly octets tag.now }
+    ensures { result ≡ fits_etag weakly etag.now tag.now }
 {
     (weakly || !tag.0) && tag.1.as_slice() == etag.0.as_slice()
 }
 
 fn any_fits(weakly: bool, etag: &Etag, tags: &[(bool, Octets)]) -> bool
-    ensures { (octets : List ℕ) → etag.now ≡ etag_of octets → result ≡ list_any (spec.tag_fits weakly octets) tags.now }
+    ensures { result ≡ list_any (fits_etag weakly etag.now) tags.now }
 {
-    for tag in tags {
-        if tag_fits(weakly, etag, tag) {
-            return true;
-        }
-    }
-    false
+    tags.iter().any(|tag| tag_fits(weakly, etag, tag))
 }
 
 fn tags_fit(weakly: bool, tags: &Tags, stored: &Stored) -> bool
@@ -96,7 +91,10 @@ fn is_conditional(scene: &Scene<'_>, method: Method) -> bool
 }
 
 /// The condition of a request that fails.
-pub(crate) fn failed_condition<'a>(scene: &Scene<'_>, request: &Request) -> Option<SharedRefusal<'a>>
+pub(crate) fn failed_condition<'a>(
+    scene: &Scene<'_>,
+    request: &Request,
+) -> Option<SharedRefusal<'a>>
     ensures { option_map (shared_reply scene.now.path.now) result ≡ first_there (condition_rows (least_of scene.now) request.now) }
 {
     if !is_conditional(scene, request.method) {

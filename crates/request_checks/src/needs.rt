@@ -11,11 +11,17 @@ use crate::sightings::held_on;
 use cal_model::{Content, Method, Path, ReportRequest};
 
 const READ_FREE_BUSY: u16 = 1;
+
 const READ: u16 = 2;
+
 const WRITE_CONTENT: u16 = 4;
+
 const WRITE_PROPERTIES: u16 = 8;
+
 const BIND: u16 = 16;
+
 const UNBIND: u16 = 32;
+
 const WRITE_ACL: u16 = 128;
 
 /// What a request needs.

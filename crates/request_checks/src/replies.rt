@@ -1,5 +1,5 @@
 //! Replies to what is refused, and to GET, HEAD and OPTIONS.
-ghost use Rattle.std.specs.Prelude.{◌≡◌, ◌≤◌, [], false, IfOk, IsOk, OnErr};
+ghost use Rattle.std.specs.Prelude.{◌≡◌, ◌≤◌, [], false, IfOk, IsOk};
 ghost use Rattle.cal_model.specs.Refusals.RefusalReplies as refused;
 ghost use Rattle.cal_model.specs.Replies.BareReplies as bare;
 ghost use Rattle.cal_model.specs.Replies.ReplyForms as forms;
@@ -7,7 +7,7 @@ ghost use Rattle.cal_model.specs.Serving.ReadingReplies as reading;
 ghost use Rattle.cal_model.specs.Sight.Scenes.{Scene as Sighted};
 ghost use Rattle.dav_write.specs.ShortPaths.{HasShortNames};
 ghost use Rattle.request_checks.specs.Scenes.{IsScene, least_of};
-ghost use Rattle.request_checks.specs.SharedReplies.{object_shown, shared_reply, takes_memory};
+ghost use Rattle.request_checks.specs.SharedReplies.{object_shown, shared_reply, takes_memory, takes_room, FitsRoom};
 
 use crate::conditions::tag_of;
 use crate::refusals::SharedRefusal;
@@ -103,20 +103,18 @@ fn not_modified(alloc: Global, etag: Option<Etag>) -> Reply
 }
 
 /// The reply to a request for a path that is refused. Only what was found wrong with a body or a field
-/// takes memory; the room is used up by the want of a privilege, and else kept.
+/// takes memory. The want of a privilege uses up the room, which is to be 4096 octets; all else keeps it,
+/// whatever it is.
 pub fn refuse(
     alloc: Global,
     path: &Path,
     refusal: &SharedRefusal<'_>,
     room: &mut ReservedList<u8>,
 ) -> Result<Reply, NoMemory>
-    requires names { HasShortNames path.now }
-    requires empty { room.old.items ≡ [] }
-    requires room { 4096 ≤ room.old.room }
+    requires { FitsRoom path.now refusal.now room.old }
     ensures reply { IfOk result (λ reply. reply ≡ shared_reply path.now refusal.now) }
     ensures succeeds { takes_memory refusal.now ≡ false → IsOk result }
-    ensures kept { OnErr result (room.new ≡ room.old) }
-    ensures empty { room.new.items ≡ [] }
+    ensures kept { takes_room refusal.now ≡ false → room.new ≡ room.old }
 {
     match refusal {
         SharedRefusal::NotFound => Ok(bare_reply(alloc, 404)),
