@@ -1,6 +1,6 @@
 -- A walk over the calendars of a home, and whether the home is visible.
-use Rattle.std.proofs.Common.{◌≡◌, ℕ, suc, ◌<◌, ◌≤◌, Bool, true, false, not, ◌||◌, cond, ◌==◌, List, [], ◌∷◌, ◌++◌, length, Option, Some, None, refl, sym, ap, ◌∙◌, subst, append-nil, arith, ◌⊎◌, inl, inr}
-use Rattle.std.specs.Prelude.{option_map, option_and_then, option_to_list, flat_map, is_some, slice_get, get_or, map, filter}
+use Rattle.std.proofs.Common.{◌≡◌, ℕ, suc, ◌<◌, ◌≤◌, Bool, true, false, not, ◌&&◌, ◌||◌, cond, ◌==◌, List, [], ◌∷◌, ◌++◌, length, Option, Some, None, refl, sym, ap, ◌∙◌, subst, append-nil, arith, ◌⊎◌, inl, inr}
+use Rattle.std.specs.Prelude.{option_map, option_and_then, option_to_list, flat_map, is_some, IsSome, slice_get, get_or, map, filter}
 use Rattle.std.specs.Borrow.{Bor}
 use Rattle.std.proofs.lemmas.Bool.{false≢true}
 use Rattle.std.proofs.lemmas.Bool.Decides.{nat_tests}
@@ -117,3 +117,9 @@ home_of_calendar look directory state who user name calendar e there =
       by : (home : Option (Named Sight)) → true ≡ is_some (at_both home name) → true ≡ is_some home
       by None e = e
       by (Some home) e = refl
+
+-- where a home is seen its user is known
+pub user_known : (look : Look) (directory : Directory) (state : ServerState) (who : ℕ) (named : Bool) (user : Option ℕ) → (named && home_shows look directory state who user) ≡ true → IsSome user
+user_known look directory state who named (Some owner) there = refl
+user_known look directory state who true None there = absurd (false≢true there)
+user_known look directory state who false None there = absurd (false≢true there)

@@ -1,9 +1,10 @@
 -- Refusals go by no more of a scene than what a scene in memory has of it.
 use Rattle.std.proofs.Common.{◌≡◌, ℕ, Bool, true, false, not, ◌&&◌, ◌||◌, cond, ◌==◌, List, [], ◌∷◌, Option, Some, None, refl, sym, ap, ◌∙◌}
-use Rattle.std.specs.Prelude.{is_some, is_none, option_map}
+use Rattle.std.specs.Prelude.{is_some, is_none, option_map, IsSome, IfSome}
 use Rattle.std.specs.Borrow.{Bor}
 use Rattle.std.specs.Option.{option_map_or}
 use Rattle.std.proofs.lemmas.Bool.{false≢true}
+use Rattle.cal_base.specs.Lists.NameMap.{Named}
 use Rattle.cal_model.specs.declared.path.Path.{Path}
 use Rattle.cal_model.specs.declared.path.Path.TheVariants.{Root, Principal, Home, Calendar, Object}
 use Rattle.cal_model.specs.declared.reply.Reply.{Reply}
@@ -23,10 +24,11 @@ use Rattle.cal_model.specs.Serving.Outcomes.{accepted_status}
 use Rattle.cal_model.specs.Serving.ReadingReplies.{get_reply}
 use Rattle.cal_model.specs.Sight.Scenes.{Scene as Sighted, held_in, object_in}
 use Rattle.cal_model.specs.Sight.Views.{Sight}
+use Rattle.request_checks.specs.declared.refusals.SharedRefusal.{SharedRefusal}
 use Rattle.request_checks.specs.declared.scenes.Scene.{Scene}
 use Rattle.request_checks.specs.Sightings.{names_home, held_of, held_on_sight}
-use Rattle.request_checks.specs.Scenes.{IsScene, sight_held, least_of}
-use Rattle.request_checks.specs.SharedReplies.{unmet_set, condition_rows}
+use Rattle.request_checks.specs.Scenes.{IsFoundAt, IsScene, sight_held, least_of}
+use Rattle.request_checks.specs.SharedReplies.{unmet_set, condition_rows, takes_room}
 
 -- 404
 
@@ -56,6 +58,28 @@ missing-least method (Calendar name within) shown scene user home calendar =
     λ i. calendar_gone method (no_home shown.home scene.home [] home i) (no_calendar shown.calendar scene.calendar calendar i)
 missing-least method (Object name within object) shown scene user home calendar =
     λ i. calendar_gone method (no_home shown.home scene.home [] home i) (no_calendar shown.calendar scene.calendar calendar i)
+
+abbrev nothing_seen : Named Sight
+nothing_seen = []
+
+home_there : (home other : Bool) → false ≡ (is_none (cond home (Some nothing_seen) None) || other) → home ≡ true
+home_there true other e = refl
+home_there false other e = absurd (false≢true e)
+
+home_alone : (home : Bool) → false ≡ is_none (cond home (Some nothing_seen) None) → home ≡ true
+home_alone true e = refl
+home_alone false e = absurd (false≢true e)
+
+-- what is not missing is there
+pub found : (method : Method) (shown : Scene) (path : Path) → false ≡ is_missing method (least_of shown) path → IsFoundAt shown path
+found method shown Root e = tt
+found method shown (Principal name) e = user shown.user e where
+  user : (o : Option ℕ) → false ≡ is_none o → IsSome o
+  user None e = absurd (false≢true e)
+  user (Some number) e = refl
+found method shown (Home name) e = home_alone shown.home e
+found method shown (Calendar name within) e = home_there shown.home _ e
+found method shown (Object name within object) e = home_there shown.home _ e
 
 -- Needs
 
@@ -178,6 +202,11 @@ module _ (scene : Sighted) (request : Request) where
       let none = nothing_lacked lacked in
       let fault = no_fault request.content good in
       (λ i. answered (missing i) (none i) (absent i) (fault i)) ∙ sym (first-rows scene request)
+
+-- no refusal takes room that takes none
+pub no_room : (P : Type 0) (refusal : Option SharedRefusal) → IfSome refusal (λ r. takes_room r ≡ false) → IfSome refusal (λ r. takes_room r ≡ true → P)
+no_room P None none = tt
+no_room P (Some r) none = λ takes. absurd (false≢true (sym none ∙ takes))
 
 -- Replies that go by the object alone
 

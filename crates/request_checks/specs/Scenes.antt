@@ -1,7 +1,11 @@
 -- What a scene in memory stands for: that of the definitions, part by part, as far as refusals go by it.
-use Rattle.std.specs.Prelude.{◌≡◌, ℕ, Bool, ◌&&◌, List, [], Option, Some, None, is_some, option_map, if◌then◌else◌}
+use Rattle.std.specs.Prelude.{◌≡◌, ℕ, Bool, true, ◌&&◌, List, [], Option, Some, None, is_some, IsSome, option_map, if◌then◌else◌}
 use Rattle.std.specs.Borrow.{Bor}
+use Rattle.cal_model.specs.declared.path.Path.{Path}
+use Rattle.cal_model.specs.declared.path.Path.TheVariants.{Root, Principal}
 use Rattle.cal_model.specs.declared.store.CalendarData.{CalendarData}
+use Rattle.cal_model.specs.declared.path.Path.{Path}
+use Rattle.cal_model.specs.declared.path.Path.TheVariants.{Root, Principal}
 use Rattle.cal_model.specs.declared.stored.Stored.{Stored}
 use Rattle.cal_model.specs.Sight.Scenes.{Scene as Sighted}
 use Rattle.cal_model.specs.Sight.Views.{Sight}
@@ -33,3 +37,9 @@ least_of shown = record {
   calendar = option_map (λ (p : ℕ × Bor CalendarData). sight_held p.0) shown.calendar;
   object = octets_lent shown.object;
 }
+
+-- what a path names is there, down to the home: so its user is known
+abbrev pub IsFoundAt : Scene → Path → Type 0
+IsFoundAt shown Root = Unit {0}
+IsFoundAt shown (Principal user) = IsSome shown.user
+IsFoundAt shown other = shown.home ≡ true

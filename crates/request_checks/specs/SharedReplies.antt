@@ -31,12 +31,7 @@ needed needs.Nothing = shared.nothing
 needed (needs.Held set) = shared.held set
 needed (needs.Owned set) = shared.owned set
 
--- all but one are answered without memory
-abbrev pub takes_memory : SharedRefusal → Bool
-takes_memory (Refused refusal) = true
-takes_memory other = false
-
--- and one in room that was taken before
+-- the body of one stands in room that was taken before
 abbrev pub takes_room : SharedRefusal → Bool
 takes_room (NeedPrivileges set) = true
 takes_room other = false
@@ -44,12 +39,16 @@ takes_room other = false
 pub record IsRoomFor (path : Path) (room : Reserved ℕ) : Type 0 where
   pub names : HasShortNames path
   pub empty : room.items ≡ []
-  pub enough : 4096 ≤ room.room
 
--- there is room where it is needed
 abbrev pub FitsRoom : Path → SharedRefusal → Reserved ℕ → Type 0
 FitsRoom path (NeedPrivileges set) room = IsRoomFor path room
 FitsRoom path other room = Unit {0}
+
+-- those that are answered without memory, where there is so much room
+abbrev pub NeedsNoMemory : SharedRefusal → ℕ → Type 0
+NeedsNoMemory (Refused refusal) room = ⊥
+NeedsNoMemory (NeedPrivileges set) room = 4096 ≤ room
+NeedsNoMemory other room = Unit {0}
 
 -- the privileges that are needed and lacked
 abbrev pub unmet_set : Scene → shared.Need → Option ℕ

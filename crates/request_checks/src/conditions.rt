@@ -1,5 +1,5 @@
 //! Conditional requests (RFC 9110, 13.1.1, 13.1.2 and 13.2.2).
-ghost use Rattle.std.specs.Prelude.{◌≡◌, option_map, if◌then◌else◌};
+ghost use Rattle.std.specs.Prelude.{◌≡◌, false, option_map, IfSome, if◌then◌else◌};
 ghost use Rattle.std.specs.List.{list_any};
 ghost use Rattle.cal_model.specs.Objects.ObjectReading.{first_there};
 ghost use Rattle.cal_model.specs.Refusals.SharedRefusals as spec;
@@ -7,7 +7,7 @@ ghost use Rattle.cal_model.specs.Replies.Etags.{etag_of};
 ghost use Rattle.cal_model.specs.Replies.BareReplies.{bare_reply};
 ghost use Rattle.request_checks.specs.Scenes.{least_of};
 ghost use Rattle.request_checks.specs.Sightings.{octets_lent};
-ghost use Rattle.request_checks.specs.SharedReplies.{condition_rows, fits_etag, shared_reply};
+ghost use Rattle.request_checks.specs.SharedReplies.{condition_rows, fits_etag, shared_reply, takes_room};
 
 use crate::needs::is_of_object;
 use crate::refusals::SharedRefusal;
@@ -73,7 +73,8 @@ fn if_none_match_fails(tags: &Option<Tags>, object: Option<(&Arc<Stored>, u64)>)
 
 /// What refuses a GET or a HEAD of what its caller has, and another method by If-None-Match.
 fn unchanged<'a>(scene: &Scene<'_>, method: Method) -> SharedRefusal<'a>
-    ensures { shared_reply scene.now.path.now result ≡ if spec.is_get method then spec.not_modified (octets_lent scene.now.object) else bare_reply 412 }
+    ensures roomless { takes_room result ≡ false }
+    ensures reply { shared_reply scene.now.path.now result ≡ if spec.is_get method then spec.not_modified (octets_lent scene.now.object) else bare_reply 412 }
 {
     if !matches!(method, Method::Get | Method::Head) {
         return SharedRefusal::PreconditionFailed;
@@ -95,7 +96,8 @@ pub(crate) fn failed_condition<'a>(
     scene: &Scene<'_>,
     request: &Request,
 ) -> Option<SharedRefusal<'a>>
-    ensures { option_map (shared_reply scene.now.path.now) result ≡ first_there (condition_rows (least_of scene.now) request.now) }
+    ensures roomless { IfSome result (λ refusal. takes_room refusal ≡ false) }
+    ensures rows { option_map (shared_reply scene.now.path.now) result ≡ first_there (condition_rows (least_of scene.now) request.now) }
 {
     if !is_conditional(scene, request.method) {
         return None;

@@ -1,10 +1,10 @@
 //! What refuses a request of any method.
-ghost use Rattle.std.specs.Prelude.{◌≡◌, option_map};
+ghost use Rattle.std.specs.Prelude.{◌≡◌, true, option_map, IfSome};
 ghost use Rattle.cal_model.specs.Objects.ObjectReading.{first_there};
 ghost use Rattle.cal_model.specs.Refusals.SharedRefusals as spec;
 ghost use Rattle.cal_model.specs.Sight.Scenes.{Scene as Sighted};
-ghost use Rattle.request_checks.specs.Scenes.{IsScene, least_of};
-ghost use Rattle.request_checks.specs.SharedReplies.{shared_reply};
+ghost use Rattle.request_checks.specs.Scenes.{IsFoundAt, IsScene, least_of};
+ghost use Rattle.request_checks.specs.SharedReplies.{shared_reply, takes_room};
 
 use crate::conditions::failed_condition;
 use crate::needs::{is_missing, is_object_missing, need_at, unmet};
@@ -27,15 +27,17 @@ pub enum SharedRefusal<'a> {
 }
 
 /// The first row of the table of shared refusals that applies to a request, as its caller sees what it
-/// is about. Takes no memory.
+/// is about. Where privileges are lacking, the path's user is known. Takes no memory.
 pub fn shared_refusal<'a>(scene: &Scene<'_>, request: &'a Request) -> Option<SharedRefusal<'a>>
-    ensures { (sighted : Sighted) → IsScene scene.now sighted → option_map (shared_reply sighted.path) result ≡ first_there (spec.shared_rows sighted request.now) }
+    ensures row { (sighted : Sighted) → IsScene scene.now sighted → option_map (shared_reply sighted.path) result ≡ first_there (spec.shared_rows sighted request.now) }
+    ensures found { IfSome result (λ refusal. takes_room refusal ≡ true → IsFoundAt scene.now scene.now.path.now) }
 {
     first_refusal(scene, request)
 }
 
 fn first_refusal<'a>(scene: &Scene<'_>, request: &'a Request) -> Option<SharedRefusal<'a>>
-    ensures { option_map (shared_reply scene.now.path.now) result ≡ first_there (spec.shared_rows (least_of scene.now) request.now) }
+    ensures row { option_map (shared_reply scene.now.path.now) result ≡ first_there (spec.shared_rows (least_of scene.now) request.now) }
+    ensures found { IfSome result (λ refusal. takes_room refusal ≡ true → IsFoundAt scene.now scene.now.path.now) }
 {
     if is_missing(scene, request.method) {
         return Some(SharedRefusal::NotFound);

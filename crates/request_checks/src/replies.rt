@@ -1,13 +1,12 @@
 //! Replies to what is refused, and to GET, HEAD and OPTIONS.
-ghost use Rattle.std.specs.Prelude.{◌≡◌, ◌≤◌, [], false, IfOk, IsOk};
+ghost use Rattle.std.specs.Prelude.{◌≡◌, ◌≤◌, false, IfOk, IsOk, OnErr};
 ghost use Rattle.cal_model.specs.Refusals.RefusalReplies as refused;
 ghost use Rattle.cal_model.specs.Replies.BareReplies as bare;
 ghost use Rattle.cal_model.specs.Replies.ReplyForms as forms;
 ghost use Rattle.cal_model.specs.Serving.ReadingReplies as reading;
 ghost use Rattle.cal_model.specs.Sight.Scenes.{Scene as Sighted};
-ghost use Rattle.dav_write.specs.ShortPaths.{HasShortNames};
 ghost use Rattle.request_checks.specs.Scenes.{IsScene, least_of};
-ghost use Rattle.request_checks.specs.SharedReplies.{object_shown, shared_reply, takes_memory, takes_room, FitsRoom};
+ghost use Rattle.request_checks.specs.SharedReplies.{object_shown, shared_reply, takes_room, FitsRoom, IsRoomFor, NeedsNoMemory};
 
 use crate::conditions::tag_of;
 use crate::refusals::SharedRefusal;
@@ -17,6 +16,9 @@ use cal_model::{Cond, Etag, Media, Path, PrivilegeSet, Refusal, Reply, Stored};
 use dav_write::{error_body, need_privileges};
 use std::alloc::Global;
 use std::mem::replace;
+
+/// Room enough for the body that says which privilege is needed.
+const ERROR_ROOM: usize = 4096;
 
 /// A reply that is a status alone. Takes no memory.
 pub fn bare_reply(alloc: Global, status: u16) -> Reply
@@ -67,27 +69,28 @@ pub fn refusal_reply(alloc: Global, refusal: &Refusal) -> Result<Reply, NoMemory
     })
 }
 
-/// The reply for want of a privilege, in room that was taken before.
+/// The reply for want of a privilege, in room that is taken where it is not there.
 fn need_privileges_reply(
     alloc: Global,
     path: &Path,
     set: PrivilegeSet,
     room: &mut ReservedList<u8>,
-) -> Reply
-    requires names { HasShortNames path.now }
-    requires empty { room.old.items ≡ [] }
-    requires room { 4096 ≤ room.old.room }
-    ensures { result ≡ refused.refusal_reply (refused.need_privileges path.now set.0) }
+) -> Result<Reply, NoMemory>
+    requires { IsRoomFor path.now room.old }
+    ensures reply { IfOk result (λ reply. reply ≡ refused.refusal_reply (refused.need_privileges path.now set.0)) }
+    ensures succeeds { 4096 ≤ room.old.room → IsOk result }
+    ensures err { OnErr result (room.new ≡ room.old) }
 {
+    room.reserve(ERROR_ROOM)?;
     need_privileges(path, set, room);
     let body = replace(room, ReservedList::new(alloc)).into_list();
-    Reply {
+    Ok(Reply {
         status: 403,
         etag: None,
         allow: None,
         media: Media::Xml,
         body,
-    }
+    })
 }
 
 fn not_modified(alloc: Global, etag: Option<Etag>) -> Reply
@@ -103,8 +106,8 @@ fn not_modified(alloc: Global, etag: Option<Etag>) -> Reply
 }
 
 /// The reply to a request for a path that is refused. Only what was found wrong with a body or a field
-/// takes memory. The want of a privilege uses up the room, which is to be 4096 octets; all else keeps it,
-/// whatever it is.
+/// takes memory, and the want of a privilege where there is no room of 4096 octets; the latter uses up
+/// the room, and all else keeps it. Without memory the room stays as it was.
 pub fn refuse(
     alloc: Global,
     path: &Path,
@@ -113,12 +116,13 @@ pub fn refuse(
 ) -> Result<Reply, NoMemory>
     requires { FitsRoom path.now refusal.now room.old }
     ensures reply { IfOk result (λ reply. reply ≡ shared_reply path.now refusal.now) }
-    ensures succeeds { takes_memory refusal.now ≡ false → IsOk result }
+    ensures succeeds { NeedsNoMemory refusal.now room.old.room → IsOk result }
     ensures kept { takes_room refusal.now ≡ false → room.new ≡ room.old }
+    ensures err { OnErr result (room.new ≡ room.old) }
 {
     match refusal {
         SharedRefusal::NotFound => Ok(bare_reply(alloc, 404)),
-        SharedRefusal::NeedPrivileges(set) => Ok(need_privileges_reply(alloc, path, *set, room)),
+        SharedRefusal::NeedPrivileges(set) => need_privileges_reply(alloc, path, *set, room),
         SharedRefusal::Refused(refusal) => refusal_reply(alloc, refusal),
         SharedRefusal::PreconditionFailed => Ok(bare_reply(alloc, 412)),
         SharedRefusal::NotModified(etag) => Ok(not_modified(alloc, *etag)),

@@ -1,6 +1,7 @@
 use Rattle.std.proofs.Common.{◌≡◌, ◌&&◌, sym, ap, ◌∙◌, refl}
 use Rattle.cal_model.specs.Sight.Scenes.{scene_at, at_both, calendar_in, object_in, octets_seen}
 use Rattle.request_checks.specs.Sightings.{calendar_seen, held_on_sight, home_shows, names_home}
+use Rattle.request_checks.proofs.HomeLemmas.{user_known}
 use Rattle.request_checks.proofs.scenes.scene_at.Goals as goal
 
 pub object_at-object-requires-clause-held : goal.object_at-object-requires-clause-held
@@ -22,3 +23,8 @@ returns-clause-scene g c =
       calendar = c.calendar_at-calendar.ensures.held c.args.look ∙ ap (λ user. held_on_sight (calendar_seen c.args.look directory state who user (calendar_in path))) known;
       object = c.object_at-object.ensures.octets ∙ ap (λ user. at_both (octets_seen (calendar_seen c.args.look directory state who user (calendar_in path))) (object_in path)) known;
     }
+
+pub returns-clause-known : goal.returns-clause-known
+returns-clause-known g c = λ there.
+    user_known c.args.look (g.V.View.directory c.args.seen.now.view.now) (g.V.View.state c.args.seen.now.view.now) c.args.seen.now.who (names_home c.args.path.now) c.user_at-user.result
+    (sym (c.home_at-home.ensures c.args.look) ∙ there)
