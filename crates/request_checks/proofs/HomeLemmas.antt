@@ -1,5 +1,5 @@
 -- A walk over the calendars of a home, and whether the home is visible.
-use Rattle.std.proofs.Common.{◌≡◌, ℕ, suc, ◌<◌, ◌≤◌, Bool, true, false, not, ◌&&◌, ◌||◌, cond, ◌==◌, List, [], ◌∷◌, ◌++◌, length, Option, Some, None, refl, sym, ap, ◌∙◌, subst, append-nil, arith, ◌⊎◌, inl, inr}
+use Rattle.std.proofs.Common.{◌≡◌, ℕ, suc, ◌<◌, ◌≤◌, Bool, true, false, not, ◌&&◌, ◌||◌, cond, ◌==◌, List, [], ◌∷◌, length, Option, Some, None, refl, sym, ap, ◌∙◌, append-nil, arith, ◌⊎◌, inl, inr}
 use Rattle.std.specs.Prelude.{option_map, option_and_then, option_to_list, flat_map, is_some, IsSome, slice_get, get_or, map, filter}
 use Rattle.std.specs.Borrow.{Bor}
 use Rattle.std.proofs.lemmas.Bool.{false≢true}
@@ -10,7 +10,7 @@ use Rattle.cal_model.specs.declared.store.CalendarData.{CalendarData}
 use Rattle.cal_model.specs.Words.Lists.{is_empty}
 use Rattle.cal_model.specs.Access.Privileges.{privileges_held}
 use Rattle.cal_model.specs.State.ServerState.{Directory, Calendar, Home as UserHome, ServerState, home_at}
-use Rattle.cal_model.specs.State.StoredData.{data_of, next_calendar}
+use Rattle.cal_model.specs.State.StoredData.{next_calendar}
 use Rattle.cal_model.specs.State.SoundStates.{IsSound}
 use Rattle.cal_model.specs.State.NameWalks.{calendars_above}
 use Rattle.cal_model.specs.Sight.Views.{Look as Eyes, Sight, home_by, view_by}

@@ -19,7 +19,7 @@ use Rattle.cal_model.specs.Access.Privileges.{has_all, read, write_content, bind
 use Rattle.cal_model.specs.Objects.ObjectReading.{first_there}
 use Rattle.cal_model.specs.Replies.BareReplies.{bare_reply}
 use Rattle.cal_model.specs.Refusals.RefusalReplies.{when, refusal_reply, need_privileges}
-use Rattle.cal_model.specs.Refusals.SharedRefusals.{Need, nothing, held, owned, makes_or_asks, is_missing, is_calendar_missing, need, need_of_report, unmet, needs_object, is_object_missing, fault_of, is_options, is_get, not_modified, if_match_fails, if_none_match_fails, shared_rows}
+use Rattle.cal_model.specs.Refusals.SharedRefusals.{Need, nothing, held, owned, makes_or_asks, is_missing, need, unmet, needs_object, is_object_missing, fault_of, is_options, is_get, not_modified, if_match_fails, if_none_match_fails, shared_rows}
 use Rattle.cal_model.specs.Serving.Outcomes.{accepted_status}
 use Rattle.cal_model.specs.Serving.ReadingReplies.{get_reply}
 use Rattle.cal_model.specs.Sight.Scenes.{Scene as Sighted, held_in, object_in}

@@ -1,16 +1,15 @@
 -- What a scene in memory stands for: that of the definitions, part by part, as far as refusals go by it.
-use Rattle.std.specs.Prelude.{◌≡◌, ℕ, Bool, true, ◌&&◌, List, [], Option, Some, None, is_some, IsSome, option_map, if◌then◌else◌}
+use Rattle.std.specs.Prelude.{◌≡◌, ℕ, true, ◌&&◌, [], Some, None, is_some, IsSome, option_map, if◌then◌else◌}
 use Rattle.std.specs.Borrow.{Bor}
 use Rattle.cal_model.specs.declared.path.Path.{Path}
 use Rattle.cal_model.specs.declared.path.Path.TheVariants.{Root, Principal}
 use Rattle.cal_model.specs.declared.store.CalendarData.{CalendarData}
 use Rattle.cal_model.specs.declared.path.Path.{Path}
 use Rattle.cal_model.specs.declared.path.Path.TheVariants.{Root, Principal}
-use Rattle.cal_model.specs.declared.stored.Stored.{Stored}
 use Rattle.cal_model.specs.Sight.Scenes.{Scene as Sighted}
 use Rattle.cal_model.specs.Sight.Views.{Sight}
 use Rattle.request_checks.specs.declared.scenes.Scene.{Scene}
-use Rattle.request_checks.specs.Sightings.{names_home, held_of, octets_lent}
+use Rattle.request_checks.specs.Sightings.{names_home, octets_lent}
 
 pub record IsScene (shown : Scene) (scene : Sighted) : Type 0 where
   pub who : shown.who ≡ scene.who

@@ -1,8 +1,8 @@
 -- What is seen at the parts of a path, each for itself, in the words of `Sight.Scenes` (RFC 4918, 5; RFC 4791, 4.2).
-use Rattle.std.specs.Prelude.{◌≡◌, ℕ, Bool, true, false, not, ◌&&◌, ◌==◌, List, Option, Some, None, option_and_then, option_map, unwrap_or, is_some, IfSome}
+use Rattle.std.specs.Prelude.{◌≡◌, ℕ, Bool, true, false, not, ◌==◌, List, Option, Some, option_and_then, option_map, unwrap_or, is_some, IfSome}
 use Rattle.std.specs.Borrow.{Bor}
 use Rattle.cal_model.specs.declared.path.Path.{Path}
-use Rattle.cal_model.specs.declared.path.Path.TheVariants.{Root, Principal, Home, Calendar, Object}
+use Rattle.cal_model.specs.declared.path.Path.TheVariants.{Root, Principal, Object}
 use Rattle.cal_model.specs.declared.store.CalendarData.{CalendarData}
 use Rattle.cal_model.specs.declared.stored.Stored.{Stored}
 use Rattle.cal_model.specs.Access.Privileges.{has_all, read}
@@ -11,7 +11,7 @@ use Rattle.cal_model.specs.State.ServerState.{Directory, ServerState, user_numbe
 use Rattle.cal_model.specs.State.SoundStates.{IsSound}
 use Rattle.cal_model.specs.State.StoredData.{data_at}
 use Rattle.cal_model.specs.Sight.Views.{Look as Eyes, Sight, view_by, sight_of, whole_sight}
-use Rattle.cal_model.specs.Sight.Scenes.{user_in, calendar_in, object_in, visible_home, at_both, octets_seen}
+use Rattle.cal_model.specs.Sight.Scenes.{user_in, visible_home, at_both}
 use Rattle.request_checks.specs.declared.looks.Look.{Look}
 use Rattle.request_checks.specs.declared.looks.Look.TheVariants.{Own, Whole}
 

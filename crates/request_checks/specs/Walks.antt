@@ -1,5 +1,5 @@
 -- What a walk over the calendars of a home looks for.
-use Rattle.std.specs.Prelude.{ℕ, Bool, false, not, ◌||◌, ◌==◌, List, [], ◌∷◌}
+use Rattle.std.specs.Prelude.{ℕ, Bool, false, not, ◌||◌, ◌==◌, [], ◌∷◌}
 use Rattle.cal_base.specs.Lists.NameMap.{Named}
 use Rattle.cal_model.specs.Access.Privileges.{privileges_held}
 use Rattle.cal_model.specs.State.ServerState.{Calendar}

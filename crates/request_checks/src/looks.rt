@@ -4,7 +4,7 @@ ghost use Rattle.cal_model.specs.Access.Privileges as privilege;
 ghost use Rattle.request_checks.specs.Sightings as sightings;
 
 /// DAV:read.
-const READ: u16 = 2;
+pub(crate) const READ: u16 = 2;
 
 /// How a calendar is looked at.
 #[derive(Clone, Copy)]

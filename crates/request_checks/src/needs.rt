@@ -5,14 +5,12 @@ ghost use Rattle.cal_model.specs.Refusals.SharedRefusals as spec;
 ghost use Rattle.request_checks.specs.Scenes.{least_of};
 ghost use Rattle.request_checks.specs.SharedReplies.{needed, unmet_set};
 
-use crate::looks::has_all;
+use crate::looks::{READ, has_all};
 use crate::scenes::Scene;
 use crate::sightings::held_on;
 use cal_model::{Content, Method, Path, ReportRequest};
 
 const READ_FREE_BUSY: u16 = 1;
-
-const READ: u16 = 2;
 
 const WRITE_CONTENT: u16 = 4;
 

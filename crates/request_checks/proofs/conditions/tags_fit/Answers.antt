@@ -1,4 +1,4 @@
-use Rattle.std.proofs.Common.{◌≡◌, sym, ap, ◌∙◌}
+use Rattle.std.proofs.Common.{sym, ap, ◌∙◌}
 use Rattle.std.specs.List.{list_any}
 use Rattle.cal_model.specs.Refusals.SharedRefusals.{tags_fit}
 use Rattle.request_checks.specs.SharedReplies.{fits_etag}

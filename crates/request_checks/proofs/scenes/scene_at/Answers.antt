@@ -1,4 +1,4 @@
-use Rattle.std.proofs.Common.{◌≡◌, ◌&&◌, sym, ap, ◌∙◌, refl}
+use Rattle.std.proofs.Common.{◌&&◌, sym, ap, ◌∙◌, refl}
 use Rattle.cal_model.specs.Sight.Scenes.{scene_at, at_both, calendar_in, object_in, octets_seen}
 use Rattle.request_checks.specs.Sightings.{calendar_seen, held_on_sight, home_shows, names_home}
 use Rattle.request_checks.proofs.HomeLemmas.{user_known}

@@ -1,7 +1,6 @@
-use Rattle.std.proofs.Common.{◌≡◌, sym, ap, ◌∙◌}
+use Rattle.std.proofs.Common.{sym, ap, ◌∙◌}
 use Rattle.std.specs.Option.{option_copied}
 use Rattle.request_checks.specs.Sightings.{held_on_sight, calendar_seen}
-use Rattle.request_checks.proofs.SightingLemmas.{unnamed}
 use Rattle.request_checks.proofs.sightings.calendar_at.Goals as goal
 
 pub returns-in-Some-calendar_name-clause-held : goal.returns-in-Some-calendar_name-clause-held

@@ -1,4 +1,4 @@
-use Rattle.std.proofs.Common.{◌≡◌, ◌&&◌, sym, ap, ◌∙◌}
+use Rattle.std.proofs.Common.{◌&&◌, sym, ◌∙◌}
 use Rattle.cal_model.specs.Sight.Scenes.{calendar_in}
 use Rattle.request_checks.specs.Sightings.{home_shows}
 use Rattle.request_checks.proofs.HomeLemmas.{home_of_calendar}

@@ -1,4 +1,4 @@
-use Rattle.std.proofs.Common.{◌≡◌, ℕ, refl, sym, ap, ◌∙◌}
+use Rattle.std.proofs.Common.{sym, ap}
 use Rattle.request_checks.specs.Sightings.{held_on_sight}
 use Rattle.request_checks.proofs.SightingLemmas.{not_there, hidden, visible}
 use Rattle.request_checks.proofs.sightings.look_up.Goals as goal

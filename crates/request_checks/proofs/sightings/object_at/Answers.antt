@@ -1,4 +1,4 @@
-use Rattle.std.proofs.Common.{◌≡◌, true, false, sym, ap, ◌∙◌}
+use Rattle.std.proofs.Common.{true, false, sym, ◌∙◌}
 use Rattle.cal_model.specs.State.ServerState.{octets_at}
 use Rattle.request_checks.proofs.SightingLemmas.{object_answer}
 use Rattle.request_checks.proofs.sightings.object_at.Goals as goal

@@ -1,4 +1,4 @@
-use Rattle.std.proofs.Common.{◌≡◌, ℕ, Bool, true, false, ◌||◌, refl, sym, ap, ◌∙◌, arith}
+use Rattle.std.proofs.Common.{◌||◌, sym, ap, ◌∙◌}
 use Rattle.cal_model.specs.State.NameWalks.{calendars_above}
 use Rattle.request_checks.specs.Walks.{any_held}
 use Rattle.request_checks.proofs.HomeLemmas.{step_known, end_known}

@@ -1,4 +1,4 @@
-use Rattle.std.proofs.Common.{◌≡◌, ◌||◌, ◌==◌, sym, ap, ◌∙◌}
+use Rattle.std.proofs.Common.{◌||◌, ◌==◌, sym, ap, ◌∙◌}
 use Rattle.request_checks.proofs.HomeLemmas.{home_where}
 use Rattle.request_checks.proofs.walks.shows_home.Goals as goal
 
