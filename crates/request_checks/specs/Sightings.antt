@@ -1,5 +1,5 @@
 -- What is seen at the parts of a path, each for itself, in the words of `Sight.Scenes` (RFC 4918, 5; RFC 4791, 4.2).
-use Rattle.std.specs.Prelude.{◌≡◌, ℕ, Bool, true, false, not, ◌==◌, List, Option, Some, option_and_then, option_map, unwrap_or, is_some, IfSome}
+use Rattle.std.specs.Prelude.{◌≡◌, ◌≤◌, All, length, ℕ, Bool, true, false, not, ◌==◌, List, Option, Some, option_and_then, option_map, unwrap_or, is_some, IfSome}
 use Rattle.std.specs.Borrow.{Bor}
 use Rattle.cal_model.specs.declared.path.Path.{Path}
 use Rattle.cal_model.specs.declared.path.Path.TheVariants.{Root, Principal, Object}
@@ -70,3 +70,7 @@ IsOriginAt origins user path origin = Unit {0}
 abbrev pub IsSoundAt : Option ℕ → Option (List ℕ) → Directory → ServerState → Type 0
 IsSoundAt (Some owner) (Some name) directory state = IsSound directory state
 IsSoundAt user name directory state = Unit {0}
+
+-- the names of all users have at most 200 octets
+abbrev pub AreShort : Directory → Type 0
+AreShort directory = All (λ name. length name ≤ 200) directory.names

@@ -1,9 +1,11 @@
 //! What stands at each part of a request's path, as its caller sees it.
-ghost use Rattle.std.specs.Prelude.{◌≡◌, true, IfSome, IsSome};
+ghost use Rattle.std.specs.Prelude.{◌≡◌, true, IfSome, IsSome, IsTrue};
+ghost use Rattle.cal_model.specs.Paths.TargetPaths.{is_path};
 ghost use Rattle.cal_model.specs.Sight.Scenes as sight;
 ghost use Rattle.cal_model.specs.Sight.Views.{view_by};
-ghost use Rattle.request_checks.specs.Scenes.{IsScene};
-ghost use Rattle.request_checks.specs.Sightings.{eyes_of, IsDataAt, IsOriginAt};
+ghost use Rattle.dav_write.specs.ShortPaths.{HasShortNames};
+ghost use Rattle.request_checks.specs.Scenes.{IsFoundAt, IsScene};
+ghost use Rattle.request_checks.specs.Sightings.{AreShort, eyes_of, IsDataAt, IsOriginAt};
 
 use crate::looks::Look;
 use crate::sightings::{calendar_at, home_at, object_at, user_at};
@@ -34,6 +36,7 @@ pub struct Scene<'a> {
 pub fn scene_at<'a, V: View>(seen: &Seen<'a, V>, path: &'a Path, look: Look) -> Scene<'a>
     ensures scene { IsScene result (sight.scene_at (V.directory seen.now.view.now) (view_by (eyes_of look) (V.directory seen.now.view.now) (V.state seen.now.view.now) seen.now.who) seen.now.who path.now) }
     ensures known { result.home ≡ true → IsSome result.user }
+    ensures names { AreShort (V.directory seen.now.view.now) → IsTrue (is_path path.now) → IsFoundAt result path.now → HasShortNames path.now }
     ensures calendar { IfSome result.calendar (λ p. IsDataAt (V.state seen.now.view.now) result.user (sight.calendar_in path.now) p.1.now) }
     ensures origin { IfSome result.object (λ p. IsOriginAt (V.origins seen.now.view.now) result.user path.now p.1) }
 {
