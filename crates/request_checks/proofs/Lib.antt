@@ -1,0 +1,4 @@
+pub mod SightingLemmas
+pub mod HomeLemmas
+pub mod LeastScenes
+pub mod NameLemmas

@@ -1,0 +1,4 @@
+pub mod Sightings
+pub mod Walks
+pub mod Scenes
+pub mod SharedReplies

@@ -1,0 +1,43 @@
+//! Whether a home is visible.
+ghost use Rattle.std.specs.Prelude.{◌≡◌, ◌<◌, ◌==◌, not, [], length, Some};
+ghost use Rattle.cal_model.specs.Access.Privileges.{privileges_held};
+ghost use Rattle.cal_model.specs.State.NameWalks.{calendars_above};
+ghost use Rattle.cal_model.specs.State.SoundStates.{IsSound};
+ghost use Rattle.request_checks.specs.declared.looks.Look.{Look as Looks};
+ghost use Rattle.request_checks.specs.Sightings.{home_shows};
+ghost use Rattle.request_checks.specs.Walks.{any_held};
+
+use cal_model::CalendarData;
+use cal_model::view::View;
+use privileges::held;
+
+/// Whether a user holds something on a calendar.
+fn holds_something(kept: &CalendarData, owner: u32, who: u32) -> bool
+    ensures { result ≡ not (privileges_held [] kept.now.acl.grants owner who == 0) }
+{
+    held(&kept.acl, owner, who).0 != 0
+}
+
+/// Whether a user holds something on a calendar of a home. A walk over its calendars, up to the first
+/// on which this user does.
+pub(crate) fn shows_a_calendar<V: View>(view: &V, owner: u32, who: u32) -> bool
+    ensures any { result ≡ any_held owner who (calendars_above (V.state view.now) owner []) }
+    ensures sound { IsSound (V.directory view.now) (V.state view.now) }
+{
+    let mut last: &[u8] = b"";
+    'calendars: while let Some((name, kept)) = view.calendar_after(owner, last) {
+        if holds_something(kept, owner, who) {
+            return true;
+        }
+        last = name;
+    }
+    false
+}
+
+/// Whether a user's home is visible: to its owner, and to others with one of its calendars.
+pub(crate) fn shows_home<V: View>(view: &V, owner: u32, who: u32) -> bool
+    requires { owner < length (V.directory view.now).names }
+    ensures { (look : Looks) → result ≡ home_shows look (V.directory view.now) (V.state view.now) who (Some owner) }
+{
+    shows_a_calendar(view, owner, who) || owner == who
+}
