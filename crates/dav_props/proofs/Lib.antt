@@ -4,3 +4,4 @@ pub mod PieceLemmas
 pub mod TagLemmas
 pub mod StatusLemmas
 pub mod SeenLemmas
+pub mod SettingLemmas

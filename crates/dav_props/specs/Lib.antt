@@ -3,3 +3,6 @@ pub mod Subjects
 pub mod Contents
 pub mod PropertyTags
 pub mod Answers
+pub mod KeptTexts
+pub mod SettingFaults
+pub mod SettingChecks
