@@ -5,3 +5,4 @@ pub mod TagLemmas
 pub mod StatusLemmas
 pub mod SeenLemmas
 pub mod SettingLemmas
+pub mod FaultLemmas

@@ -1,7 +1,7 @@
 -- The names of a calendar's texts, as settings change them, and which faults settings have.
 use Rattle.std.proofs.Common.{◌≡◌, ℕ, zero, suc, ◌+◌, ◌-◌, ◌<◌, ◌≤◌, drop, get_or, arith, Bool, true, false, cond, List, [], ◌∷◌, ◌++◌, map, filter, length, Option, Some, None, refl, sym, ap, ap₂, ◌∙◌, subst, inl, inr}
 use Rattle.std.specs.Prelude.{bytes_eq, not, ◌&&◌, ◌||◌, ◌==◌, find, is_some, is_none, option_map, unwrap_or, nat_le, if◌then◌else◌}
-use Rattle.std.specs.List.{AllByRecursion}
+use Rattle.std.specs.List.{AllByRecursion, slice_split}
 use Rattle.std.specs.List.Sorted.{IsStrictlySortedBy}
 use Rattle.std.specs.declared.cmp.Ordering.{Ordering}
 use Rattle.std.specs.declared.cmp.Ordering.TheVariants.{Less, Equal, Greater}
@@ -21,7 +21,7 @@ use Rattle.cal_model.specs.declared.reply.Refusal.{Refusal}
 use Rattle.cal_model.specs.Access.Privileges.{same_name}
 use Rattle.cal_model.specs.State.PropertyTexts.{Texts, prop_order, text_at, with_text, without_text, as_settings}
 use Rattle.cal_model.specs.Properties.PropertyTable.{Property, is_text, listed_row, row_of, text_row, text_names, in_both, text}
-use Rattle.cal_model.specs.Properties.Settings.{is_kinds, texts_after, texts_with_value, is_one_too_many}
+use Rattle.cal_model.specs.Properties.Settings.{is_kinds, texts_after, texts_with_value, is_one_too_many, kinds_in}
 use Rattle.multistatus.specs.NameKeys.{marked, key}
 use Rattle.dav_props.specs.declared.rows.Row.{Row}
 use Rattle.dav_props.specs.Rows.{name_of, property_of, listed_rows}
@@ -64,7 +64,7 @@ key_texts (c ∷ a) (d ∷ b) x y = ap (ordering_then (nat_cmp c d)) (key_texts 
 pub key_order : (a b : PropName) → name_order (key a) (key b) ≡ prop_order a b
 key_order a b = key_texts a.space b.space a.name b.name
 
-at_same : (a b : PropName) → is_at (prop_order a) b ≡ same_name a b
+pub at_same : (a b : PropName) → is_at (prop_order a) b ≡ same_name a b
 at_same a b = both (name_order a.space b.space) (name_order a.name b.name) ∙ (ap (λ x. x && is_eq (name_order a.name b.name)) (is_eq-slice_cmp a.space b.space) ∙ ap (λ y. bytes_eq a.space b.space && y) (is_eq-slice_cmp a.name b.name)) where
   both : (x y : Ordering) → is_eq (ordering_then x y) ≡ (is_eq x && is_eq y)
   both Less y = refl
@@ -261,3 +261,9 @@ settings_length (entry ∷ texts) = ap suc (settings_length texts)
 pub not_false : (b : Bool) → not b ≡ false → b ≡ true
 not_false true e = refl
 not_false false e = absurd (false≢true (sym e))
+
+-- Lists of kinds
+
+pub kinds_in_split : (value : List ℕ) → (length value == 0) ≡ false → kinds_in value ≡ slice_split (λ octet. octet == 44) value
+kinds_in_split [] some = absurd (false≢true (sym some))
+kinds_in_split (octet ∷ value) some = refl

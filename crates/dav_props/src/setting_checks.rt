@@ -55,14 +55,24 @@ fn patch_checked(
 {
     let mut kept = kept_of(alloc, texts)?;
     let refused = refused_in(alloc, sets, &mut kept)?;
+    told(alloc, path, sets, &refused)
+}
+
+/// What becomes of settings, by the names of the properties that are refused.
+fn told(
+    alloc: Global,
+    path: &Path,
+    sets: &[PropSet],
+    refused: &NameMap<bool>,
+) -> Result<PatchCheck, NoMemory>
+    ensures { IfOk result (λ check. (texts : Texts) → refused.now ≡ marks [] (faults_of_all false texts sets.now) → IsPatchChecked path.now texts sets.now check) }
+{
     if refused.len() == 0 {
-        return Ok(PatchCheck::Fine(settings_reply(
-            alloc, path, sets, &refused, 200,
-        )?));
+        let reply = settings_reply(alloc, path, sets, refused, 200)?;
+        return Ok(PatchCheck::Fine(reply));
     }
-    Ok(PatchCheck::Refused(settings_reply(
-        alloc, path, sets, &refused, 424,
-    )?))
+    let reply = settings_reply(alloc, path, sets, refused, 424)?;
+    Ok(PatchCheck::Refused(reply))
 }
 
 /// The names of the properties that are refused, some setting of which has a fault.

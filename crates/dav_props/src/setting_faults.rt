@@ -1,8 +1,10 @@
 //! Why a setting is refused (RFC 4918, 9.2; RFC 4791, 5.2 and 5.3.1).
-ghost use Rattle.std.specs.Prelude.{◌≡◌, ◌||◌, ◌==◌, not, nat_lt, length, if◌then◌else◌, Some, None, IfOk, option_map, is_ok};
+ghost use Rattle.std.specs.Prelude.{◌≡◌, ◌<◌, ◌^◌, ◌||◌, ◌==◌, not, nat_lt, length, if◌then◌else◌, Some, None, IfOk, option_map, is_ok};
 ghost use Rattle.cal_model.specs.State.PropertyTexts.{Texts, name_size};
 ghost use Rattle.cal_model.specs.Objects.ObjectReading.{first_there, read_zone as zone_read};
 ghost use Rattle.cal_model.specs.Properties.Settings as spec;
+ghost use Rattle.cal_model.specs.Properties.PropertyTable.{text, zone};
+ghost use Rattle.cal_model.specs.Refusals.RefusalReplies.{refused_where};
 ghost use Rattle.cal_model.specs.Refusals.RequestLimits.{value_limit, zone_limit};
 ghost use Rattle.dav_props.specs.Rows.{setting_of};
 ghost use Rattle.dav_props.specs.KeptTexts.{kept_names};
@@ -64,7 +66,7 @@ fn is_barred(making: bool, setting: Setting, name: &PropName) -> bool
 
 /// The kinds of a calendar are not removed.
 fn fault_of_removal(setting: Setting) -> Option<Fault>
-    ensures { option_map refusal_of result ≡ spec.refused_where (not (spec.may_be_removed (setting_of setting))) spec.protected_property }
+    ensures { option_map refusal_of result ≡ refused_where (not (spec.may_be_removed (setting_of setting))) spec.protected_property }
 {
     match setting {
         Setting::Kinds => Some(Fault::Protected),
@@ -85,7 +87,7 @@ fn fault_of_value(
     match setting {
         Setting::Protected => Ok(Some(Fault::Protected)),
         Setting::Text => fault_of_text(alloc, kept, name, value),
-        Setting::Zone => fault_of_zone(alloc, value),
+        Setting::Zone => Ok(fault_of_zone(alloc, value)?),
         Setting::Kinds => Ok(protected_where(
             is_no_text(value) || !kinds_are_known(value),
         )),
@@ -94,7 +96,7 @@ fn fault_of_value(
 
 /// The refusal of what may not be set, where a condition holds.
 fn protected_where(applies: bool) -> Option<Fault>
-    ensures { option_map refusal_of result ≡ spec.refused_where applies spec.protected_property }
+    ensures { option_map refusal_of result ≡ refused_where applies spec.protected_property }
 {
     if applies { Some(Fault::Protected) } else { None }
 }
@@ -106,7 +108,7 @@ fn fault_of_text(
     name: &PropName,
     value: &[u8],
 ) -> Result<Option<Fault>, NoMemory>
-    ensures { IfOk result (λ fault. (texts : Texts) → kept.now ≡ kept_names texts → option_map refusal_of fault ≡ first_there (spec.value_faults spec.text texts name.now value.now)) }
+    ensures { IfOk result (λ fault. (texts : Texts) → kept.now ≡ kept_names texts → option_map refusal_of fault ≡ first_there (spec.value_faults text texts name.now value.now)) }
 {
     if is_unfit(value, VALUE_LIMIT) {
         return Ok(Some(Fault::Protected));
@@ -117,15 +119,26 @@ fn fault_of_text(
 
 /// Why the text of a time zone cannot be set.
 fn fault_of_zone(alloc: Global, value: &[u8]) -> Result<Option<Fault>, NoMemory>
-    ensures { IfOk result (λ fault. (texts : Texts) (name : PropName) → option_map refusal_of fault ≡ first_there (spec.value_faults spec.zone texts name value.now)) }
+    ensures { IfOk result (λ fault. (texts : Texts) (name : PropName) → option_map refusal_of fault ≡ first_there (spec.value_faults zone texts name value.now)) }
 {
     if is_unfit(value, ZONE_LIMIT) {
         return Ok(Some(Fault::Protected));
     }
-    match read_zone(alloc, value) {
-        Ok(_) => Ok(None),
+    if is_zone(alloc, value)? {
+        return Ok(None);
+    }
+    Ok(Some(Fault::BadZone))
+}
+
+/// Whether a text reads as a calendar with a time zone.
+fn is_zone(alloc: Global, text: &[u8]) -> Result<bool, NoMemory>
+    requires few { length text.now < 2 ^ 32 }
+    ensures { IfOk result (λ reads. reads ≡ is_ok (zone_read text.now)) }
+{
+    match read_zone(alloc, text) {
+        Ok(_zone) => Ok(true),
         Err(ReadFault::NoMemory) => Err(NoMemory),
-        Err(_) => Ok(Some(Fault::BadZone)),
+        Err(_) => Ok(false),
     }
 }
 
@@ -150,7 +163,9 @@ fn kinds_are_known(value: &[u8]) -> bool
     if value.is_empty() {
         return true;
     }
-    value.split(|octet| *octet == b',').all(is_kind)
+    value
+        .split(|octet| *octet == b',')
+        .all(|name| is_kind(name))
 }
 
 /// Whether a name is that of a kind of components.
