@@ -1,6 +1,6 @@
 -- The faults of settings, the names of those that are refused, and the answers to all.
-use Rattle.std.proofs.Common.{◌≡◌, ℕ, suc, ◌+◌, ◌<◌, Bool, true, false, cond, List, [], ◌∷◌, ◌++◌, map, filter, length, drop, get_or, Option, Some, None, refl, sym, ap, ap₂, ◌∙◌, subst, add-one}
-use Rattle.std.specs.Prelude.{bytes_eq, not, ◌&&◌, ◌||◌, ◌==◌, is_some, if◌then◌else◌}
+use Rattle.std.proofs.Common.{◌≡◌, ℕ, zero, suc, ◌+◌, ◌<◌, ◌≤◌, arith, take, Bool, true, false, cond, List, [], ◌∷◌, ◌++◌, map, filter, length, drop, get_or, Option, Some, None, refl, sym, ap, ap₂, ◌∙◌, subst, add-one}
+use Rattle.std.specs.Prelude.{bytes_eq, not, ◌&&◌, ◌||◌, ◌==◌, is_some, option_map, if◌then◌else◌}
 use Rattle.std.specs.List.Sorted.{IsStrictlySortedBy}
 use Rattle.std.specs.declared.cmp.Ordering.{Ordering}
 use Rattle.std.specs.declared.cmp.Ordering.TheVariants.{Less, Equal, Greater}
@@ -26,8 +26,9 @@ use Rattle.cal_model.specs.Refusals.RefusalReplies.{refused_where}
 use Rattle.cal_model.specs.Serving.EventReplies.{all_set}
 use Rattle.cal_model.proofs.State.OrderLaws.{sorted-insert, sorted-remove}
 use Rattle.multistatus.specs.NameKeys.{key}
+use Rattle.dav_props.specs.declared.setting_faults.Fault.{Fault}
 use Rattle.dav_props.specs.KeptTexts.{kept_names, marked_by, marks, TellsRefused, answer_in, status_in}
-use Rattle.dav_props.specs.SettingFaults.{is_barred}
+use Rattle.dav_props.specs.SettingFaults.{is_barred, refusal_of}
 use Rattle.dav_props.specs.SettingChecks.{texts_passed, fault_in}
 use Rattle.dav_props.proofs.SettingLemmas.{props_total, key_order, at_same}
 
@@ -52,7 +53,7 @@ module _ (making : Bool) (texts : Texts) (set : PropSet) (setting : Setting) (is
 
 -- Order stays
 
-in_order-after : (texts : Texts) (set : PropSet) → IsStrictlySortedBy prop_order (keys_of texts) → IsStrictlySortedBy prop_order (keys_of (texts_after texts set))
+pub in_order-after : (texts : Texts) (set : PropSet) → IsStrictlySortedBy prop_order (keys_of texts) → IsStrictlySortedBy prop_order (keys_of (texts_after texts set))
 in_order-after texts set in_order = either (is_kinds (row_of set.name).setting) set.value where
   by_value : (value : Option (List ℕ)) → IsStrictlySortedBy prop_order (keys_of (texts_with_value texts set.name value))
   by_value None = sorted-remove props_total _ texts in_order
@@ -182,3 +183,26 @@ answers_of refused faults otherwise tells (name ∷ names) =
 pub answers_are : (refused : Named Bool) (faults : List (PropName × Option Refusal)) (otherwise : ℕ) (sets : List PropSet) → TellsRefused refused faults
     → map (λ (entry : PropName × Option Refusal). entry.0) faults ≡ map (λ (set : PropSet). set.name) sets → map (answer_in refused otherwise) (once (map (λ (set : PropSet). set.name) sets)) ≡ setting_answers faults otherwise
 answers_are refused faults otherwise sets tells same = ap (λ names. map (answer_in refused otherwise) (once names)) (sym same) ∙ answers_of refused faults otherwise tells (once (map (λ (entry : PropName × Option Refusal). entry.0) faults))
+
+-- Steps
+
+pub map_one : {X Y : Type 0} (f : X → Y) (xs : List X) (at : ℕ) (x : X) → at < length xs → x ≡ get_or xs at x → map f (take at xs) ++ f x ∷ [] ≡ map f (take (at + 1) xs)
+map_one f xs at x within is = one xs at within is ∙ ap (λ n. map f (take n xs)) (sym (add-one at)) where
+  one : (xs : List _) (at : ℕ) → at < length xs → x ≡ get_or xs at x → map f (take at xs) ++ f x ∷ [] ≡ map f (take (suc at) xs)
+  one [] at within is = absurd (omega arith)
+  one (y ∷ xs) zero within is = ap (λ z. f z ∷ []) is
+  one (y ∷ xs) (suc at) within is = ap (λ rest. f y ∷ rest) (one xs at (omega arith) is)
+
+pub none_left : {X : Type 0} (xs : List X) (at : ℕ) → length xs ≤ at → drop at xs ≡ []
+none_left [] zero all = refl
+none_left [] (suc at) all = refl
+none_left (x ∷ xs) zero all = absurd (omega arith)
+none_left (x ∷ xs) (suc at) all = none_left xs at (omega arith)
+
+pub sorted_none : IsStrictlySortedBy prop_order (keys_of {X = List ℕ} [])
+unfolding IsStrictlySortedBy
+sorted_none = tt
+
+pub no_refusal : (fault : Option Fault) → is_some fault ≡ false → None ≡ option_map refusal_of fault
+no_refusal None e = refl
+no_refusal (Some fault) e = absurd (false≢true (sym e))

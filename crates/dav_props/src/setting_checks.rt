@@ -1,5 +1,5 @@
 //! Whether settings are refused, with the replies (RFC 4918, 9.2; RFC 4791, 5.3.1).
-ghost use Rattle.std.specs.Prelude.{◌≡◌, ◌==◌, [], IfOk, OnOk, not, length, option_map, List, Option, Bool};
+ghost use Rattle.std.specs.Prelude.{◌≡◌, [], IfOk, OnOk, option_map, false};
 ghost use Rattle.std.specs.List.Sorted.{IsStrictlySortedBy};
 ghost use Rattle.std.specs.Map.{keys_of};
 ghost use Rattle.cal_model.specs.State.PropertyTexts.{Texts, prop_order, as_settings};
