@@ -1,6 +1,6 @@
 -- The faults of settings, the names of those that are refused, and the answers to all.
 use Rattle.std.proofs.Common.{◌≡◌, ℕ, zero, suc, ◌+◌, ◌<◌, ◌≤◌, arith, take, Bool, true, false, cond, List, [], ◌∷◌, ◌++◌, map, filter, length, drop, get_or, Option, Some, None, refl, sym, ap, ap₂, ◌∙◌, subst, add-one}
-use Rattle.std.specs.Prelude.{bytes_eq, not, ◌&&◌, ◌||◌, ◌==◌, is_some, option_map, if◌then◌else◌}
+use Rattle.std.specs.Prelude.{bytes_eq, not, ◌&&◌, ◌||◌, ◌==◌, is_some, option_map, if◌then◌else◌, Result, Ok, Err, OnOk}
 use Rattle.std.specs.List.Sorted.{IsStrictlySortedBy}
 use Rattle.std.specs.declared.cmp.Ordering.{Ordering}
 use Rattle.std.specs.declared.cmp.Ordering.TheVariants.{Less, Equal, Greater}
@@ -31,25 +31,6 @@ use Rattle.dav_props.specs.KeptTexts.{kept_names, marked_by, marks, TellsRefused
 use Rattle.dav_props.specs.SettingFaults.{is_barred, refusal_of}
 use Rattle.dav_props.specs.SettingChecks.{texts_passed, fault_in}
 use Rattle.dav_props.proofs.SettingLemmas.{props_total, key_order, at_same}
-
--- One setting
-
-barred_by : (a b : Bool) (rest : List (Option Refusal)) → (a || b) ≡ true → Some protected_property ≡ first_there (refused_where a protected_property ∷ refused_where b protected_property ∷ rest)
-barred_by true b rest e = refl
-barred_by false true rest e = refl
-barred_by false false rest e = absurd (false≢true e)
-
-free_by : (a b : Bool) (rest : List (Option Refusal)) → (a || b) ≡ false → first_there rest ≡ first_there (refused_where a protected_property ∷ refused_where b protected_property ∷ rest)
-free_by true b rest e = absurd (false≢true (sym e))
-free_by false true rest e = absurd (false≢true (sym e))
-free_by false false rest e = refl
-
-module _ (making : Bool) (texts : Texts) (set : PropSet) (setting : Setting) (is : (row_of set.name).setting ≡ setting) where
-  pub fault_barred : is_barred making setting set.name ≡ true → Some protected_property ≡ setting_fault making texts set
-  fault_barred barred = barred_by _ _ _ (ap (λ s. is_barred making s set.name) is ∙ barred)
-
-  pub fault_free : is_barred making setting set.name ≡ false → first_there (faults_of_value making setting texts set.name set.value) ≡ setting_fault making texts set
-  fault_free free = ap (λ s. first_there (faults_of_value making s texts set.name set.value)) (sym is) ∙ free_by _ _ _ (ap (λ s. is_barred making s set.name) is ∙ free)
 
 -- Order stays
 
@@ -120,10 +101,14 @@ marks_at refused ((other, Some refusal) ∷ faults) name =
 pub tells : (refused : Named Bool) (faults : List (PropName × Option Refusal)) → refused ≡ marks [] faults → TellsRefused refused faults
 tells refused faults is name = ap (λ m. is_some (value_at m (key name))) is ∙ marks_at [] faults name
 
-one_more : (refused : Named Bool) (name : List ℕ) → (length (with_value refused name true) == 0) ≡ false
+abbrev has_none : Named Bool → Bool
+has_none [] = true
+has_none (entry ∷ refused) = false
+
+one_more : (refused : Named Bool) (name : List ℕ) → has_none (with_value refused name true) ≡ false
 one_more [] name = refl
 one_more (entry ∷ refused) name = by (name_order name entry.0) where
-  by : (o : Ordering) → (length (match_ordering o ((name, true) ∷ entry ∷ refused) ((entry.0, true) ∷ refused) (entry ∷ with_value refused name true)) == 0) ≡ false
+  by : (o : Ordering) → has_none (match_ordering o ((name, true) ∷ entry ∷ refused) ((entry.0, true) ∷ refused) (entry ∷ with_value refused name true)) ≡ false
   by Less = refl
   by Equal = refl
   by Greater = refl
@@ -132,14 +117,14 @@ and_false : (a : Bool) → (a && false) ≡ false
 and_false true = refl
 and_false false = refl
 
-pub marks_none : (refused : Named Bool) (faults : List (PropName × Option Refusal)) → (length (marks refused faults) == 0) ≡ ((length refused == 0) && not (some_fault faults))
-marks_none refused [] = and_true (length refused == 0) where
+pub marks_none : (refused : Named Bool) (faults : List (PropName × Option Refusal)) → has_none (marks refused faults) ≡ (has_none refused && not (some_fault faults))
+marks_none refused [] = and_true (has_none refused) where
   and_true : (b : Bool) → b ≡ (b && true)
   and_true true = refl
   and_true false = refl
 marks_none refused ((name, None) ∷ faults) = marks_none refused faults
 marks_none refused ((name, Some refusal) ∷ faults) =
-    marks_none (with_value refused (key name) true) faults ∙ (ap (λ b. b && not (some_fault faults)) (one_more refused (key name)) ∙ sym (and_false (length refused == 0)))
+    marks_none (with_value refused (key name) true) faults ∙ (ap (λ b. b && not (some_fault faults)) (one_more refused (key name)) ∙ sym (and_false (has_none refused)))
 
 -- Answers
 
@@ -155,21 +140,25 @@ pub none_refused : (sets : List PropSet) (name : PropName) → is_refused (all_s
 none_refused [] name = refl
 none_refused (set ∷ sets) name = none_refused sets name
 
-no_names : (refused : Named Bool) → (length refused == 0) ≡ true → refused ≡ []
+no_names : (refused : Named Bool) → length refused ≡ 0 → refused ≡ []
 no_names [] e = refl
-no_names (entry ∷ refused) e = absurd (false≢true e)
+no_names (entry ∷ refused) e = absurd (omega arith)
 
-pub tells_none : (refused : Named Bool) (sets : List PropSet) → (length refused == 0) ≡ true → TellsRefused refused (all_set sets)
+some_names : (refused : Named Bool) → 0 < length refused → has_none refused ≡ false
+some_names [] more = absurd (omega arith)
+some_names (entry ∷ refused) more = refl
+
+pub tells_none : (refused : Named Bool) (sets : List PropSet) → length refused ≡ 0 → TellsRefused refused (all_set sets)
 tells_none refused sets none name = ap (λ m. is_some (value_at m (key name))) (no_names refused none) ∙ sym (none_refused sets name)
 
-pub no_fault : (refused : Named Bool) (faults : List (PropName × Option Refusal)) → refused ≡ marks [] faults → (length refused == 0) ≡ true → some_fault faults ≡ false
-no_fault refused faults is none = by (some_fault faults) (sym (marks_none [] faults) ∙ (ap (λ m. length m == 0) (sym is) ∙ none)) where
+pub no_fault : (refused : Named Bool) (faults : List (PropName × Option Refusal)) → refused ≡ marks [] faults → length refused ≡ 0 → some_fault faults ≡ false
+no_fault refused faults is none = by (some_fault faults) (sym (marks_none [] faults) ∙ (ap has_none (sym is) ∙ ap has_none (no_names refused none))) where
   by : (b : Bool) → not b ≡ true → b ≡ false
   by true e = absurd (false≢true e)
   by false e = refl
 
-pub a_fault : (refused : Named Bool) (faults : List (PropName × Option Refusal)) → refused ≡ marks [] faults → (length refused == 0) ≡ false → some_fault faults ≡ true
-a_fault refused faults is some = by (some_fault faults) (sym (marks_none [] faults) ∙ (ap (λ m. length m == 0) (sym is) ∙ some)) where
+pub a_fault : (refused : Named Bool) (faults : List (PropName × Option Refusal)) → refused ≡ marks [] faults → 0 < length refused → some_fault faults ≡ true
+a_fault refused faults is some = by (some_fault faults) (sym (marks_none [] faults) ∙ (ap has_none (sym is) ∙ some_names refused some)) where
   by : (b : Bool) → not b ≡ false → b ≡ true
   by true e = refl
   by false e = absurd (false≢true (sym e))
@@ -206,3 +195,10 @@ sorted_none = tt
 pub no_refusal : (fault : Option Fault) → is_some fault ≡ false → None ≡ option_map refusal_of fault
 no_refusal None e = refl
 no_refusal (Some fault) e = absurd (false≢true (sym e))
+
+pub passed_fine : (making : Bool) (texts : Texts) (set : PropSet) → None ≡ setting_fault making texts set → texts_after texts set ≡ texts_passed making texts set
+passed_fine making texts set e = ap (λ (fault : Option Refusal). if is_some fault then texts else texts_after texts set) e
+
+pub on_ok : {X E A B : Type 0} (result : Result X E) → (A → B) → OnOk result A → OnOk result B
+on_ok (Ok x) f a = f a
+on_ok (Err e) f a = tt
