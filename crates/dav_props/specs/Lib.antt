@@ -1,5 +1,4 @@
 pub mod Rows
 pub mod Subjects
 pub mod Contents
-pub mod PropertyTags
 pub mod Answers

@@ -8,11 +8,9 @@
 mod access;
 mod answers;
 mod contents;
-mod hrefs;
 mod privileges_held;
 mod rows;
 mod subjects;
-mod tags;
 mod texts;
 
 pub use answers::DavAnswers;
