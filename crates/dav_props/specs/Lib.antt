@@ -1,7 +1,6 @@
 pub mod Rows
 pub mod Subjects
 pub mod Contents
-pub mod PropertyTags
 pub mod Answers
 pub mod KeptTexts
 pub mod SettingFaults

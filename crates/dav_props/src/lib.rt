@@ -8,7 +8,6 @@
 mod access;
 mod answers;
 mod contents;
-mod hrefs;
 mod kept_texts;
 mod privileges_held;
 mod rows;
@@ -17,7 +16,6 @@ mod setting_faults;
 mod setting_names;
 mod setting_replies;
 mod subjects;
-mod tags;
 mod texts;
 
 pub use answers::DavAnswers;
