@@ -1,6 +1,6 @@
 -- The faults of settings, the names of those that are refused, and the answers to all.
-use Rattle.std.proofs.Common.{◌≡◌, ℕ, zero, suc, ◌+◌, ◌<◌, ◌≤◌, arith, take, Bool, true, false, cond, List, [], ◌∷◌, ◌++◌, map, filter, length, drop, get_or, Option, Some, None, refl, sym, ap, ap₂, ◌∙◌, subst, add-one}
-use Rattle.std.specs.Prelude.{bytes_eq, not, ◌&&◌, ◌||◌, ◌==◌, is_some, option_map, if◌then◌else◌, Result, Ok, Err, OnOk}
+use Rattle.std.proofs.Common.{◌≡◌, ℕ, zero, suc, ◌+◌, ◌<◌, ◌≤◌, arith, take, Bool, true, false, cond, List, [], ◌∷◌, ◌++◌, map, length, drop, get_or, Option, Some, None, refl, sym, ap, ap₂, ◌∙◌, add-one}
+use Rattle.std.specs.Prelude.{bytes_eq, not, ◌&&◌, ◌||◌, is_some, option_map, if◌then◌else◌, Result, Ok, Err, OnOk}
 use Rattle.std.specs.List.Sorted.{IsStrictlySortedBy}
 use Rattle.std.specs.declared.cmp.Ordering.{Ordering}
 use Rattle.std.specs.declared.cmp.Ordering.TheVariants.{Less, Equal, Greater}
@@ -18,17 +18,16 @@ use Rattle.cal_model.specs.declared.reply.Refusal.{Refusal}
 use Rattle.cal_model.specs.Access.Privileges.{same_name}
 use Rattle.cal_model.specs.State.PropertyTexts.{Texts, prop_order}
 use Rattle.cal_model.specs.Objects.ObjectReading.{first_there}
-use Rattle.cal_model.specs.Properties.PropertyTable.{Answer, without_value, row_of, Setting, is_text}
+use Rattle.cal_model.specs.Properties.PropertyTable.{without_value, row_of}
 use Rattle.cal_model.specs.Properties.PropertyReplies.{once, is_refused, setting_answers}
-use Rattle.cal_model.specs.Properties.Settings.{protected_property, may_be_set, faults_of_value, setting_fault, texts_after, texts_with_value, is_kinds, faults_of_all, first_fault}
+use Rattle.cal_model.specs.Properties.Settings.{setting_fault, texts_after, texts_with_value, is_kinds, faults_of_all}
 use Rattle.cal_model.specs.Refusals.ChangeRefusals.{some_fault}
-use Rattle.cal_model.specs.Refusals.RefusalReplies.{refused_where}
 use Rattle.cal_model.specs.Serving.EventReplies.{all_set}
 use Rattle.cal_model.proofs.State.OrderLaws.{sorted-insert, sorted-remove}
 use Rattle.multistatus.specs.NameKeys.{key}
 use Rattle.dav_props.specs.declared.setting_faults.Fault.{Fault}
-use Rattle.dav_props.specs.KeptTexts.{kept_names, marked_by, marks, TellsRefused, answer_in, status_in}
-use Rattle.dav_props.specs.SettingFaults.{is_barred, refusal_of}
+use Rattle.dav_props.specs.KeptTexts.{marked_by, marks, TellsRefused, answer_in}
+use Rattle.dav_props.specs.SettingFaults.{refusal_of}
 use Rattle.dav_props.specs.SettingChecks.{texts_passed, fault_in}
 use Rattle.dav_props.proofs.SettingLemmas.{props_total, key_order, at_same}
 

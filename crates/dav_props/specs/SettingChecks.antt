@@ -1,5 +1,5 @@
 -- What a check of settings tells, with its reply.
-use Rattle.std.specs.Prelude.{◌≡◌, Bool, true, false, List, [], is_some, map, Option, Some, None, if◌then◌else◌}
+use Rattle.std.specs.Prelude.{◌≡◌, Bool, true, false, List, is_some, map, Option, Some, None, if◌then◌else◌}
 use Rattle.cal_model.specs.declared.path.Path.{Path}
 use Rattle.cal_model.specs.declared.property.PropName.{PropName}
 use Rattle.cal_model.specs.declared.property.PropSet.{PropSet}

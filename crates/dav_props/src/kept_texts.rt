@@ -26,11 +26,7 @@ pub(crate) fn kept_of(alloc: Global, texts: &[PropSet]) -> Result<NameMap<bool>,
 }
 
 /// Carries a setting out on the names of the texts.
-pub(crate) fn keep(
-    alloc: Global,
-    set: &PropSet,
-    kept: &mut NameMap<bool>,
-) -> Result<(), NoMemory>
+pub(crate) fn keep(alloc: Global, set: &PropSet, kept: &mut NameMap<bool>) -> Result<(), NoMemory>
     ensures { OnOk result (kept.new ≡ names_after kept.old set.now) }
 {
     if !is_text(&set.name) {

@@ -88,9 +88,7 @@ fn fault_of_value(
         Setting::Protected => Ok(Some(Fault::Protected)),
         Setting::Text => fault_of_text(alloc, kept, name, value),
         Setting::Zone => Ok(fault_of_zone(alloc, value)?),
-        Setting::Kinds => Ok(protected_where(
-            is_no_text(value) || !kinds_are_known(value),
-        )),
+        Setting::Kinds => Ok(protected_where(is_no_text(value) || !kinds_are_known(value))),
     }
 }
 
@@ -98,7 +96,11 @@ fn fault_of_value(
 fn protected_where(applies: bool) -> Option<Fault>
     ensures { option_map refusal_of result ≡ refused_where applies spec.protected_property }
 {
-    if applies { Some(Fault::Protected) } else { None }
+    if applies {
+        Some(Fault::Protected)
+    } else {
+        None
+    }
 }
 
 /// Why a text cannot be set.

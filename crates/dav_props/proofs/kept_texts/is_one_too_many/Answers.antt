@@ -1,8 +1,6 @@
-use Rattle.std.proofs.Common.{◌∙◌, ◌≡◌, sym, ap, true, false, arith, ◌<◌, ◌≤◌, length}
-use Rattle.std.specs.Prelude.{is_some, not}
+use Rattle.std.proofs.Common.{◌∙◌, sym, ap, true, false, arith}
+use Rattle.std.specs.Prelude.{is_some}
 use Rattle.cal_base.specs.Lists.NameMap.{value_at}
-use Rattle.cal_model.specs.Properties.PropertyTable.{is_text}
-use Rattle.multistatus.specs.NameKeys.{key}
 use Rattle.dav_props.proofs.SettingLemmas.{many_few, many_there}
 use Rattle.dav_props.proofs.kept_texts.is_one_too_many.Goals as goal
 

@@ -1,4 +1,4 @@
-use Rattle.std.proofs.Common.{◌≡◌, ◌∙◌, ◌-◌, ◌+◌, ◌<◌, sym, ap, arith, length, drop, get_or}
+use Rattle.std.proofs.Common.{◌≡◌, ◌∙◌, ◌-◌, ◌+◌, sym, ap, arith, length, drop, get_or}
 use Rattle.cal_model.specs.State.PropertyTexts.{as_settings}
 use Rattle.dav_props.specs.KeptTexts.{kept_names, names_after}
 use Rattle.dav_props.proofs.SettingLemmas.{kept_one, settings_length}

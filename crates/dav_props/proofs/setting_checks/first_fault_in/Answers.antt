@@ -14,6 +14,9 @@ loop-set-preserved c start =
     let before = c.loop-set.invariant start in
     let set = c.set-item.result in
     let at = c.loop-set.set-index in
-    let fine : None ≡ setting_fault true before.0 set = no_refusal c.in_ok-fault.fault (sym c.is_some.ensures ∙ c.if-is_some.false) ∙ c.in_ok-fault.ensures before.0 before.2 in
-    (texts_after before.0 set, in_order-after before.0 set before.1, c.in_ok-keep.ensures ∙ (ap (λ kept. names_after kept set) before.2 ∙ kept_after before.0 set before.1),
-    sym (fault_passed true before.0 set (drop (at + 1) c.args.sets.now) fine) ∙ (ap (λ sets. fault_in (faults_of_all true before.0 sets)) (sets_behind c.args.sets.now at set c.loop-set-test.true c.set-item.is) ∙ before.3))
+    let fine : None ≡ setting_fault true before.0 set = no_refusal c.in_ok-fault.fault (sym c.is_some.ensures ∙ c.if-is_some.false) ∙ c.in_ok-fault.ensures before.0 before.2 in (
+      texts_after before.0 set,
+      in_order-after before.0 set before.1,
+      c.in_ok-keep.ensures ∙ (ap (λ kept. names_after kept set) before.2 ∙ kept_after before.0 set before.1),
+      sym (fault_passed true before.0 set (drop (at + 1) c.args.sets.now) fine) ∙ (ap (λ sets. fault_in (faults_of_all true before.0 sets)) (sets_behind c.args.sets.now at set c.loop-set-test.true c.set-item.is) ∙ before.3),
+    )

@@ -1,4 +1,4 @@
-use Rattle.std.proofs.Common.{◌≡◌, ◌∙◌, sym, ap, None, false}
+use Rattle.std.proofs.Common.{◌≡◌, ◌∙◌, sym, ap, false}
 use Rattle.std.specs.Prelude.{option_map}
 use Rattle.std.specs.List.Sorted.{IsStrictlySortedBy}
 use Rattle.std.specs.Map.{keys_of}
@@ -16,7 +16,7 @@ returns-in-None-clause-kept c =
     on_ok {A = c.keep.new.kept ≡ names_after c.args.kept.now set}
     {B = (texts : Texts) → IsStrictlySortedBy prop_order (keys_of texts) → c.args.kept.now ≡ kept_names texts → c.keep.new.kept ≡ kept_names (texts_passed false texts set)} c.keep.result
     (λ done texts s is.
-        done
-        ∙ (ap (λ kept. names_after kept set) is
-        ∙ (kept_after texts set s ∙ ap kept_names (passed_fine false texts set (ap (option_map refusal_of) (sym c.in-None.is) ∙ c.in_ok-fault_of.ensures texts is)))))
+    done
+    ∙ (ap (λ kept. names_after kept set) is
+    ∙ (kept_after texts set s ∙ ap kept_names (passed_fine false texts set (ap (option_map refusal_of) (sym c.in-None.is) ∙ c.in_ok-fault_of.ensures texts is)))))
     c.keep.ensures

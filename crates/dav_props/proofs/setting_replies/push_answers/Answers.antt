@@ -1,4 +1,4 @@
-use Rattle.std.proofs.Common.{◌∙◌, ◌++◌, ◌∷◌, [], sym, ap, subst, take, map, List, ℕ, arith}
+use Rattle.std.proofs.Common.{subst, take, map, List}
 use Rattle.std.proofs.lemmas.List.{take_all}
 use Rattle.multistatus.specs.Answered.{IsAnswered}
 use Rattle.cal_model.specs.Properties.PropertyTable.{Answer}

@@ -1,4 +1,4 @@
-use Rattle.std.proofs.Common.{◌≡◌, ◌∙◌, ◌++◌, sym, ap, ap₂, take, drop, length}
+use Rattle.std.proofs.Common.{◌≡◌, ◌∙◌, sym, ap, take, drop, length}
 use Rattle.std.proofs.Math.Seq.{drop-append_seam}
 use Rattle.cal_model.specs.Properties.PropertyReplies.{property_element}
 use Rattle.multistatus.specs.Answered.{IsAnswered}
