@@ -64,10 +64,6 @@ pub fault_passed : (making : Bool) (now : Texts) (set : PropSet) (sets : List Pr
 fault_passed making now set sets e =
     ap (λ (fault : Option Refusal). first_there (fault ∷ map (λ (entry : PropName × Option Refusal). entry.1) (faults_of_all making (if is_some fault then now else texts_after now set) sets))) (sym e)
 
-pub fault_met : (making : Bool) (now : Texts) (set : PropSet) (sets : List PropSet) (refusal : Refusal) → Some refusal ≡ setting_fault making now set → Some refusal ≡ fault_in (faults_of_all making now (set ∷ sets))
-fault_met making now set sets refusal e =
-    ap (λ (fault : Option Refusal). first_there (fault ∷ map (λ (entry : PropName × Option Refusal). entry.1) (faults_of_all making (if is_some fault then now else texts_after now set) sets))) e
-
 -- The names that are refused
 
 same_key : (a b : PropName) → bytes_eq (key a) (key b) ≡ same_name a b

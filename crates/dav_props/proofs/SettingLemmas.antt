@@ -254,10 +254,6 @@ pub settings_length : (texts : Texts) → length (as_settings texts) ≡ length 
 settings_length [] = refl
 settings_length (entry ∷ texts) = ap suc (settings_length texts)
 
-pub not_false : (b : Bool) → not b ≡ false → b ≡ true
-not_false true e = refl
-not_false false e = absurd (false≢true (sym e))
-
 -- Lists of kinds
 
 pub kinds_in_split : (value : List ℕ) → (length value == 0) ≡ false → kinds_in value ≡ slice_split (λ octet. octet == 44) value

@@ -1,5 +1,5 @@
 //! The texts of a calendar while settings are looked at: of each its name alone.
-ghost use Rattle.std.specs.Prelude.{◌≡◌, [], IfOk, OnOk};
+ghost use Rattle.std.specs.Prelude.{◌≡◌, IfOk, OnOk};
 ghost use Rattle.std.specs.List.Sorted.{IsStrictlySortedBy};
 ghost use Rattle.std.specs.Map.{keys_of};
 ghost use Rattle.cal_model.specs.State.PropertyTexts.{Texts, prop_order, as_settings};

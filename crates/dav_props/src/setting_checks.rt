@@ -3,11 +3,10 @@ ghost use Rattle.std.specs.Prelude.{◌≡◌, [], IfOk, OnOk, option_map, false
 ghost use Rattle.std.specs.List.Sorted.{IsStrictlySortedBy};
 ghost use Rattle.std.specs.Map.{keys_of};
 ghost use Rattle.cal_model.specs.State.PropertyTexts.{Texts, prop_order, as_settings};
-ghost use Rattle.cal_model.specs.Objects.ObjectReading.{first_there};
 ghost use Rattle.cal_model.specs.Properties.Settings.{setting_fault, faults_of_all, first_fault};
 ghost use Rattle.dav_props.specs.KeptTexts.{kept_names, marked_by, marks};
 ghost use Rattle.dav_props.specs.SettingFaults.{refusal_of};
-ghost use Rattle.dav_props.specs.SettingChecks.{IsPatchChecked, IsMakeChecked, texts_passed, fault_in};
+ghost use Rattle.dav_props.specs.SettingChecks.{IsPatchChecked, IsMakeChecked, texts_passed};
 
 use crate::kept_texts::{keep, kept_of};
 use crate::setting_faults::{Fault, fault_of};

@@ -1,11 +1,10 @@
 //! Why a setting is refused (RFC 4918, 9.2; RFC 4791, 5.2 and 5.3.1).
-ghost use Rattle.std.specs.Prelude.{◌≡◌, ◌<◌, ◌^◌, ◌||◌, ◌==◌, not, nat_lt, length, if◌then◌else◌, Some, None, IfOk, option_map, is_ok};
-ghost use Rattle.cal_model.specs.State.PropertyTexts.{Texts, name_size};
+ghost use Rattle.std.specs.Prelude.{◌≡◌, ◌<◌, ◌^◌, ◌||◌, ◌==◌, not, nat_lt, length, if◌then◌else◌, IfOk, option_map, is_ok};
+ghost use Rattle.cal_model.specs.State.PropertyTexts.{Texts};
 ghost use Rattle.cal_model.specs.Objects.ObjectReading.{first_there, read_zone as zone_read};
 ghost use Rattle.cal_model.specs.Properties.Settings as spec;
 ghost use Rattle.cal_model.specs.Properties.PropertyTable.{text, zone};
 ghost use Rattle.cal_model.specs.Refusals.RefusalReplies.{refused_where};
-ghost use Rattle.cal_model.specs.Refusals.RequestLimits.{value_limit, zone_limit};
 ghost use Rattle.dav_props.specs.Rows.{setting_of};
 ghost use Rattle.dav_props.specs.KeptTexts.{kept_names};
 ghost use Rattle.dav_props.specs.SettingFaults.{refusal_of, is_barred as barred};

@@ -1,10 +1,9 @@
 //! The replies to settings (RFC 4918, 9.2.1 and 16).
-ghost use Rattle.std.specs.Prelude.{◌≡◌, ◌++◌, ◌∷◌, [], ℕ, List, Option, IfOk, OnOk, is_some, map, if◌then◌else◌};
-ghost use Rattle.cal_base.specs.Lists.NameMap.{value_at};
+ghost use Rattle.std.specs.Prelude.{◌≡◌, ◌++◌, ◌∷◌, [], ℕ, List, Option, IfOk, OnOk, map};
 ghost use Rattle.cal_model.specs.declared.property.PropName.{PropName as Name};
 ghost use Rattle.cal_model.specs.declared.property.PropSet.{PropSet as Setting};
 ghost use Rattle.cal_model.specs.declared.reply.Refusal.{Refusal as Refused};
-ghost use Rattle.cal_model.specs.Properties.PropertyReplies.{propstats, is_refused, setting_answers, settings_reply as reply_to_settings};
+ghost use Rattle.cal_model.specs.Properties.PropertyReplies.{propstats, setting_answers, settings_reply as reply_to_settings};
 ghost use Rattle.cal_model.specs.Properties.PropertyTable.{Answer};
 ghost use Rattle.cal_model.specs.Refusals.RefusalReplies.{refusal_reply as reply_to_fault};
 ghost use Rattle.cal_model.specs.Replies.BareReplies.{bare_reply};
@@ -12,7 +11,6 @@ ghost use Rattle.cal_model.specs.Replies.ReplyForms.{xml_reply as reply_of_xml};
 ghost use Rattle.cal_model.specs.Replies.XmlText.{multistatus, response as response_text};
 ghost use Rattle.cal_model.specs.Replies.Hrefs.{href as href_of};
 ghost use Rattle.multistatus.specs.Answered.{IsAnswered};
-ghost use Rattle.multistatus.specs.NameKeys.{key};
 ghost use Rattle.dav_props.specs.SettingFaults.{refusal_of};
 ghost use Rattle.dav_props.specs.KeptTexts.{status_in, answer_in, TellsRefused};
 
