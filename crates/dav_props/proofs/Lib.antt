@@ -1,6 +1,7 @@
 pub mod RowLemmas
 pub mod TextLemmas
 pub mod PieceLemmas
-pub mod TagLemmas
 pub mod StatusLemmas
 pub mod SeenLemmas
+pub mod SettingLemmas
+pub mod FaultLemmas

@@ -13,7 +13,7 @@ use Rattle.cal_model.specs.declared.privilege.Who.TheVariants.{Everyone, Owner, 
 use Rattle.cal_model.specs.State.ServerState.{Directory, user_name}
 use Rattle.cal_model.specs.Replies.XmlText.{element}
 use Rattle.dav_write.proofs.ErrorLemmas.{filled}
-use Rattle.dav_props.proofs.TagLemmas.{href_pieces}
+use Rattle.multistatus.proofs.TagLemmas.{href_pieces}
 use Rattle.cal_model.specs.Refusals.RefusalReplies.{privileges_of}
 use Rattle.cal_model.specs.Replies.ReplyElements.{privilege_element}
 use Rattle.dav_props.specs.Contents.{bit_piece, bit_pieces, piece_where, ace_front}

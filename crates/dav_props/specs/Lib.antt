@@ -1,5 +1,7 @@
 pub mod Rows
 pub mod Subjects
 pub mod Contents
-pub mod PropertyTags
 pub mod Answers
+pub mod KeptTexts
+pub mod SettingFaults
+pub mod SettingChecks

@@ -6,12 +6,11 @@ ghost use Rattle.cal_model.specs.State.SoundStates.{AreToUsers, IsToUser};
 ghost use Rattle.std.specs.Prelude.{codes};
 ghost use Rattle.dav_props.specs.Contents.{ace_front};
 
-use crate::hrefs::push_principal;
 use crate::privileges_held::push_privileges;
-use crate::tags::{push_close, push_open};
 use cal_base::{NoMemory, Octets};
 use cal_model::view::View;
 use cal_model::{Acl, Grant, Seen, Who};
+use multistatus::{push_close, push_open, push_principal};
 use std::alloc::Global;
 
 /// The ace of the owner, who holds all and from whom nothing is taken.

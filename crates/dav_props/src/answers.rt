@@ -13,11 +13,11 @@ ghost use Rattle.dav_props.specs.Answers.{answered, is_there_at, has_text_set};
 use crate::contents::push_content;
 use crate::rows::{Asked, Row, asked_for, columns_of};
 use crate::subjects::{Subject, has_all, held_on, is_on, subject_at};
-use crate::tags::{push_close, push_open};
 use crate::texts::text_of;
 use cal_base::{NoMemory, Octets};
 use cal_model::view::View;
 use cal_model::{Path, PropAnswers, PropName, Seen};
+use multistatus::{push_close, push_open};
 use std::alloc::Global;
 
 /// The answers of this server to properties.

@@ -9,17 +9,16 @@ ghost use Rattle.dav_props.specs.Rows.{asked_name};
 ghost use Rattle.dav_props.specs.Subjects.{HasUsers};
 
 use crate::access::push_acl;
-use crate::hrefs::{push_home, push_principal};
 use crate::privileges_held::{push_held, push_if_all};
 use crate::rows::{Asked, Row};
 use crate::subjects::{Subject, held_on};
-use crate::tags::push_text;
 use crate::texts::text_of;
 use cal_base::{NoMemory, Octets};
 use cal_model::Seen;
 use cal_model::view::View;
 use cal_moment::{Utc, write_utc};
 use itoa::Buffer;
+use multistatus::{push_home, push_principal, push_text};
 use std::alloc::Global;
 
 /// The first and the last moment of the dates that are served.

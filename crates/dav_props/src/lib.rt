@@ -8,11 +8,15 @@
 mod access;
 mod answers;
 mod contents;
-mod hrefs;
+mod kept_texts;
 mod privileges_held;
 mod rows;
+mod setting_checks;
+mod setting_faults;
+mod setting_names;
+mod setting_replies;
 mod subjects;
-mod tags;
 mod texts;
 
 pub use answers::DavAnswers;
+pub use setting_checks::{PatchCheck, check_make, check_patch};

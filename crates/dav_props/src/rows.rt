@@ -248,7 +248,7 @@ pub(crate) fn row_of(name: &PropName) -> Row
 }
 
 /// The first of some properties that has a name.
-fn first_named<'r>(rows: &'r [Row], name: &PropName) -> Option<&'r Row>
+pub(crate) fn first_named<'r>(rows: &'r [Row], name: &PropName) -> Option<&'r Row>
     ensures { option_copied result ≡ find (λ row. same_name (spec.name_of row) name.now) rows.now }
 {
     rows.iter().find(|row| is_named(**row, name))

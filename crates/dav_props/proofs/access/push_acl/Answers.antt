@@ -2,7 +2,7 @@ use Rattle.std.proofs.Common.{◌++◌, ap, ◌∙◌}
 use Rattle.std.specs.Prelude.{flat_map}
 use Rattle.cal_model.specs.Properties.PropertyValues.{owner_ace, grant_element}
 use Rattle.dav_write.proofs.Appending.{then_more, on_ok_then}
-use Rattle.dav_props.proofs.TagLemmas.{behind_front}
+use Rattle.multistatus.proofs.TagLemmas.{behind_front}
 use Rattle.dav_props.proofs.access.push_acl.Goals as goal
 
 pub returns-clause-text : goal.returns-clause-text

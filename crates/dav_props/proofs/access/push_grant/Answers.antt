@@ -5,7 +5,7 @@ use Rattle.cal_model.specs.Replies.XmlText.{element}
 use Rattle.dav_write.proofs.Appending.{then_more, on_ok_then}
 use Rattle.dav_props.specs.Contents.{ace_front}
 use Rattle.dav_props.proofs.PieceLemmas.{grant_pieces}
-use Rattle.dav_props.proofs.TagLemmas.{behind_front, ends_front}
+use Rattle.multistatus.proofs.TagLemmas.{behind_front, ends_front}
 use Rattle.dav_props.proofs.access.push_grant.Goals as goal
 
 pub returns-clause-text : goal.returns-clause-text

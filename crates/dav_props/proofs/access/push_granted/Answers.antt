@@ -2,8 +2,8 @@ use Rattle.std.proofs.Common.{◌++◌, length, ap, ◌∙◌}
 use Rattle.std.specs.Prelude.{codes}
 use Rattle.dav_write.proofs.Appending.{on_ok_then}
 use Rattle.cal_model.specs.Properties.PropertyValues.{bit_elements}
-use Rattle.dav_props.specs.PropertyTags.{opened}
-use Rattle.dav_props.proofs.TagLemmas.{closed_is, within, kept_front, front_stays, opened_behind}
+use Rattle.multistatus.specs.PropertyTags.{opened}
+use Rattle.multistatus.proofs.TagLemmas.{closed_is, within, kept_front, front_stays, opened_behind}
 use Rattle.dav_props.proofs.access.push_granted.Goals as goal
 
 pub push_close-requires : goal.push_close-requires

@@ -1,8 +1,8 @@
 use Rattle.std.proofs.Common.{◌++◌, ap, ◌∙◌, append_assoc}
 use Rattle.std.specs.Prelude.{codes}
 use Rattle.dav_write.proofs.Appending.{on_ok_then}
-use Rattle.dav_props.specs.PropertyTags.{opened}
-use Rattle.dav_props.proofs.TagLemmas.{named-empty}
+use Rattle.multistatus.specs.PropertyTags.{opened}
+use Rattle.multistatus.proofs.TagLemmas.{named-empty}
 use Rattle.dav_props.proofs.answers.push_empty.Goals as goal
 
 pub returns-clause-element : goal.returns-clause-element

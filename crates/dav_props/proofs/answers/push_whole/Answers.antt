@@ -3,11 +3,11 @@ use Rattle.std.specs.Prelude.{codes}
 use Rattle.dav_write.proofs.Appending.{on_ok_then}
 use Rattle.cal_model.specs.Properties.PropertyTable.{Answer}
 use Rattle.cal_model.specs.Properties.PropertyReplies.{property_element}
-use Rattle.dav_props.specs.PropertyTags.{opened}
+use Rattle.multistatus.specs.PropertyTags.{opened}
 use Rattle.dav_props.specs.Contents.{shown_content}
 use Rattle.dav_props.specs.Rows.{asked_name}
 use Rattle.dav_props.proofs.StatusLemmas.{is_on_at, is_held_at, value_at, content_is, answer_whole}
-use Rattle.dav_props.proofs.TagLemmas.{closed_is, within, kept_front, front_stays, opened_behind}
+use Rattle.multistatus.proofs.TagLemmas.{closed_is, within, kept_front, front_stays, opened_behind}
 use Rattle.dav_props.proofs.answers.push_whole.Goals as goal
 
 pub push_close-requires : goal.push_close-requires
