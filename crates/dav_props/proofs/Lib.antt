@@ -3,3 +3,5 @@ pub mod TextLemmas
 pub mod PieceLemmas
 pub mod StatusLemmas
 pub mod SeenLemmas
+pub mod TellingLemmas
+pub mod MemberLemmas

@@ -67,7 +67,7 @@ same_name-true a b e =
     λ i. record { space = space i; name = name i }
 
 -- the definition's look-up is the code's
-looked_up : (name : PropName) → listed_row name ≡ option_map (λ row. property_of row (name_of row)) (find (λ row. same_name (name_of row) name) listed_rows)
+pub looked_up : (name : PropName) → listed_row name ≡ option_map (λ row. property_of row (name_of row)) (find (λ row. same_name (name_of row) name) listed_rows)
 looked_up name =
     ap (find (λ (p : Property). same_name p.name name)) properties_are
     ∙ find_map (λ (p : Property). same_name p.name name) (λ row. same_name (name_of row) name) (λ row. property_of row (name_of row))

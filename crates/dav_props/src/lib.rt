@@ -8,9 +8,13 @@
 mod access;
 mod answers;
 mod contents;
+mod members;
 mod privileges_held;
+mod replies;
 mod rows;
 mod subjects;
+mod telling;
 mod texts;
 
 pub use answers::DavAnswers;
+pub use replies::find;
