@@ -5,3 +5,4 @@ pub mod StatusLemmas
 pub mod SeenLemmas
 pub mod TellingLemmas
 pub mod MemberLemmas
+pub mod FindLemmas

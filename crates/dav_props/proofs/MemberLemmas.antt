@@ -1,9 +1,9 @@
 -- The members of what is seen at a path, as they are met in a store.
-use Rattle.std.proofs.Common.{◌≡◌, ℕ, ◌+◌, ◌<◌, ◌≤◌, Bool, true, false, not, ◌||◌, cond, ◌==◌, List, [], ◌∷◌, ◌++◌, map, length, Option, Some, None, refl, sym, ap, ◌∙◌, subst, append-nil, append_assoc, length-append, arith}
-use Rattle.std.specs.Prelude.{filter, flat_map, option_map, option_and_then, option_to_list, slice_get, unwrap_or}
+use Rattle.std.proofs.Common.{◌≡◌, ℕ, ◌+◌, ◌<◌, ◌≤◌, Bool, true, false, not, ◌||◌, cond, ◌==◌, List, [], ◌∷◌, ◌++◌, map, length, Option, Some, None, refl, sym, ap, suc, ◌∙◌, subst, append-nil, append_assoc, length-append, arith}
+use Rattle.std.specs.Prelude.{All, filter, flat_map, option_map, option_and_then, option_to_list, slice_get, unwrap_or}
 use Rattle.std.proofs.lemmas.Bool.Decides.{nat_tests}
 use Rattle.std.proofs.lemmas.Map.Entries.{option_filter}
-use Rattle.cal_base.specs.Lists.NameMap.{Named, value_at}
+use Rattle.cal_base.specs.Lists.NameMap.{Named, name_order, value_at, above, next_above}
 use Rattle.cal_model.specs.declared.path.Path.{Path}
 use Rattle.cal_model.specs.declared.path.Path.TheVariants.{Root, Principal, Home, Calendar as CalendarPath, Object as ObjectPath}
 use Rattle.cal_model.specs.declared.property.Props.{Props}
@@ -16,12 +16,16 @@ use Rattle.cal_model.specs.Sight.Resources.{Resource, calendar, object}
 use Rattle.cal_model.specs.Sight.Scenes.{scene_at, visible_home}
 use Rattle.cal_model.specs.Sight.Views.{Sight, View, held_on, contents_of, only_where, sight_of, sight_with, seen_by, home_by, visible_calendars}
 use Rattle.cal_model.specs.State.ServerState.{Directory, Calendar, Home as UserHome, ServerState, user_number, home_at, calendar_at}
-use Rattle.cal_model.specs.State.SoundStates.{IsSound}
-use Rattle.cal_model.specs.State.StoredData.{data_of, data_at}
+use Rattle.cal_model.specs.State.SoundStates.{AreToUsers, IsSound, IsSoundCalendar, IsSoundHome}
+use Rattle.cal_model.specs.State.StoredData.{data_of, data_at, next_calendar}
 use Rattle.cal_model.specs.Words.Lists.{is_empty}
 use Rattle.cal_model.proofs.Sight.SceneLaws.{holds_some, home_in-view}
+use Rattle.std.specs.Ordering.{is_lt}
+use Rattle.std.specs.Map.{values_of}
+use Rattle.cal_model.proofs.State.NameWalkLaws.{home-sound}
+use Rattle.dav_props.specs.Subjects.{calendar_sight}
 use Rattle.dav_props.specs.Finding.{IsUpTo, asking, calendar_text, calendars_of, members_text, object_text, objects_of, with_last}
-use Rattle.dav_props.proofs.SeenLemmas.{calendar_by, no_calendar, some_calendar, sight_there, calendar_seen, some_held}
+use Rattle.dav_props.proofs.SeenLemmas.{calendar_by, no_calendar, some_calendar, sight_there, calendar_seen, sight_is, some_held, unseen_of}
 
 -- Up to a limit
 
@@ -172,18 +176,67 @@ module _ (directory : Directory) (state : ServerState) (who : ℕ) (props : Prop
       let there = some_calendar directory state who owner within kept e in
       let same : held ≡ held_on directory owner who there.0 = is ∙ ap (λ (k : CalendarData). privileges_held [] k.acl.grants owner who) there.2 in
       let sight = sight_of directory owner who there.0 in
-      let shown : holds_some directory owner who there.0 ≡ true = ap (λ h. not (h == 0)) (sym same) ∙ some_held directory state who held all in
-      (sight, sym same,
-      ap (λ (found : Option Calendar). flat_map (object_text directory who props user within sight) (flat_map (λ (c : Calendar). c.objects) (option_to_list found))) there.1
-      ∙ sym (calendar_members_are user within
-      ∙ ap (λ number. flat_map response_of (calendar_members user within (calendar_by directory state who number within))) (sym known)
-      ∙ ap (λ s. flat_map response_of (calendar_members user within s)) (sight_there directory state who owner within there.0 sound there.1 ∙ ap (λ b. cond b (Some sight) None) shown)
-      ∙ read_members user within there.0 (held_on directory owner who there.0) sight (ap (λ h. has_all h read) (sym same) ∙ all) refl))
+      let shown : holds_some directory owner who there.0 ≡ true = ap (λ h. not (h == 0)) (sym same) ∙ some_held directory state who held all in (
+        sight,
+        sym same,
+        ap (λ (found : Option Calendar). flat_map (object_text directory who props user within sight) (flat_map (λ (c : Calendar). c.objects) (option_to_list found))) there.1
+            ∙ sym (calendar_members_are user within
+            ∙ ap (λ number. flat_map response_of (calendar_members user within (calendar_by directory state who number within))) (sym known)
+            ∙ ap (λ s. flat_map response_of (calendar_members user within s)) (sight_there directory state who owner within there.0 sound there.1 ∙ ap (λ b. cond b (Some sight) None) shown)
+            ∙ read_members user within there.0 (held_on directory owner who there.0) sight (ap (λ h. has_all h read) (sym same) ∙ all) refl),
+      )
 
-  -- nothing else has members
-  pub no_members : (path : Path) → ((user : List ℕ) → path ≡ Home user → ⊥) → ((user name : List ℕ) → path ≡ CalendarPath user name → ⊥) → members_text directory state who props path ≡ []
-  no_members Root home calendar = refl
-  no_members (Principal user) home calendar = refl
-  no_members (Home user) home calendar = absurd (home user refl)
-  no_members (CalendarPath user name) home calendar = absurd (calendar user name refl)
-  no_members (ObjectPath user within name) home calendar = refl
+  -- the response of a calendar on which some privilege is held
+  pub calendar_written : (user name : List ℕ) (owner held : ℕ) (kept : CalendarData) (c : Calendar) → held ≡ privileges_held [] kept.acl.grants owner who → (held ≡ 0 → ⊥) → kept ≡ data_of owner c
+      → response_of (calendar user name (calendar_sight held kept (unseen_of directory state who owner name [] c))) ≡ calendar_text directory who props owner user (name, c)
+  calendar_written user name owner held kept c is some same =
+      let held_is : held ≡ held_on directory owner who c = is ∙ ap (λ (k : CalendarData). privileges_held [] k.acl.grants owner who) same in
+      let test : (held == 0) ≡ false = grind (arith, nat_tests) in
+      let text = response_of (calendar user name (sight_of directory owner who c)) in
+      ap (λ s. response_of (calendar user name s)) (sym (sight_is directory state who owner held name [] c kept held_is same))
+      ∙ sym (ap (λ b. cond b [] text) (ap (λ h. h == 0) (sym held_is) ∙ test))
+
+  pub object_written : (user within name octets : List ℕ) (held : ℕ) (sight : Sight) → sight.held ≡ held
+      → response_of (object user within name (record sight { held = held }) octets) ≡ object_text directory who props user within sight (name, octets)
+  object_written user within name octets held sight is = ap (λ h. response_of (object user within name (record sight { held = h }) octets)) (sym is)
+
+-- Walks
+
+-- the next one is one of them
+next_passes : (P : Calendar → Type 0) (named : Named Calendar) (name : List ℕ) (pair : List ℕ × Calendar) → All P (values_of named) → next_above named name ≡ Some pair → P pair.1
+next_passes P [] name pair all e = absurd cc
+next_passes P (first ∷ named) name pair all e =
+    by (is_lt (name_order name first.0)) (next_passes P named name pair (λ k d within. all (suc k) d (omega (arith, within)))) e where
+      by : (test : Bool) → (next_above named name ≡ Some pair → P pair.1) → slice_get (cond test (first ∷ above named name) (above named name)) 0 ≡ Some pair → P pair.1
+      by true later e = subst (λ (p : List ℕ × Calendar). P p.1) (ap (λ o. unwrap_or o first) e) (all 0 first.1 (omega arith))
+      by false later e = later e
+
+abbrev with_data : ℕ → List ℕ × Calendar → List ℕ × CalendarData
+with_data owner entry = (entry.0, data_of owner entry.1)
+
+pub grants_of_next : (directory : Directory) (state : ServerState) (owner : ℕ) (name next : List ℕ) (kept : CalendarData) → IsSound directory state → next_calendar state owner name ≡ Some (next, kept)
+    → AreToUsers directory kept.acl.grants
+grants_of_next directory state owner name next kept sound e = by (home_at state owner) refl e where
+  in_home : (home : UserHome) → IsSoundHome directory home → (found : Option (List ℕ × Calendar)) → next_above home.calendars name ≡ found
+      → option_map (with_data owner) found ≡ Some (next, kept) → AreToUsers directory kept.acl.grants
+  in_home home sound None there e = absurd cc
+  in_home home sound (Some pair) there e =
+      subst (λ (k : CalendarData). AreToUsers directory k.acl.grants) (ap (λ (o : Option (List ℕ × CalendarData)). (unwrap_or o (next, kept)).1) e)
+      (next_passes (IsSoundCalendar directory) home.calendars name pair sound.calendars there).grants
+
+  by : (found : Option UserHome) → home_at state owner ≡ found
+      → option_and_then (λ (h : UserHome). option_map (with_data owner) (next_above h.calendars name)) found ≡ Some (next, kept)
+      → AreToUsers directory kept.acl.grants
+  by None there e = absurd cc
+  by (Some home) there e = in_home home (home-sound directory state owner home sound there) (next_above home.calendars name) refl e
+
+-- one more was written
+pub step_on : {X : Type 0} (f : X → List ℕ) (x : X) (rest all : List X) (old new whole : List ℕ) → new ≡ old ++ f x → all ≡ x ∷ rest → old ++ flat_map f all ≡ whole → new ++ flat_map f rest ≡ whole
+step_on {X} f x rest all old new whole written is so_far =
+    ap (λ text. text ++ flat_map f rest) written ∙ append_assoc old (f x) (flat_map f rest) ∙ sym (ap (λ (xs : List X). old ++ flat_map f xs) is) ∙ so_far
+
+pub written_all : {X : Type 0} (f : X → List ℕ) (rest : List X) (written whole : List ℕ) → rest ≡ [] → written ++ flat_map f rest ≡ whole → written ≡ whole
+written_all {X} f rest written whole none so_far = sym (append-nil written) ∙ sym (ap (λ (xs : List X). written ++ flat_map f xs) none) ∙ so_far
+
+pub nothing_more : (limit : ℕ) (written more : List ℕ) → more ≡ [] → IsUpTo limit written (written ++ more)
+nothing_more limit written more none = up_to_whole limit written (written ++ more) (sym (ap (λ text. written ++ text) none ∙ append-nil written))
