@@ -1,6 +1,6 @@
 -- The whole reply to a PROPFIND.
 use Rattle.std.proofs.Common.{◌≡◌, ℕ, ◌+◌, ◌<◌, ◌≤◌, Bool, true, false, cond, List, [], ◌∷◌, ◌++◌, length, Option, Some, None, refl, sym, ap, ◌∙◌, subst, append-nil, append_assoc, length-append, arith}
-use Rattle.std.specs.Prelude.{IfOk, Result, Ok, Err, codes, flat_map, if◌then◌else◌, nat_lt, unwrap_or}
+use Rattle.std.specs.Prelude.{IfOk, OnOk, Result, Ok, Err, codes, flat_map, if◌then◌else◌, nat_lt, unwrap_or}
 use Rattle.std.proofs.lemmas.Bool.Decides.{nat_tests}
 use Rattle.std.proofs.lemmas.Grind.{flat_map-append}
 use Rattle.cal_model.specs.declared.path.Path.{Path}
@@ -14,11 +14,14 @@ use Rattle.cal_model.specs.Refusals.RequestLimits.{answer_limit}
 use Rattle.cal_model.specs.Replies.XmlText.{multistatus}
 use Rattle.cal_model.specs.Serving.ReadingReplies.{members_at, too_long}
 use Rattle.cal_model.specs.Serving.SeenResources.{resources_seen, scene_seen}
-use Rattle.cal_model.specs.Sight.Resources.{Resource}
+use Rattle.cal_model.specs.Sight.Resources.{Resource, path_of_resource}
 use Rattle.cal_model.specs.Sight.Scenes.{scene_at}
 use Rattle.cal_model.specs.State.ServerState.{Directory, ServerState}
 use Rattle.multistatus.specs.ReplyPieces.{begun}
 use Rattle.multistatus.proofs.ReplyLemmas.{begun_size, multistatus_filled}
+use Rattle.cal_model.specs.Replies.Hrefs.{href as href_of}
+use Rattle.dav_props.specs.declared.subjects.Subject.{Subject}
+use Rattle.dav_props.specs.Subjects.{IsSeenAs, Unseen, resource_of}
 use Rattle.dav_props.specs.Finding.{IsUpTo, asking, find_answered, found_reply}
 
 pub find_is : (directory : Directory) (state : ServerState) (who : ℕ) (path : Path) (props : Props) (deep : Bool)
@@ -87,3 +90,13 @@ found_by directory state who path props deep begin out (Ok reply) is known up =
     let responses = find_text directory state who path props deep in
     known responses (subst (λ (front : List ℕ). IsUpTo answer_limit out (front ++ responses)) is up) ∙ ap or_refused (find_is directory state who path props deep)
 found_by directory state who path props deep begin out (Err e) is known up = known
+
+-- the response of what is seen at a path
+pub itself_written : {X E : Type 0} (result : Result X E) (directory : Directory) (state : ServerState) (who : ℕ) (path : Path) (props : Props) (seen : Subject) → IsSeenAs directory state who path seen
+    → (href old new : List ℕ) → href ≡ href_of path
+    → OnOk result ((unseen : Unseen) → href ≡ href_of (path_of_resource (resource_of seen unseen)) → new ≡ old ++ resource_response (asking directory who) props (resource_of seen unseen))
+    → OnOk result (new ≡ old ++ flat_map (resource_response (asking directory who) props) (resources_seen directory state who path))
+itself_written (Ok x) directory state who path props seen there href old new at written =
+    written there.unseen (at ∙ ap href_of (sym there.path_is))
+    ∙ one_resource (resource_response (asking directory who) props) (resource_of seen there.unseen) (resources_seen directory state who path) old there.is
+itself_written (Err e) directory state who path props seen there href old new at written = tt
