@@ -1,21 +1,20 @@
 -- The members of what is seen at a path, as they are met in a store.
-use Rattle.std.proofs.Common.{◌≡◌, ℕ, ◌+◌, ◌<◌, ◌≤◌, Bool, true, false, not, ◌||◌, cond, ◌==◌, List, [], ◌∷◌, ◌++◌, map, length, Option, Some, None, refl, sym, ap, suc, ◌∙◌, subst, append-nil, append_assoc, length-append, arith}
+use Rattle.std.proofs.Common.{◌≡◌, ℕ, ◌<◌, Bool, true, false, not, ◌||◌, cond, ◌==◌, List, [], ◌∷◌, ◌++◌, map, length, Option, Some, None, refl, sym, ap, suc, ◌∙◌, subst, append-nil, append_assoc, length-append, arith}
 use Rattle.std.specs.Prelude.{All, filter, flat_map, option_map, option_and_then, option_to_list, slice_get, unwrap_or}
 use Rattle.std.proofs.lemmas.Bool.Decides.{nat_tests}
 use Rattle.std.proofs.lemmas.Map.Entries.{option_filter}
-use Rattle.cal_base.specs.Lists.NameMap.{Named, name_order, value_at, above, next_above}
+use Rattle.cal_base.specs.Lists.NameMap.{Named, name_order, above, next_above}
 use Rattle.cal_model.specs.declared.path.Path.{Path}
 use Rattle.cal_model.specs.declared.path.Path.TheVariants.{Root, Principal, Home, Calendar as CalendarPath, Object as ObjectPath}
 use Rattle.cal_model.specs.declared.property.Props.{Props}
 use Rattle.cal_model.specs.declared.store.CalendarData.{CalendarData}
 use Rattle.cal_model.specs.Access.Privileges.{privileges_held, has_all, read}
 use Rattle.cal_model.specs.Properties.PropertyReplies.{resource_response}
-use Rattle.cal_model.specs.Serving.ReadingReplies.{members_at, objects_seen}
-use Rattle.cal_model.specs.Serving.SeenResources.{scene_seen}
+use Rattle.cal_model.specs.Serving.ReadingReplies.{objects_seen}
 use Rattle.cal_model.specs.Sight.Resources.{Resource, calendar, object}
 use Rattle.cal_model.specs.Sight.Scenes.{scene_at, visible_home}
-use Rattle.cal_model.specs.Sight.Views.{Sight, View, held_on, contents_of, only_where, sight_of, sight_with, seen_by, home_by, visible_calendars}
-use Rattle.cal_model.specs.State.ServerState.{Directory, Calendar, Home as UserHome, ServerState, user_number, home_at, calendar_at}
+use Rattle.cal_model.specs.Sight.Views.{Sight, View, held_on, contents_of, only_where, sight_of, sight_with, seen_by, home_by}
+use Rattle.cal_model.specs.State.ServerState.{Directory, Calendar, Home as UserHome, ServerState, user_number, home_at}
 use Rattle.cal_model.specs.State.SoundStates.{AreToUsers, IsSound, IsSoundCalendar, IsSoundHome}
 use Rattle.cal_model.specs.State.StoredData.{data_of, data_at, next_calendar}
 use Rattle.cal_model.specs.Words.Lists.{is_empty}

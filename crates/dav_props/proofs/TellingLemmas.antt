@@ -8,7 +8,7 @@ use Rattle.std.proofs.lemmas.List.Elements.{filter-append}
 use Rattle.cal_model.specs.declared.property.PropName.{PropName}
 use Rattle.cal_model.specs.declared.property.PropSet.{PropSet}
 use Rattle.cal_model.specs.Access.Privileges.{same_name, has_all}
-use Rattle.cal_model.specs.Properties.PropertyTable.{Answer, Property, Listing, answer, answer_of_row, properties, row_of, listed_row, is_text, text_names, without_value}
+use Rattle.cal_model.specs.Properties.PropertyTable.{Answer, Property, Listing, answer, answer_of_row, properties, row_of, is_text, text_names, without_value}
 use Rattle.cal_model.specs.Properties.PropertyReplies.{with_status}
 use Rattle.cal_model.specs.Sight.Resources.{Resource, Asker, held_of}
 use Rattle.cal_model.specs.State.ServerState.{Directory}

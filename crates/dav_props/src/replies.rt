@@ -19,7 +19,7 @@ use cal_model::{Media, Path, PropName, Props, Reply, Seen};
 use multistatus::{begin_multistatus, end_multistatus, once};
 use std::alloc::Global;
 
-/// The condition of an answer that is too long (RFC 3253, 1.6; RFC 4791, 7.8).
+/// The body of the refusal of an answer that is too long (RFC 4791, 7.8).
 const TOO_LONG: &[u8] =
     b"<?xml version=\"1.0\" encoding=\"utf-8\"?>\n<D:error xmlns:D=\"DAV:\" xmlns:C=\"urn:ietf:params:xml:ns:caldav\"><D:number-of-matches-within-limits/></D:error>";
 

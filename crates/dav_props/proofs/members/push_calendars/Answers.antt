@@ -1,8 +1,7 @@
-use Rattle.std.proofs.Common.{◌≡◌, ℕ, ◌++◌, List, [], ◌∷◌, length, ◌<◌, refl, sym, ap, ◌∙◌, arith}
+use Rattle.std.proofs.Common.{◌++◌, length, ◌<◌, sym, ap, arith}
 use Rattle.std.specs.Prelude.{flat_map}
 use Rattle.cal_model.specs.Refusals.RequestLimits.{answer_limit}
 use Rattle.cal_model.specs.State.NameWalks.{calendars_above}
-use Rattle.cal_model.specs.State.ServerState.{Calendar}
 use Rattle.cal_model.proofs.State.NameWalkLaws.{calendars_above-end, calendars_above-first, calendars_above-next}
 use Rattle.dav_props.specs.Finding.{calendar_text, calendars_of}
 use Rattle.dav_props.proofs.MemberLemmas.{grants_of_next, step_on, up_to_front, up_to_whole, written_all}

@@ -1,4 +1,4 @@
-use Rattle.std.proofs.Common.{◌≡◌, ℕ, List, [], ◌++◌, sym, ap, ◌∙◌}
+use Rattle.std.proofs.Common.{ℕ, List, [], ◌++◌, ap, ◌∙◌}
 use Rattle.dav_write.proofs.Appending.{on_ok_then}
 use Rattle.cal_model.specs.declared.path.Path.TheVariants.{Object as ObjectPath}
 use Rattle.cal_model.specs.Replies.Hrefs.{href as href_of}

@@ -1,11 +1,6 @@
-use Rattle.std.proofs.Common.{◌≡◌, ◌≤◌, ◌<◌, ℕ, List, ◌++◌, length, sym, ap, ◌∙◌, subst, arith}
-use Rattle.cal_model.specs.declared.reply.Reply.{Reply}
-use Rattle.cal_model.specs.declared.reply.Media.TheVariants.{Xml}
-use Rattle.std.specs.Prelude.{None}
-use Rattle.cal_model.specs.Properties.PropertyReplies.{multistatus_reply}
+use Rattle.std.proofs.Common.{◌≤◌, ◌<◌, ℕ, List, length, ap, ◌∙◌, subst, arith}
 use Rattle.cal_model.specs.Refusals.RequestLimits.{answer_limit}
 use Rattle.cal_model.specs.Replies.ReplyForms.{xml_reply}
-use Rattle.cal_model.specs.Replies.XmlText.{multistatus}
 use Rattle.dav_props.proofs.FindLemmas.{long_before, long_reply, short_reply}
 use Rattle.dav_props.proofs.SeenLemmas.{if_ok_then}
 use Rattle.dav_props.proofs.replies.finish.Goals as goal

@@ -1,4 +1,4 @@
-use Rattle.std.proofs.Common.{◌≡◌, ℕ, ◌++◌, List, [], sym, ap, ◌∙◌}
+use Rattle.std.proofs.Common.{◌++◌, []}
 use Rattle.std.specs.Prelude.{flat_map, if◌then◌else◌}
 use Rattle.dav_write.proofs.Appending.{on_ok_then}
 use Rattle.cal_model.specs.Properties.PropertyReplies.{resource_response}

@@ -1,10 +1,7 @@
-use Rattle.std.proofs.Common.{◌≡◌, ℕ, ◌++◌, List, [], sym, ap, ◌∙◌}
-use Rattle.dav_write.proofs.Appending.{on_ok_then}
+use Rattle.std.proofs.Common.{◌∙◌}
 use Rattle.cal_model.specs.Properties.PropertyReplies.{resource_response}
-use Rattle.cal_model.specs.Replies.Hrefs.{href as href_of}
 use Rattle.cal_model.specs.Serving.SeenResources.{resources_seen}
 use Rattle.dav_props.specs.Finding.{asking}
-use Rattle.dav_props.specs.Subjects.{resource_of}
 use Rattle.dav_props.proofs.FindLemmas.{itself_written, no_resource}
 use Rattle.dav_props.proofs.replies.push_itself.Goals as goal
 

@@ -1,4 +1,4 @@
-use Rattle.std.proofs.Common.{◌≡◌, List, [], ◌++◌}
+use Rattle.std.proofs.Common.{◌≡◌, ◌++◌}
 use Rattle.cal_model.specs.Properties.PropertyReplies.{answers, propstats}
 use Rattle.cal_model.specs.Replies.XmlText.{response}
 use Rattle.dav_props.specs.Finding.{asking}

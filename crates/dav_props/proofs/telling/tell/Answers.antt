@@ -1,4 +1,3 @@
-use Rattle.std.proofs.Common.{sym}
 use Rattle.dav_props.proofs.telling.tell.Goals as goal
 
 pub returns-in-Every : goal.returns-in-Every

@@ -1,8 +1,7 @@
-use Rattle.std.proofs.Common.{List, [], ◌∷◌, ◌++◌, map, sym, ap, ◌∙◌}
+use Rattle.std.proofs.Common.{◌++◌, map, sym}
 use Rattle.std.specs.Prelude.{filter}
 use Rattle.dav_write.proofs.Appending.{on_ok_then}
-use Rattle.cal_model.specs.declared.property.PropName.{PropName}
-use Rattle.cal_model.specs.Properties.PropertyTable.{text_names, texts_seen, names_where}
+use Rattle.cal_model.specs.Properties.PropertyTable.{text_names, names_where}
 use Rattle.dav_props.specs.Finding.{asking, lists}
 use Rattle.dav_props.specs.Rows.{listed_rows, name_of, property_of}
 use Rattle.dav_props.specs.Subjects.{resource_of, texts_of}

@@ -1,4 +1,4 @@
-use Rattle.std.proofs.Common.{List, ℕ, [], ◌∷◌, refl, sym, ap, subst}
+use Rattle.std.proofs.Common.{List, ℕ, [], ◌∷◌, refl, sym, subst}
 use Rattle.cal_model.specs.Properties.PropertyReplies.{property_element}
 use Rattle.cal_model.specs.Properties.PropertyTable.{without_value}
 use Rattle.multistatus.specs.Answered.{IsAnswered}

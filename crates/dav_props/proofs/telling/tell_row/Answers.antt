@@ -1,4 +1,4 @@
-use Rattle.std.proofs.Common.{◌≡◌, List, [], ◌∷◌, map, true, sym, ap, ◌∙◌}
+use Rattle.std.proofs.Common.{◌≡◌, [], ◌∷◌, map, true, sym}
 use Rattle.std.specs.Prelude.{filter}
 use Rattle.dav_write.proofs.Appending.{on_ok_then}
 use Rattle.dav_props.specs.Finding.{asking, lists}

@@ -1,4 +1,4 @@
-use Rattle.std.proofs.Common.{ℕ, List, map, take}
+use Rattle.std.proofs.Common.{map, take}
 use Rattle.std.specs.Prelude.{filter}
 use Rattle.dav_props.specs.Finding.{Tells, asking, lists}
 use Rattle.dav_props.specs.Rows.{name_of, property_of}

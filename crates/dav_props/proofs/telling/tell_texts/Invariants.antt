@@ -1,4 +1,4 @@
-use Rattle.std.proofs.Common.{ℕ, List, map, take}
+use Rattle.std.proofs.Common.{take}
 use Rattle.cal_model.specs.Properties.PropertyTable.{text_names}
 use Rattle.dav_props.specs.Finding.{Tells, asking}
 use Rattle.dav_props.specs.Subjects.{Unseen, resource_of, texts_of}

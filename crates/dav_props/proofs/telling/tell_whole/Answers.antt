@@ -1,4 +1,4 @@
-use Rattle.std.proofs.Common.{List, ℕ, [], ◌∷◌, ◌++◌, None, refl, sym, ap, subst, ◌∙◌}
+use Rattle.std.proofs.Common.{List, ℕ, [], ◌∷◌, ◌++◌, None, sym, ap, subst, ◌∙◌}
 use Rattle.cal_model.specs.Properties.PropertyReplies.{property_element}
 use Rattle.cal_model.specs.Properties.PropertyTable.{Answer, answer}
 use Rattle.multistatus.specs.Answered.{IsAnswered}
