@@ -5,3 +5,6 @@ pub mod StatusLemmas
 pub mod SeenLemmas
 pub mod SettingLemmas
 pub mod FaultLemmas
+pub mod TellingLemmas
+pub mod MemberLemmas
+pub mod FindLemmas

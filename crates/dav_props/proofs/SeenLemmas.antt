@@ -36,11 +36,11 @@ if_ok_then (Ok x) next holds = next x holds
 if_ok_then (Err e) next holds = holds
 
 module _ (directory : Directory) (state : ServerState) (who : ℕ) where
-  abbrev view : View
+  abbrev pub view : View
   view = seen_by directory state who
 
   -- the calendar at a path, once its user is known
-  abbrev calendar_by : Option ℕ → List ℕ → Option Sight
+  abbrev pub calendar_by : Option ℕ → List ℕ → Option Sight
   calendar_by user name = at_both (option_and_then (visible_home view who) user) (Some name)
 
   -- and the resources there
@@ -50,7 +50,7 @@ module _ (directory : Directory) (state : ServerState) (who : ℕ) where
   abbrev objects_by : List ℕ → List ℕ → List ℕ → Option Sight → List Resource
   objects_by user within name sight = flat_map (λ (s : Sight). map (object user within name s) (option_to_list (at_both (octets_seen sight) (Some name)))) (option_to_list sight)
 
-  calendars_are : (user name : List ℕ) → resources_seen directory state who (CalendarPath user name) ≡ calendars_by user name (calendar_by (user_number directory user) name)
+  pub calendars_are : (user name : List ℕ) → resources_seen directory state who (CalendarPath user name) ≡ calendars_by user name (calendar_by (user_number directory user) name)
   unfolding scene_at
   calendars_are user name = refl
 
@@ -65,7 +65,7 @@ module _ (directory : Directory) (state : ServerState) (who : ℕ) where
   no_user_of_object user within name e = objects_are user within name ∙ ap (λ number. objects_by user within name (calendar_by number within)) (sym e)
 
   -- the calendar that is seen is that of the state, where some privilege is held
-  calendar_seen : (owner : ℕ) (name : List ℕ) → IsSound directory state
+  pub calendar_seen : (owner : ℕ) (name : List ℕ) → IsSound directory state
       → calendar_by (Some owner) name ≡ option_map (sight_of directory owner who) (option_filter (holds_some directory owner who) (calendar_at state owner name))
   calendar_seen owner name sound = by (home_at state owner) refl where
     by : (found : Option UserHome) → home_at state owner ≡ found → calendar_by (Some owner) name ≡ option_map (sight_of directory owner who) (option_filter (holds_some directory owner who) (calendar_at state owner name))
@@ -76,19 +76,19 @@ module _ (directory : Directory) (state : ServerState) (who : ℕ) where
     by (Some home) e = calendar_in-scene sight_of directory state who owner home name e (home-sound directory state owner home sound e).in_order
 
   -- a store's data are those of the calendar
-  data_is : (owner : ℕ) (name : List ℕ) → data_at state owner name ≡ option_map (data_of owner) (calendar_at state owner name)
+  pub data_is : (owner : ℕ) (name : List ℕ) → data_at state owner name ≡ option_map (data_of owner) (calendar_at state owner name)
   data_is owner name = by (home_at state owner) where
     by : (found : Option UserHome) → option_and_then (λ (h : UserHome). option_map (data_of owner) (value_at h.calendars name)) found ≡ option_map (data_of owner) (option_and_then (λ (h : UserHome). value_at h.calendars name) found)
     by None = refl
     by (Some home) = refl
 
-  no_calendar : (owner : ℕ) (name : List ℕ) → None ≡ data_at state owner name → calendar_at state owner name ≡ None
+  pub no_calendar : (owner : ℕ) (name : List ℕ) → None ≡ data_at state owner name → calendar_at state owner name ≡ None
   no_calendar owner name e = by (calendar_at state owner name) (e ∙ data_is owner name) where
     by : (found : Option Calendar) → None ≡ option_map (data_of owner) found → found ≡ None
     by None e = refl
     by (Some c) e = absurd cc
 
-  some_calendar : (owner : ℕ) (name : List ℕ) (kept : CalendarData) → Some kept ≡ data_at state owner name → (c : Calendar) × (calendar_at state owner name ≡ Some c) × (kept ≡ data_of owner c)
+  pub some_calendar : (owner : ℕ) (name : List ℕ) (kept : CalendarData) → Some kept ≡ data_at state owner name → (c : Calendar) × (calendar_at state owner name ≡ Some c) × (kept ≡ data_of owner c)
   some_calendar owner name kept e = by (calendar_at state owner name) (e ∙ data_is owner name) where
     by : (found : Option Calendar) → Some kept ≡ option_map (data_of owner) found → (c : Calendar) × (found ≡ Some c) × (kept ≡ data_of owner c)
     by None e = absurd cc
@@ -109,7 +109,7 @@ module _ (directory : Directory) (state : ServerState) (who : ℕ) where
       ∙ ap (objects_by user within name) (calendar_seen owner within sound ∙ ap (λ found. option_map (sight_of directory owner who) (option_filter (holds_some directory owner who) found)) (no_calendar owner within e))
 
   -- a calendar that is there, as it is seen
-  sight_there : (owner : ℕ) (name : List ℕ) (c : Calendar) → IsSound directory state → calendar_at state owner name ≡ Some c
+  pub sight_there : (owner : ℕ) (name : List ℕ) (c : Calendar) → IsSound directory state → calendar_at state owner name ≡ Some c
       → calendar_by (Some owner) name ≡ cond (holds_some directory owner who c) (Some (sight_of directory owner who c)) None
   sight_there owner name c sound there =
       calendar_seen owner name sound ∙ ap (λ found. option_map (sight_of directory owner who) (option_filter (holds_some directory owner who) found)) there
@@ -118,7 +118,7 @@ module _ (directory : Directory) (state : ServerState) (who : ℕ) where
         by true = refl
         by false = refl
 
-  not_zero : (n : ℕ) → (n ≡ 0 → ⊥) → not (n == 0) ≡ true
+  pub not_zero : (n : ℕ) → (n ≡ 0 → ⊥) → not (n == 0) ≡ true
   not_zero n some = let test : (n == 0) ≡ false = grind (arith, nat_tests) in ap not test
 
   pub hidden : (user name : List ℕ) (owner : ℕ) (kept : CalendarData) (held : ℕ) → IsSound directory state → Some owner ≡ user_number directory user → Some kept ≡ data_at state owner name
@@ -132,10 +132,10 @@ module _ (directory : Directory) (state : ServerState) (who : ℕ) where
       ∙ ap (calendars_by user name) (sight_there owner name found.0 sound found.1 ∙ ap (λ b. cond b (Some (sight_of directory owner who found.0)) None) test)
 
   -- what no property shows of a calendar
-  abbrev unseen_of : ℕ → List ℕ → List ℕ → Calendar → Unseen
+  abbrev pub unseen_of : ℕ → List ℕ → List ℕ → Calendar → Unseen
   unseen_of owner within name c = record { calendar = within; name = name; objects = c.objects; sight = sight_of directory owner who c }
 
-  sight_is : (owner held : ℕ) (within name : List ℕ) (c : Calendar) (kept : CalendarData) → held ≡ held_on directory owner who c → kept ≡ data_of owner c
+  pub sight_is : (owner held : ℕ) (within name : List ℕ) (c : Calendar) (kept : CalendarData) → held ≡ held_on directory owner who c → kept ≡ data_of owner c
       → sight_of directory owner who c ≡ calendar_sight held kept (unseen_of owner within name c)
   sight_is owner held within name c kept is same =
       ap (λ (texts : Texts). record {
@@ -183,7 +183,7 @@ module _ (directory : Directory) (state : ServerState) (who : ℕ) where
       ∙ unread user within name there.0 (held_on directory owner who there.0) (holds_some directory owner who there.0) (ap (λ h. has_all h read) (sym same) ∙ none)
 
   -- where read is held, some privilege is
-  some_held : (held : ℕ) → has_all held read ≡ true → not (held == 0) ≡ true
+  pub some_held : (held : ℕ) → has_all held read ≡ true → not (held == 0) ≡ true
   some_held zero h = absurd cc
   some_held (suc n) h = not_zero (suc n) (λ e. absurd (omega (arith, e)))
 

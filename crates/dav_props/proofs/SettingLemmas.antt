@@ -1,6 +1,6 @@
 -- The names of a calendar's texts, as settings change them, and which faults settings have.
 use Rattle.std.proofs.Common.{◌≡◌, ℕ, zero, suc, ◌+◌, ◌-◌, ◌<◌, ◌≤◌, drop, get_or, arith, Bool, true, false, cond, List, [], ◌∷◌, ◌++◌, length, Option, Some, None, refl, sym, ap, ap₂, ◌∙◌, subst}
-use Rattle.std.specs.Prelude.{bytes_eq, not, ◌&&◌, ◌==◌, find, is_some, is_none, option_map, unwrap_or, nat_le, if◌then◌else◌}
+use Rattle.std.specs.Prelude.{bytes_eq, not, ◌&&◌, ◌==◌, is_some, is_none, unwrap_or, nat_le, if◌then◌else◌}
 use Rattle.std.specs.List.{AllByRecursion, slice_split}
 use Rattle.std.specs.List.Sorted.{IsStrictlySortedBy}
 use Rattle.std.specs.declared.cmp.Ordering.{Ordering}
@@ -20,18 +20,10 @@ use Rattle.cal_model.specs.State.PropertyTexts.{Texts, prop_order, text_at, with
 use Rattle.cal_model.specs.Properties.PropertyTable.{Property, is_text, listed_row, row_of, text_row, text_names, in_both, text}
 use Rattle.cal_model.specs.Properties.Settings.{is_kinds, texts_after, texts_with_value, is_one_too_many, kinds_in}
 use Rattle.multistatus.specs.NameKeys.{marked, key}
-use Rattle.dav_props.specs.Rows.{name_of, property_of, listed_rows}
 use Rattle.dav_props.specs.KeptTexts.{kept_names, names_with, names_after}
-use Rattle.dav_props.proofs.RowLemmas.{looked_up, same_name-true}
+use Rattle.dav_props.proofs.RowLemmas.{same_name-true}
 
 -- Names without rows
-
-found-option : {X Y : Type 0} (f : X → Y) (found : Option X) → is_some (option_map f found) ≡ is_some found
-found-option f None = refl
-found-option f (Some x) = refl
-
-pub text_by_rows : (name : PropName) → not (is_some (find (λ row. same_name (name_of row) name) listed_rows)) ≡ is_text name
-text_by_rows name = ap not (sym (ap is_some (looked_up name) ∙ found-option (λ row. property_of row (name_of row)) (find (λ row. same_name (name_of row) name) listed_rows)))
 
 text_row-by : (name : PropName) (found : Option Property) → not (is_some found) ≡ true → unwrap_or found (text_row name in_both text) ≡ text_row name in_both text
 text_row-by name None e = refl

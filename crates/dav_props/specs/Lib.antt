@@ -5,3 +5,4 @@ pub mod Answers
 pub mod KeptTexts
 pub mod SettingFaults
 pub mod SettingChecks
+pub mod Finding

@@ -6,7 +6,8 @@ ghost use Rattle.cal_model.specs.State.PropertyTexts.{Texts, prop_order, as_sett
 ghost use Rattle.cal_model.specs.Properties.Settings as settings;
 ghost use Rattle.dav_props.specs.KeptTexts.{kept_names, names_after};
 
-use crate::setting_names::{is_text, key_of};
+use crate::rows::is_text;
+use crate::setting_names::key_of;
 use cal_base::{NameMap, NoMemory};
 use cal_model::{PropName, PropSet};
 use std::alloc::Global;

@@ -9,14 +9,18 @@ mod access;
 mod answers;
 mod contents;
 mod kept_texts;
+mod members;
 mod privileges_held;
+mod replies;
 mod rows;
 mod setting_checks;
 mod setting_faults;
 mod setting_names;
 mod setting_replies;
 mod subjects;
+mod telling;
 mod texts;
 
 pub use answers::DavAnswers;
+pub use replies::find;
 pub use setting_checks::{PatchCheck, check_make, check_patch};

@@ -236,6 +236,25 @@ pub(crate) fn asked_for(name: &PropName) -> Asked<'_>
     }
 }
 
+/// The property of a row, under the name of its own.
+pub(crate) fn asked_row(row: Row) -> Asked<'static>
+    ensures name { spec.asked_name result ≡ spec.name_of row }
+    ensures row { result.row ≡ row }
+{
+    Asked {
+        row,
+        space: space_of(row),
+        name: name_of(row),
+    }
+}
+
+/// Whether a name has no row of its own.
+pub(crate) fn is_text(name: &PropName) -> bool
+    ensures { result ≡ table.is_text name.now }
+{
+    first_named(&ROWS, name).is_none()
+}
+
 /// The row of a name.
 pub(crate) fn row_of(name: &PropName) -> Row
     ensures row { table.row_of name.now ≡ spec.property_of result name.now }
@@ -248,7 +267,7 @@ pub(crate) fn row_of(name: &PropName) -> Row
 }
 
 /// The first of some properties that has a name.
-pub(crate) fn first_named<'r>(rows: &'r [Row], name: &PropName) -> Option<&'r Row>
+fn first_named<'r>(rows: &'r [Row], name: &PropName) -> Option<&'r Row>
     ensures { option_copied result ≡ find (λ row. same_name (spec.name_of row) name.now) rows.now }
 {
     rows.iter().find(|row| is_named(**row, name))

@@ -5,23 +5,13 @@ ghost use Rattle.cal_model.specs.Refusals.RequestLimits.{name_limit};
 ghost use Rattle.cal_model.specs.Properties.PropertyTable as table;
 ghost use Rattle.multistatus.specs.NameKeys.{marked, key};
 
-use crate::rows::{ROWS, first_named};
+use crate::rows::is_text;
 use cal_base::{NoMemory, Octets};
 use cal_model::PropName;
 use std::alloc::Global;
 
 /// The octets that the name of a text may have, namespace and local name together.
 const NAME_LIMIT: usize = 256;
-
-/// Whether a property has no row of its own in the table.
-pub(crate) fn is_text(name: &PropName) -> bool
-    ensures { result ≡ table.is_text name.now }
-{
-    match first_named(&ROWS, name) {
-        Some(_) => false,
-        None => true,
-    }
-}
 
 /// Whether the name of a text is too long.
 pub(crate) fn is_too_long(name: &PropName) -> bool
