@@ -42,15 +42,11 @@ pub marked-next : (k : ℕ) (before after : Bool) (one more : List ℕ) → afte
 marked-next k before after one more is =
     ap (λ b. b || is_place k more) is ∙ or_three before (is_place k one) (is_place k more) ∙ ap (λ b. before || b) (sym (list_any-append (λ p. p == k) one more))
 
--- a component that goes
-pub left-skipped : (text : Node → List ℕ) (gone : List Bool) (place : ℕ) (out : List ℕ) (node : Node) (rest : List Node) → get_or gone place false ≡ true
-    → out ++ flat_map text (left_nodes gone (place + 1) rest) ≡ out ++ flat_map text (left_nodes gone place (node ∷ rest))
-left-skipped text gone place out node rest is = sym (ap (λ b. out ++ flat_map text ((if b then [] else node ∷ []) ++ left_nodes gone (place + 1) rest)) is)
-
--- and one that stays
-pub left-text : (text : Node → List ℕ) (gone : List Bool) (place : ℕ) (out new : List ℕ) (node : Node) (rest : List Node) → get_or gone place false ≡ false → new ≡ out ++ flat_map text (node ∷ [])
+-- a component, if it stays
+pub left-text : (text : Node → List ℕ) (gone : List Bool) (place : ℕ) (out new : List ℕ) (goes : Bool) (node : Node) (rest : List Node) → goes ≡ get_or gone place false → new ≡ out ++ flat_map text (if goes then [] else node ∷ [])
     → new ++ flat_map text (left_nodes gone (place + 1) rest) ≡ out ++ flat_map text (left_nodes gone place (node ∷ rest))
-left-text text gone place out new node rest stays now =
+left-text text gone place out new goes node rest is now =
     let later = left_nodes gone (place + 1) rest in
-    ap (λ those. those ++ flat_map text later) now ∙ append_assoc out (flat_map text (node ∷ [])) (flat_map text later)
-    ∙ ap (λ those. out ++ those) (sym (flat_map-append text (node ∷ []) later) ∙ ap (flat_map text) (sym (ap (λ b. (if b then [] else node ∷ []) ++ later) stays)))
+    let one = λ (b : Bool). if b then [] else node ∷ [] in
+    ap (λ those. those ++ flat_map text later) now ∙ append_assoc out (flat_map text (one goes)) (flat_map text later)
+    ∙ ap (λ those. out ++ those) (sym (flat_map-append text (one goes) later) ∙ ap (λ b. flat_map text (one b ++ later)) is)

@@ -14,6 +14,7 @@ use Rattle.cal_model.specs.Words.Integers.{same_int}
 use Rattle.cal_model.specs.Selections.Expansion.{end_line, end_name}
 use Rattle.expand_limit.specs.declared.instance.Instance.{Instance}
 use Rattle.expand_limit.specs.InstanceLines.{lines_after_start_by}
+use Rattle.overlap_rules.specs.Bounds.{IsNear}
 use Rattle.cal_model.specs.declared.row.RowKind.{RowKind}
 use Rattle.cal_model.specs.declared.row.RowKind.TheVariants.{Instant, Floating, Date, Undated}
 use Rattle.cal_model.specs.Selections.RowLines.{new_line}
@@ -69,3 +70,7 @@ whole-moment z near = to_z-of_z w64 z (record { sfits = (let first = near.0 in l
 -- two moments that are the same in 64 bits are the same
 pub apart-moments : (a b : ℤ) → IsCalendarMoment a → IsCalendarMoment b → (of_z w64 a ≡ of_z w64 b → ⊥) → a ≡ b → ⊥
 apart-moments a b first second apart same = apart (ap (of_z w64) same)
+
+-- so does one that lies near
+pub whole-near : (z : ℤ) → IsNear z → to_z w64 (of_z w64 z) ≡ z
+whole-near z near = to_z-of_z w64 z (record { sfits = (let first = near.0 in let last = near.1 in grind (arith, ints, first, last)) })

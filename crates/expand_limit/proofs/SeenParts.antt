@@ -5,20 +5,24 @@ use Rattle.std.specs.List.{list_any, enumerate_from}
 use Rattle.std.proofs.lemmas.Bool.{cases_Bool, cond-true, cond-false, eqb-true, ne_eqb}
 use Rattle.std.proofs.lemmas.Bool.Decides.{nat_tests}
 use Rattle.std.proofs.lemmas.List.{get_or-set_same, get_or-set_other}
-use Rattle.std.proofs.lemmas.List.Elements.{All-filter, All-head}
+use Rattle.std.proofs.lemmas.List.Elements.{All-cons, All-filter, All-head, All-nil, All-tail}
 use Rattle.std.proofs.lemmas.List.Folds.{list_any-append}
 use Rattle.cal_base.specs.declared.line.Node.{Node}
+use Rattle.cal_moment.specs.Calendar.{IsCalendarMoment}
 use Rattle.cal_moment.specs.declared.stamp.Stamp.{Stamp}
 use Rattle.cal_model.specs.declared.object.Component.{Component}
 use Rattle.cal_model.specs.declared.object.Object.{Object}
 use Rattle.cal_model.specs.declared.row.Row.{Row}
 use Rattle.cal_model.specs.Instances.Alignment.{Aligned, at, on_day, align}
 use Rattle.cal_model.specs.Instances.Rows.{Numbered, has_id, id_of_override, ids_start, is_dated, masters, named_by, numbered, numbered_from}
-use Rattle.cal_model.specs.Selections.LimitedSets.{dated_ids, is_left_out, original_row, original_rows, rows_of_override}
+use Rattle.cal_model.specs.Selections.LimitedSets.{dated_ids, is_left_out, left_out, original_row, original_rows, rows_of_override}
 use Rattle.cal_model.proofs.Instances.EachRowLemmas.{All-numbered_from}
 use Rattle.cal_model.proofs.Words.AllLemmas.{All-slice_get}
+use Rattle.override_merge.specs.Conversions.{HasConvertibleRow, IsConvertible}
+use Rattle.override_merge.proofs.StampLemmas.{ids_convertible}
 use Rattle.expand_limit.specs.declared.limit.Limit.{Limit}
 use Rattle.expand_limit.specs.declared.limit.Seen.{Seen}
+use Rattle.expand_limit.specs.InstanceLines.{IsShownRow}
 use Rattle.expand_limit.specs.SeenRows.{goes, id_said, id_with, is_place, left_at, left_from, left_nodes, masters_from, meets, named_id, nothing_seen, originals, seen_by, seen_more, seen_over, seen_row}
 use Rattle.expand_limit.proofs.ListSteps.{flat_map-same}
 
@@ -152,6 +156,12 @@ left-same limit rows seen size number (c ∷ cs) known within = one c.recurrence
         ∙ placed (left n) rest
         ∙ sym (ap (λ o. map place_of (filter left (if is_some o then n ∷ later else later))) is)
 
+pub places-same : (limit : Limit) (rows : List Row) (seen : List Seen) (ids : Option Stamp) (k : ℕ) → ids ≡ ids_start limit.object.now → ((j : ℕ) → j < length limit.object.now.components → get_or seen j nothing_seen ≡ seen_by limit rows j)
+    → is_place k (left_from limit ids seen 0 limit.object.now.components) ≡ is_place k (left_out limit.object.now rows limit.zone.now limit.range)
+places-same limit rows seen ids k e known =
+    ap (λ o. is_place k (left_from limit o seen 0 limit.object.now.components)) e
+    ∙ ap (is_place k) (left-same limit rows seen (length limit.object.now.components) 0 limit.object.now.components known (omega arith))
+
 -- The components that stay
 
 pub left_nodes-same : (gone : List Bool) (left : List ℕ) (size place : ℕ) (nodes : List Node) → ((k : ℕ) → k < size → get_or gone k false ≡ is_place k left) → place + length nodes ≤ size
@@ -169,6 +179,61 @@ left_nodes-same gone left size place (node ∷ nodes) known within =
     next : (b : Bool) → left_nodes gone (place + 1) nodes ≡ map (λ (child : ℕ × Node). child.1) those → (if b then [] else node ∷ []) ++ left_nodes gone (place + 1) nodes ≡ map (λ (child : ℕ × Node). child.1) (if not b then (place, node) ∷ those else those)
     next true rest = rest
     next false rest = ap (λ ns. node ∷ ns) rest
+
+-- Original instances of one master
+
+originals-of : (limit : Limit) (s name : Stamp) (seen : Option ℤ)
+    → originals limit (Some s) name seen ≡ (map (original_row limit.object.now s (unwrap_or seen (named_id limit.object.now.zones s name))) (masters limit.object.now) ++ []) ++ []
+originals-of limit s name (Some id) = refl
+originals-of limit s name None = refl
+
+pub originals-none : (limit : Limit) (s name : Stamp) (seen : Option ℤ) → masters limit.object.now ≡ [] → list_any (meets limit) (originals limit (Some s) name seen) ≡ false
+originals-none limit s name seen none =
+    ap (list_any (meets limit)) (originals-of limit s name seen)
+    ∙ ap (λ (ms : List Numbered). list_any (meets limit) ((map (original_row limit.object.now s (unwrap_or seen (named_id limit.object.now.zones s name))) ms ++ []) ++ [])) none
+
+empty_rest : (n : Numbered) (rest : List Numbered) → length (n ∷ rest) ≤ 1 → rest ≡ []
+empty_rest n [] few = refl
+empty_rest n (m ∷ rest) few = absurd (omega (arith, few))
+
+pub originals-one : (limit : Limit) (s name : Stamp) (seen : Option ℤ) (n : Numbered) (rest : List Numbered) → length (masters limit.object.now) ≤ 1 → masters limit.object.now ≡ n ∷ rest
+    → list_any (meets limit) (originals limit (Some s) name seen) ≡ meets limit (original_row limit.object.now s (unwrap_or seen (named_id limit.object.now.zones s name)) n)
+originals-one limit s name seen n rest few is =
+    let row = original_row limit.object.now s (unwrap_or seen (named_id limit.object.now.zones s name)) in
+    ap (list_any (meets limit)) (originals-of limit s name seen)
+    ∙ ap (λ (ms : List Numbered). list_any (meets limit) ((map row ms ++ []) ++ [])) (is ∙ ap (λ ms. n ∷ ms) (empty_rest n rest (subst (λ ms. length ms ≤ 1) is few)))
+    ∙ sym (or_none (meets limit (row n)))
+
+-- The ids that are seen
+
+id_with-moment : (row : Row) (o : Option ℤ) → IsShownRow row → All IsCalendarMoment (option_to_list o) → All IsCalendarMoment (option_to_list (id_with row o))
+id_with-moment row (Some id) shown all = all
+id_with-moment row None shown all = next (is_dated row)
+  where
+    next : (b : Bool) → All IsCalendarMoment (option_to_list (if b then Some row.id else None))
+    next true = All-cons IsCalendarMoment row.id [] shown.id (All-nil IsCalendarMoment)
+    next false = All-nil IsCalendarMoment
+
+more_moment : (limit : Limit) (number : ℕ) (row : Row) (seen : Seen) → IsShownRow row → All IsCalendarMoment (option_to_list seen.id) → All IsCalendarMoment (option_to_list (seen_more limit number row seen).id)
+more_moment limit number row seen shown all = next (row.component == number)
+  where
+    next : (b : Bool) → All IsCalendarMoment (option_to_list (if b then seen_row limit row seen else seen).id)
+    next true = id_with-moment row seen.id shown all
+    next false = all
+
+pub seen-moment : (limit : Limit) (number : ℕ) (rows : List Row) (seen : Seen) → All IsShownRow rows → All IsCalendarMoment (option_to_list seen.id) → All IsCalendarMoment (option_to_list (seen_over limit number rows seen).id)
+seen-moment limit number [] seen shown all = all
+seen-moment limit number (row ∷ rows) seen shown all =
+    seen-moment limit number rows (seen_more limit number row seen) (All-tail IsShownRow row rows shown) (more_moment limit number row seen (All-head IsShownRow row rows shown) all)
+
+-- The stamp of the ids
+
+pub ids_there : (zones : ℕ) (object : Object) → All (HasConvertibleRow zones) object.components → All (IsConvertible zones) (option_to_list (ids_start object))
+ids_there zones object all = at_hand (ids_start object) refl
+  where
+    at_hand : (o : Option Stamp) → ids_start object ≡ o → All (IsConvertible zones) (option_to_list o)
+    at_hand None is = All-nil (IsConvertible zones)
+    at_hand (Some s) is = All-cons (IsConvertible zones) s [] (ids_convertible zones object s all (sym is)) (All-nil (IsConvertible zones))
 
 -- One row more
 

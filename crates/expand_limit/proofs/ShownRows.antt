@@ -1,6 +1,6 @@
 -- The rows of each object that was read can be shown: their moments lie between the years 1050 and 2650.
 use Rattle.std.proofs.Common.{◌≡◌, ℕ, ◌+◌, ◌≤◌, Bool, true, false, List, [], ◌∷◌, ◌++◌, map, length, get_or, Option, Some, None, refl, sym, ◌∙◌, arith, ℤ, pos, neg_ℤ, ◌+ℤ◌, ◌-ℤ◌, ◌≤ℤ◌, inl, inr}
-use Rattle.std.specs.Prelude.{◌*◌, All, Contains, filter, flat_map, not, option_to_list, is_none, unsigned_abs, nat_abs}
+use Rattle.std.specs.Prelude.{◌*◌, All, Contains, filter, flat_map, not, option_to_list, unwrap_or, is_none, unsigned_abs, nat_abs}
 use Rattle.std.proofs.lemmas.Bool.{cases_Bool, false≢true}
 use Rattle.std.proofs.lemmas.Bool.Decides.{nat_tests}
 use Rattle.std.proofs.lemmas.Int.{ints}
@@ -75,6 +75,9 @@ has_served object c is =
       id = All-right IsServed to_end ids named;
       periods = All-each_part IsServed stamps_of_period c.periods (All-right IsServed to_dates periods served);
     }
+
+pub served_id : (object : Object) (c : Component) → IsReadComponent object c → All IsServed (option_to_list c.recurrence_id)
+served_id object c is = (has_served object c is).id
 
 own_served : (kind : Kind) (start : Option Stamp) (end : Extent) → All IsServed (option_to_list start) → All IsServed (stamps_of_extent end) → All IsServed (option_to_list (own_start_of kind start end))
 own_served FreeBusy start (extent.End e) starts ends = starts
@@ -332,6 +335,11 @@ named_moment object ids name read served =
     said : (x : Aligned) → HasStated x → IsStated (id_said object.zones ids x)
     said (at v) is = is
     said (on_day midnight) is = instant_stated object.zones ids midnight offsets is.0 is.1
+
+-- the id of an override
+pub id_moment : (object : Object) (ids name : Stamp) (seen : Option ℤ) → IsRead object → IsServed name → All IsCalendarMoment (option_to_list seen) → IsCalendarMoment (unwrap_or seen (named_id object.zones ids name))
+id_moment object ids name (Some id) read served moments = All-head IsCalendarMoment id [] moments
+id_moment object ids name None read served moments = named_moment object ids name read served
 
 -- the end of an instance that keeps the length of its component
 pub end_near : (object : Object) (c : Component) (r : ℤ) → IsRead object → IsReadComponent object c → IsCalendarMoment r → IsNear (end_from object.zones c r)

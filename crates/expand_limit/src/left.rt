@@ -1,5 +1,5 @@
 //! Which overrides go, and the object without them (RFC 4791, 9.6.6).
-ghost use Rattle.std.specs.Prelude.{◌≡◌, ℕ, ◌<◌, ◌≤◌, ◌^◌, ◌||◌, ◌==◌, suc, List, ◌∷◌, ◌++◌, [], All, length, flat_map, option_to_list, get_or, MatchOption, OnOk, IfOk, false};
+ghost use Rattle.std.specs.Prelude.{◌≡◌, ℕ, ◌<◌, ◌≤◌, ◌^◌, ◌||◌, ◌==◌, suc, List, ◌∷◌, ◌++◌, [], All, length, flat_map, option_to_list, get_or, MatchOption, OnOk, IfOk, false, if◌then◌else◌};
 ghost use Rattle.std.specs.List.{list_any};
 ghost use Rattle.cal_moment.specs.Calendar.{IsCalendarMoment};
 ghost use Rattle.cal_model.specs.declared.selection.CompPick.{CompPick as Pick};
@@ -71,9 +71,9 @@ fn original_meets(
     };
     match master_of(limit.object.components.as_slice()) {
         None => false,
-        Some((master, number)) => {
+        Some(found) => {
             let id = id_of(zones, ids, name, seen);
-            instance_meets(zones, limit, ids, id, master, number)
+            instance_meets(zones, limit, ids, id, found.0, found.1)
         }
     }
 }
@@ -152,7 +152,7 @@ fn mark_all_left(
     requires ids { All (IsConvertible (length zones.now)) (option_to_list ids) }
     requires rows { All (HasConvertibleRow (length zones.now)) limit.now.object.now.components }
     requires size { length seen.now ≡ length limit.now.object.now.components }
-    requires seen { (k : ℕ) → All IsCalendarMoment (option_to_list (get_or seen.now k seen_rows.nothing_seen).id) }
+    requires seen { (k : ℕ) → k < length seen.now → All IsCalendarMoment (option_to_list (get_or seen.now k seen_rows.nothing_seen).id) }
     ensures size { length gone.new ≡ length gone.old }
     ensures marked { (k : ℕ) → k < length gone.old → get_or gone.new k false ≡ (get_or gone.old k false || seen_rows.is_place k (seen_rows.left_from limit.now ids seen.now 0 limit.now.object.now.components)) }
 {
@@ -176,6 +176,25 @@ fn is_gone(gone: &[bool], place: usize) -> bool
     }
 }
 
+/// Writes a component, if its place is not marked.
+fn write_stay(
+    alloc: Global,
+    options: Options,
+    around: Option<&Kept>,
+    goes: bool,
+    node: &Node,
+    out: &mut Octets,
+) -> Result<(), NoMemory>
+    requires whole { options.plain ≡ false }
+    requires node { (levels : ℕ) × IsPrintable levels node.now }
+    ensures { OnOk result ((levels : ℕ) (picks : List Pick) → IsPrintable levels node.now → IsKept (suc levels) around.entry picks → out.new ≡ out.old ++ flat_map (node_text picks options.busy) (if goes then [] else node.now ∷ [])) }
+{
+    if goes {
+        return Ok(());
+    }
+    write_child(alloc, options, around, node, out)
+}
+
 /// Writes the components whose places are not marked.
 fn write_left(
     alloc: Global,
@@ -192,9 +211,7 @@ fn write_left(
     let mut rest = nodes;
     let mut place = 0usize;
     'nodes: while let Some((node, behind)) = rest.split_first() {
-        if !is_gone(gone, place) {
-            write_child(alloc, options, around, node, out)?;
-        }
+        write_stay(alloc, options, around, is_gone(gone, place), node, out)?;
         place += 1;
         rest = behind;
     }
@@ -231,6 +248,18 @@ fn nothing_gone(alloc: Global, size: usize) -> Result<Vec<bool>, NoMemory>
     }
 }
 
+/// What the rows say of each component, in one pass over them.
+fn seen_in(alloc: Global, limit: &Limit<'_>, rows: &[Row]) -> Result<Vec<Seen>, NoMemory>
+    requires zone { IsTable limit.now.zone.now }
+    requires rows { All IsShownRow rows.now }
+    ensures size { IfOk result (λ seen. length seen.items ≡ length limit.now.object.now.components) }
+    ensures seen { IfOk result (λ seen. (number : ℕ) → number < length limit.now.object.now.components → get_or seen.items number seen_rows.nothing_seen ≡ seen_rows.seen_by limit.now rows.now number) }
+{
+    let mut seen = nothing_seen(alloc, limit.object.components.len())?;
+    seen_of_rows(limit, rows, seen.as_mut_slice());
+    Ok(seen)
+}
+
 /// The places of the overrides that go, marked among those of all components.
 fn places_left(
     alloc: Global,
@@ -245,8 +274,7 @@ fn places_left(
     requires rows { All IsShownRow rows.now }
     ensures { IfOk result (λ gone. (k : ℕ) → k < length (component.children_of limit.now.object.now.tree) → get_or gone.items k false ≡ seen_rows.is_place k (spec.left_out limit.now.object.now rows.now limit.now.zone.now limit.now.range)) }
 {
-    let mut seen = nothing_seen(alloc, limit.object.components.len())?;
-    seen_of_rows(limit, rows, seen.as_mut_slice());
+    let seen = seen_in(alloc, limit, rows)?;
     let mut gone = nothing_gone(alloc, limit.object.tree.children.len())?;
     mark_all_left(
         zones,

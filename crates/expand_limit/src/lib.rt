@@ -7,6 +7,7 @@
 #![tactic(auto)]
 
 mod busy;
+mod calendar_data;
 mod cuts;
 mod ends;
 mod expand;
@@ -17,7 +18,7 @@ mod limit;
 mod lines;
 mod names;
 mod picks;
-mod shown;
+
 mod tree;
 
-pub use shown::{shown, takes_all};
+pub use calendar_data::{shown, takes_all};

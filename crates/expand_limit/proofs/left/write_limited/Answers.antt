@@ -19,6 +19,6 @@ returns c = OnOk-then c.write_without.result (λ f levels picks fits keeps.
     let within : 0 + length nodes ≤ length nodes = omega arith in
     let stay = left_nodes-same gone.items left (length nodes) 0 nodes c.in_ok-gone.ensures within in
     f levels picks fits keeps
-    ∙ ap (λ those. c.args.out.now ++ body_text picks busy (name_of tree) (lines_of tree) (left_nodes those 0 nodes)) c.as_slice.ensures
+    ∙ ap (λ those. c.args.out.now ++ body_text picks busy (name_of tree) (lines_of tree) (left_nodes those 0 nodes)) c.as_slice.ensures.value
     ∙ ap (λ those. c.args.out.now ++ body_text picks busy (name_of tree) (lines_of tree) those) stay
     ∙ ap (λ text. c.args.out.now ++ text) (sym (body-text picks busy (name_of tree) (lines_of tree) _))) c.write_without.ensures

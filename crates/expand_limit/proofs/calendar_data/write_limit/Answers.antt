@@ -3,7 +3,7 @@ use Rattle.std.specs.Prelude.{All}
 use Rattle.cal_model.specs.TimeZones.TableBounds.{IsTable}
 use Rattle.override_merge.specs.Conversions.{tables_of}
 use Rattle.override_merge.proofs.ReadObjects.{HasConvertibleRows-read}
-use Rattle.expand_limit.proofs.shown.write_limit.Goals as goal
+use Rattle.expand_limit.proofs.calendar_data.write_limit.Goals as goal
 
 pub local_times-requires : goal.local_times-requires
 local_times-requires c = subst (All IsTable) (sym c.as_slice.ensures) (HasConvertibleRows-read c.args.object.now c.requires.read c.requires.few).zones

@@ -187,6 +187,31 @@ fn picked_tree(
     tree_text(alloc, size, object, rows, select, zone, Some(&kept))
 }
 
+/// The octets that are shown of an object over some rows.
+fn shown_over(
+    alloc: Global,
+    octets: &[u8],
+    object: &Object,
+    rows: &[Row],
+    select: &Selection,
+    zone: &ZoneTable,
+) -> Result<Octets, NoMemory>
+    requires read { read_object octets.now ≡ Ok object.now }
+    requires few { length object.now.components < 2 ^ 32 }
+    requires zone { IsTable zone.now }
+    requires rows { All IsShownRow rows.now }
+    ensures { IfOk result (λ text. text ≡ spec.shown octets.now object.now rows.now select.now zone.now) }
+{
+    if takes_all(select) {
+        return Octets::of(alloc, octets);
+    }
+    let size = octets.len();
+    match &select.comp {
+        None => tree_text(alloc, size, object, rows, select, zone, None),
+        Some(pick) => picked_tree(alloc, size, object, rows, select, zone, pick),
+    }
+}
+
 /// The octets that are shown of an object (RFC 4791, 9.6): the stored ones where nothing is selected,
 /// else the text of what the options, and then the picks, leave of its tree.
 ///
@@ -208,12 +233,5 @@ pub fn shown(
     ensures given { IfOk result (λ text. text ≡ spec.shown octets.now object.now rows.now select.now zone.now) }
     ensures whole { IfOk result (λ text. (keep : RowSpec → Bool) → rows.now ≡ filter keep (rows_of object.now) → AreEnough object.now zone.now keep (rows_of object.now) select.now.recur → text ≡ spec.shown_of_object octets.now object.now select.now zone.now) }
 {
-    if takes_all(select) {
-        return Octets::of(alloc, octets);
-    }
-    let size = octets.len();
-    match &select.comp {
-        None => tree_text(alloc, size, object, rows.as_slice(), select, zone, None),
-        Some(pick) => picked_tree(alloc, size, object, rows.as_slice(), select, zone, pick),
-    }
+    shown_over(alloc, octets, object, rows.as_slice(), select, zone)
 }

@@ -7,7 +7,7 @@ use Rattle.ical_objects.specs.Printing.{ArePrintable, begin_line, end_line}
 use Rattle.ical_objects.proofs.Printed.{IsPrintable_out, OnOk-then}
 use Rattle.expand_limit.specs.ShownTexts.{line_text, node_text}
 use Rattle.expand_limit.proofs.PrintedParts.{printable-room, four-parts}
-use Rattle.expand_limit.proofs.shown.write_whole.Goals as goal
+use Rattle.expand_limit.proofs.calendar_data.write_whole.Goals as goal
 
 pub write_mark-requires : goal.write_mark-requires
 write_mark-requires c = (begin_line (out-Node c.args.tree.now).name, refl, (IsPrintable_out c.requires.0 c.args.tree.now c.requires.1).begin_read)
