@@ -18,7 +18,6 @@ mod limit;
 mod lines;
 mod names;
 mod picks;
-
 mod tree;
 
 pub use calendar_data::{shown, takes_all};

@@ -115,11 +115,7 @@ pub fn nothing_seen(alloc: Global, size: usize) -> Result<Vec<Seen>, NoMemory>
 }
 
 /// What the rows say of each component, in one pass over them.
-pub fn seen_of_rows(
-    limit: &Limit<'_>,
-    rows: &[Row],
-    seen: &mut [Seen],
-)
+pub fn seen_of_rows(limit: &Limit<'_>, rows: &[Row], seen: &mut [Seen])
     requires zone { IsTable limit.now.zone.now }
     requires rows { All IsShownRow rows.now }
     ensures size { length seen.new ≡ length seen.old }
