@@ -1,9 +1,9 @@
-use Rattle.std.proofs.Common.{◌≡◌, [], ◌∷◌, length, sym, ap, subst, ◌∙◌}
+use Rattle.std.proofs.Common.{◌≡◌, ℕ, List, [], ◌∷◌, length, Option, Some, sym, ap, subst, ◌∙◌}
 use Rattle.std.specs.Prelude.{All, option_to_list, unwrap_or}
 use Rattle.std.specs.List.{list_any}
 use Rattle.std.proofs.lemmas.List.Elements.{All-head}
 use Rattle.cal_moment.specs.Calendar.{IsCalendarMoment}
-use Rattle.cal_model.specs.Instances.Rows.{Numbered}
+use Rattle.cal_model.specs.Instances.Rows.{Numbered, masters}
 use Rattle.cal_model.specs.Objects.ObjectFacts.{IsReadComponent}
 use Rattle.cal_model.specs.Selections.LimitedSets.{original_row}
 use Rattle.cal_model.proofs.Objects.ObjectFactLaws.{IsReadObject-read}
