@@ -1,12 +1,13 @@
 -- What rows say of components, component by component, is what the definition asks of all rows.
 use Rattle.std.proofs.Common.{◌≡◌, ℕ, ◌+◌, ◌<◌, ◌≤◌, suc, Bool, true, false, not, List, [], ◌∷◌, ◌++◌, length, map, take, get_or, set, refl, sym, ap, ap₂, subst, ◌∙◌, arith, ℤ, Option, Some, None, inl, inr}
-use Rattle.std.specs.Prelude.{◌==◌, ◌||◌, if◌then◌else◌, All, filter, flat_map, option_to_list, is_some, unwrap_or}
+use Rattle.std.specs.Prelude.{◌==◌, ◌||◌, if◌then◌else◌, All, filter, flat_map, option_to_list, is_some, unwrap_or, slice_get}
 use Rattle.std.specs.List.{list_any, enumerate_from}
 use Rattle.std.proofs.lemmas.Bool.{cases_Bool, cond-true, cond-false, eqb-true, ne_eqb}
 use Rattle.std.proofs.lemmas.Bool.Decides.{nat_tests}
 use Rattle.std.proofs.lemmas.List.{get_or-set_same, get_or-set_other}
 use Rattle.std.proofs.lemmas.List.Elements.{All-cons, All-filter, All-head, All-nil, All-tail}
 use Rattle.std.proofs.lemmas.List.Folds.{list_any-append}
+use Rattle.std.proofs.lemmas.Option.{none-some, same_Some}
 use Rattle.cal_base.specs.declared.line.Node.{Node}
 use Rattle.cal_moment.specs.Calendar.{IsCalendarMoment}
 use Rattle.cal_moment.specs.declared.stamp.Stamp.{Stamp}
@@ -23,7 +24,7 @@ use Rattle.override_merge.proofs.StampLemmas.{ids_convertible}
 use Rattle.expand_limit.specs.declared.limit.Limit.{Limit}
 use Rattle.expand_limit.specs.declared.limit.Seen.{Seen}
 use Rattle.expand_limit.specs.InstanceLines.{IsShownRow}
-use Rattle.expand_limit.specs.SeenRows.{goes, id_said, id_with, is_place, left_at, left_from, left_nodes, masters_from, meets, named_id, nothing_seen, originals, seen_by, seen_more, seen_over, seen_row}
+use Rattle.expand_limit.specs.SeenRows.{IsMaster, goes, id_said, id_with, is_place, left_at, left_from, left_nodes, masters_from, meets, named_id, nothing_seen, originals, seen_by, seen_more, seen_over, seen_row}
 use Rattle.expand_limit.proofs.ListSteps.{flat_map-same}
 
 or_none : (b : Bool) → b ≡ (b || false)
@@ -257,3 +258,26 @@ master-known object P n rest all is =
     All-head (λ (m : Numbered). P m.component) n rest (subst (All (λ (m : Numbered). P m.component)) is
     (All-filter (λ m. not (has_id m)) (λ (m : Numbered). P m.component) (numbered object)
     (All-numbered_from (λ (m : Numbered). P m.component) 0 object.components (λ i j c e found. All-slice_get P object.components i c all found))))
+
+is_at : (object : Object) → All (λ (m : Numbered). slice_get object.components m.number ≡ Some m.component) (numbered object)
+is_at object = All-numbered_from (λ (m : Numbered). slice_get object.components m.number ≡ Some m.component) 0 object.components (λ i j c e found. let here : j ≡ i = omega (arith, e) in rw here found)
+
+master_at : (object : Object) (n : Numbered) (rest : List Numbered) → masters object ≡ n ∷ rest → slice_get object.components n.number ≡ Some n.component
+master_at object n rest is =
+    All-head (λ (m : Numbered). slice_get object.components m.number ≡ Some m.component) n rest (subst (All (λ (m : Numbered). slice_get object.components m.number ≡ Some m.component)) is
+    (All-filter (λ m. not (has_id m)) (λ (m : Numbered). slice_get object.components m.number ≡ Some m.component) (numbered object) (is_at object)))
+
+-- the component of the master's number
+pub master-is : (object : Object) (number : ℕ) (c : Component) → IsMaster object (Some number) → slice_get object.components number ≡ Some c → (rest : List Numbered) × (masters object ≡ record { number = number; component = c } ∷ rest)
+master-is object number c master there =
+    let n = master.0 in
+    let same : n.number ≡ number = master.3 in
+    let seen_at : slice_get object.components number ≡ Some n.component = ap (slice_get object.components) (sym same) ∙ master_at object n master.1 master.2 in
+    let component : n.component ≡ c = same_Some n.component c (sym seen_at ∙ there) in
+    (master.1, master.2 ∙ ap₂ (λ (k : ℕ) (d : Component). record { number = k; component = d } ∷ master.1) same component)
+
+pub master-there : (object : Object) (number : ℕ) → IsMaster object (Some number) → slice_get object.components number ≡ None → ⊥
+master-there object number master lost =
+    let n = master.0 in
+    let seen_at : slice_get object.components number ≡ Some n.component = ap (slice_get object.components) (sym master.3) ∙ master_at object n master.1 master.2 in
+    none-some n.component (sym lost ∙ seen_at)

@@ -1,9 +1,10 @@
 -- What rows say of components as far as a limit asks, row by row, and which components go.
-use Rattle.std.specs.Prelude.{ℕ, ◌+◌, ◌==◌, Bool, false, not, ◌||◌, if◌then◌else◌, List, [], ◌∷◌, ◌++◌, filter, flat_map, map, take, option_to_list, get_or, ℤ, Option, Some, None}
+use Rattle.std.specs.Prelude.{◌≡◌, ℕ, ◌+◌, ◌==◌, Bool, false, not, ◌||◌, if◌then◌else◌, List, [], ◌∷◌, ◌++◌, filter, flat_map, map, take, option_to_list, get_or, ℤ, Option, Some, None}
 use Rattle.std.specs.List.{list_any}
 use Rattle.cal_base.specs.declared.line.Node.{Node}
 use Rattle.cal_moment.specs.declared.stamp.Stamp.{Stamp}
 use Rattle.cal_model.specs.declared.object.Component.{Component}
+use Rattle.cal_model.specs.declared.object.Object.{Object}
 use Rattle.cal_model.specs.declared.row.Row.{Row}
 use Rattle.cal_model.specs.declared.zone.ZoneTable.{ZoneTable}
 use Rattle.cal_model.specs.Instances.Alignment.{Aligned, at, on_day, align, reading_of}
@@ -69,6 +70,11 @@ is_place place gone = list_any (λ p. p == place) gone
 
 abbrev pub masters_from : ℕ → List Component → List Numbered
 masters_from number cs = filter (λ (n : Numbered). not (has_id n)) (numbered_from number cs)
+
+-- the number of the component that is no override, if there is one
+abbrev pub IsMaster : Object → Option ℕ → Type 0
+IsMaster object None = masters object ≡ []
+IsMaster object (Some number) = (n : Numbered) × (rest : List Numbered) × (masters object ≡ n ∷ rest) × (n.number ≡ number)
 
 -- the components that stay
 abbrev pub left_nodes : List Bool → ℕ → List Node → List Node

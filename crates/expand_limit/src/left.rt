@@ -1,5 +1,5 @@
 //! Which overrides go, and the object without them (RFC 4791, 9.6.6).
-ghost use Rattle.std.specs.Prelude.{◌≡◌, ℕ, ◌<◌, ◌≤◌, ◌^◌, ◌||◌, ◌==◌, suc, List, ◌∷◌, ◌++◌, [], All, length, flat_map, option_to_list, get_or, MatchOption, OnOk, IfOk, false, if◌then◌else◌};
+ghost use Rattle.std.specs.Prelude.{◌≡◌, ℕ, ◌<◌, ◌≤◌, ◌^◌, ◌||◌, ◌==◌, suc, List, ◌∷◌, ◌++◌, [], All, length, flat_map, option_to_list, get_or, MatchOption, Some, OnOk, IfOk, false, if◌then◌else◌};
 ghost use Rattle.std.specs.List.{list_any};
 ghost use Rattle.cal_moment.specs.Calendar.{IsCalendarMoment};
 ghost use Rattle.cal_model.specs.declared.selection.CompPick.{CompPick as Pick};
@@ -23,7 +23,7 @@ use crate::limit::{Limit, Seen, id_of, instance_meets, nothing_seen, seen_of_row
 use crate::lines::{Options, write_lines};
 use crate::tree::{write_child, write_mark};
 use cal_base::{List, NoMemory, Node, Octets};
-use cal_model::{Component, LocalTimes, Range, Row};
+use cal_model::{Component, LocalTimes, Object, Range, Row};
 use cal_moment::Stamp;
 use override_merge::starts::ids_start;
 use std::alloc::Global;
@@ -47,12 +47,53 @@ fn master_of(components: &[Component]) -> Option<(&Component, u32)>
     None
 }
 
+/// The number of the component that is no override, if there is one.
+fn master_number(object: &Object) -> Option<u32>
+    requires { length object.now.components < 2 ^ 32 }
+    ensures { seen_rows.IsMaster object.now result }
+{
+    match master_of(object.components.as_slice()) {
+        None => None,
+        Some(found) => Some(found.1),
+    }
+}
+
+/// Whether the instance of the master that an override stands for overlaps the range.
+fn master_meets(
+    zones: &[LocalTimes<'_>],
+    limit: &Limit<'_>,
+    ids: Stamp,
+    number: u32,
+    name: Stamp,
+    seen: Option<i64>,
+) -> bool
+    requires zones { limit.now.object.now.zones ≡ tables_of zones.now }
+    requires zone { IsTable limit.now.zone.now }
+    requires read { IsRead limit.now.object.now }
+    requires few { length limit.now.object.now.components < 2 ^ 32 }
+    requires ids { IsConvertible (length zones.now) ids }
+    requires master { seen_rows.IsMaster limit.now.object.now (Some number) }
+    requires name { IsConvertible (length zones.now) name }
+    requires served { IsServed name }
+    requires seen { All IsCalendarMoment (option_to_list seen) }
+    ensures { result ≡ list_any (seen_rows.meets limit.now) (seen_rows.originals limit.now (Some ids) name seen) }
+{
+    match limit.object.components.get(number as usize) {
+        None => false,
+        Some(master) => {
+            let id = id_of(zones, ids, name, seen);
+            instance_meets(zones, limit, ids, id, master, number)
+        }
+    }
+}
+
 /// Whether the original instance of an override overlaps the range: the master's at the id of the
 /// override. Without a master there is none.
 fn original_meets(
     zones: &[LocalTimes<'_>],
     limit: &Limit<'_>,
     ids: Option<Stamp>,
+    master: Option<u32>,
     name: Stamp,
     seen: Option<i64>,
 ) -> bool
@@ -61,6 +102,7 @@ fn original_meets(
     requires read { IsRead limit.now.object.now }
     requires few { length limit.now.object.now.components < 2 ^ 32 }
     requires ids { All (IsConvertible (length zones.now)) (option_to_list ids) }
+    requires master { seen_rows.IsMaster limit.now.object.now master }
     requires name { IsConvertible (length zones.now) name }
     requires served { IsServed name }
     requires seen { All IsCalendarMoment (option_to_list seen) }
@@ -69,12 +111,9 @@ fn original_meets(
     let Some(ids) = ids else {
         return false;
     };
-    match master_of(limit.object.components.as_slice()) {
+    match master {
         None => false,
-        Some(found) => {
-            let id = id_of(zones, ids, name, seen);
-            instance_meets(zones, limit, ids, id, found.0, found.1)
-        }
+        Some(number) => master_meets(zones, limit, ids, number, name, seen),
     }
 }
 
@@ -83,6 +122,7 @@ fn goes(
     zones: &[LocalTimes<'_>],
     limit: &Limit<'_>,
     ids: Option<Stamp>,
+    master: Option<u32>,
     name: Stamp,
     seen: Seen,
 ) -> bool
@@ -91,12 +131,13 @@ fn goes(
     requires read { IsRead limit.now.object.now }
     requires few { length limit.now.object.now.components < 2 ^ 32 }
     requires ids { All (IsConvertible (length zones.now)) (option_to_list ids) }
+    requires master { seen_rows.IsMaster limit.now.object.now master }
     requires name { IsConvertible (length zones.now) name }
     requires served { IsServed name }
     requires seen { All IsCalendarMoment (option_to_list seen.id) }
     ensures { result ≡ seen_rows.goes limit.now ids name seen }
 {
-    !(seen.meets || original_meets(zones, limit, ids, name, seen.id))
+    !(seen.meets || original_meets(zones, limit, ids, master, name, seen.id))
 }
 
 /// Marks a place.
@@ -114,6 +155,7 @@ fn mark_left(
     zones: &[LocalTimes<'_>],
     limit: &Limit<'_>,
     ids: Option<Stamp>,
+    master: Option<u32>,
     component: &Component,
     seen: Seen,
     gone: &mut [bool],
@@ -123,6 +165,7 @@ fn mark_left(
     requires read { IsRead limit.now.object.now }
     requires few { length limit.now.object.now.components < 2 ^ 32 }
     requires ids { All (IsConvertible (length zones.now)) (option_to_list ids) }
+    requires master { seen_rows.IsMaster limit.now.object.now master }
     requires component { IsReadComponent limit.now.object.now component.now }
     requires row { HasConvertibleRow (length zones.now) component.now }
     requires seen { All IsCalendarMoment (option_to_list seen.id) }
@@ -132,7 +175,7 @@ fn mark_left(
     let Some(name) = component.recurrence_id else {
         return;
     };
-    if goes(zones, limit, ids, name, seen) {
+    if goes(zones, limit, ids, master, name, seen) {
         mark(gone, component.child as usize);
     }
 }
@@ -142,6 +185,7 @@ fn mark_all_left(
     zones: &[LocalTimes<'_>],
     limit: &Limit<'_>,
     ids: Option<Stamp>,
+    master: Option<u32>,
     seen: &[Seen],
     gone: &mut [bool],
 )
@@ -150,6 +194,7 @@ fn mark_all_left(
     requires read { IsRead limit.now.object.now }
     requires few { length limit.now.object.now.components < 2 ^ 32 }
     requires ids { All (IsConvertible (length zones.now)) (option_to_list ids) }
+    requires master { seen_rows.IsMaster limit.now.object.now master }
     requires rows { All (HasConvertibleRow (length zones.now)) limit.now.object.now.components }
     requires size { length seen.now ≡ length limit.now.object.now.components }
     requires seen { (k : ℕ) → k < length seen.now → All IsCalendarMoment (option_to_list (get_or seen.now k seen_rows.nothing_seen).id) }
@@ -159,7 +204,7 @@ fn mark_all_left(
     let mut rest = limit.object.components.as_slice();
     let mut number = 0usize;
     'components: while let Some((component, behind)) = rest.split_first() {
-        mark_left(zones, limit, ids, component, seen[number], gone);
+        mark_left(zones, limit, ids, master, component, seen[number], gone);
         number += 1;
         rest = behind;
     }
@@ -280,6 +325,7 @@ fn places_left(
         zones,
         limit,
         ids_start(limit.object),
+        master_number(limit.object),
         seen.as_slice(),
         gone.as_mut_slice(),
     );
