@@ -1,8 +1,8 @@
 -- What picks keep that keep all, and what is kept of the components in a component.
-use Rattle.std.proofs.Common.{◌≡◌, ℕ, suc, Bool, true, false, not, List, [], ◌∷◌, ◌++◌, length, arith, Option, Some, None, refl, sym, ap, subst, ◌∙◌, ⊎_elim, inl, inr}
-use Rattle.std.specs.Prelude.{◌&&◌, ◌||◌, if◌then◌else◌, flat_map, filter, bytes_eq, is_none}
+use Rattle.std.proofs.Common.{◌≡◌, ℕ, suc, Bool, true, false, not, List, [], ◌∷◌, length, arith, Option, Some, None, refl, sym, ap, ◌∙◌, ⊎_elim}
+use Rattle.std.specs.Prelude.{◌&&◌, ◌||◌, if◌then◌else◌, flat_map, is_none}
 use Rattle.std.specs.List.{list_any}
-use Rattle.std.proofs.lemmas.Bool.{and_parts, and_from, or_cases, or_parts, cases_Bool, false≢true, cond-true, cond-false, ne_eqb}
+use Rattle.std.proofs.lemmas.Bool.{and_parts, and_from, or_cases, false≢true, cond-true, cond-false, ne_eqb}
 use Rattle.std.proofs.lemmas.List.Folds.{list_any-append}
 use Rattle.cal_model.specs.declared.selection.PropPick.{PropPick}
 use Rattle.cal_model.specs.declared.selection.CompPick.{CompPick, out-CompPick}
@@ -11,7 +11,7 @@ use Rattle.cal_model.specs.Selections.Picks.{everything, whole_line, prop_picks,
 use Rattle.cal_model.specs.Words.Lists.{is_empty}
 use Rattle.shown_lines.specs.declared.portion.Portion.TheVariants.{Whole}
 use Rattle.expand_limit.specs.declared.kept.Kept.{Kept, out-Kept}
-use Rattle.expand_limit.specs.KeptParts.{portion_by, keeps_all, IsKeptBy, IsInner, IsKeptAs, named_in, inner_in, inner_as, leaves_out_as}
+use Rattle.expand_limit.specs.KeptParts.{portion_by, keeps_all, IsKeptBy, IsInner, IsKeptAs, named_in, inner_as, leaves_out_as}
 
 or_right : (a b : Bool) → b ≡ true → (a || b) ≡ true
 or_right true b is = refl

@@ -1,5 +1,5 @@
 -- A line of a component in an instance of it, by its name.
-use Rattle.std.proofs.Common.{◌≡◌, true, false, List, [], ◌∷◌, ◌∙◌}
+use Rattle.std.proofs.Common.{◌≡◌, true, false, [], ◌∷◌, ◌∙◌}
 use Rattle.std.specs.Prelude.{◌||◌, bytes_eq, codes}
 use Rattle.std.proofs.lemmas.Bool.{cond-true, cond-false}
 use Rattle.cal_base.specs.declared.line.Line.{Line}

@@ -1,11 +1,11 @@
 -- Components that can be printed, one after another, and the text of one that is put together.
-use Rattle.std.proofs.Common.{◌≡◌, ℕ, ◌+◌, ◌<◌, zero, suc, Bool, true, false, List, [], ◌∷◌, ◌++◌, length, take, drop, get_or, refl, sym, ap, ap₂, subst, ◌∙◌, append-nil, append_assoc}
-use Rattle.std.specs.Prelude.{flat_map, if◌then◌else◌, bytes_eq, slice_get, Some}
+use Rattle.std.proofs.Common.{◌≡◌, ℕ, ◌+◌, ◌<◌, zero, suc, Bool, true, false, List, [], ◌∷◌, ◌++◌, length, take, drop, get_or, refl, sym, ap, subst, ◌∙◌, append_assoc}
+use Rattle.std.specs.Prelude.{flat_map, slice_get, Some}
 use Rattle.std.proofs.lemmas.List.Concat.{flat_map-append}
 use Rattle.cal_base.specs.declared.line.Node.{Node}
 use Rattle.cal_base.specs.declared.line.Node.TheOpen.{Node-F}
-use Rattle.cal_base.specs.declared.line.Node.TheViews.{out-Node, roll-Node, out-roll-Node}
-use Rattle.cal_model.specs.Objects.ComponentLines.{name_of, lines_of, children_of}
+use Rattle.cal_base.specs.declared.line.Node.TheViews.{out-roll-Node}
+use Rattle.cal_model.specs.Objects.ComponentLines.{children_of}
 use Rattle.cal_model.specs.Selections.Expansion.{plain}
 use Rattle.ical_objects.specs.Printing.{IsPrintable, ArePrintable, printable, no_more, one_more}
 use Rattle.ical_objects.proofs.Printed.{take_more_at}

@@ -1,5 +1,5 @@
 -- What rows say of components, component by component, is what the definition asks of all rows.
-use Rattle.std.proofs.Common.{◌≡◌, ℕ, ◌+◌, ◌<◌, ◌≤◌, suc, Bool, true, false, not, List, [], ◌∷◌, ◌++◌, length, map, take, get_or, set, refl, sym, ap, ap₂, subst, ◌∙◌, arith, ℤ, Option, Some, None, inl, inr}
+use Rattle.std.proofs.Common.{◌≡◌, ℕ, ◌+◌, ◌<◌, ◌≤◌, Bool, true, false, not, List, [], ◌∷◌, ◌++◌, length, map, take, get_or, set, refl, sym, ap, ap₂, subst, ◌∙◌, arith, ℤ, Option, Some, None, inl, inr}
 use Rattle.std.specs.Prelude.{◌==◌, ◌||◌, if◌then◌else◌, All, filter, flat_map, option_to_list, is_some, unwrap_or, slice_get}
 use Rattle.std.specs.List.{list_any, enumerate_from}
 use Rattle.std.proofs.lemmas.Bool.{cases_Bool, cond-true, cond-false, eqb-true, ne_eqb}
@@ -24,7 +24,7 @@ use Rattle.override_merge.proofs.StampLemmas.{ids_convertible}
 use Rattle.expand_limit.specs.declared.limit.Limit.{Limit}
 use Rattle.expand_limit.specs.declared.limit.Seen.{Seen}
 use Rattle.expand_limit.specs.InstanceLines.{IsShownRow}
-use Rattle.expand_limit.specs.SeenRows.{IsMaster, goes, id_said, id_with, is_place, left_at, left_from, left_nodes, masters_from, meets, named_id, nothing_seen, originals, seen_by, seen_more, seen_over, seen_row}
+use Rattle.expand_limit.specs.SeenRows.{IsMaster, goes, id_said, id_with, is_place, left_at, left_from, left_nodes, meets, named_id, nothing_seen, originals, seen_by, seen_more, seen_over, seen_row}
 use Rattle.expand_limit.proofs.ListSteps.{flat_map-same}
 
 or_none : (b : Bool) → b ≡ (b || false)

@@ -7,15 +7,14 @@ use Rattle.std.proofs.lemmas.List.Folds.{flat_map-map}
 use Rattle.cal_base.specs.declared.line.Line.{Line}
 use Rattle.cal_base.specs.declared.line.Node.{Node}
 use Rattle.cal_base.specs.declared.line.Node.TheOpen.{Node-F}
-use Rattle.cal_base.specs.declared.line.Node.TheViews.{out-Node, roll-Node, roll-out-Node}
-use Rattle.cal_base.specs.Lines.ComponentTrees.{component, printed, print_step}
+use Rattle.cal_base.specs.declared.line.Node.TheViews.{out-Node, roll-out-Node}
+use Rattle.cal_base.specs.Lines.ComponentTrees.{component, printed}
 use Rattle.cal_base.specs.Lines.WrittenLines.{written, written_line}
 use Rattle.cal_model.specs.declared.row.Range.{Range}
 use Rattle.cal_model.specs.declared.selection.PropPick.{PropPick}
 use Rattle.cal_model.specs.declared.selection.CompPick.{CompPick}
 use Rattle.cal_model.specs.Objects.ComponentLines.{name_of, lines_of, children_of}
-use Rattle.cal_model.specs.Selections.Expansion.{plain, plain_step, plain_lines}
-use Rattle.cal_model.specs.Selections.LimitedSets.{busy_line, busy_limited}
+use Rattle.cal_model.specs.Selections.Expansion.{plain, plain_lines}
 use Rattle.cal_model.specs.Selections.Picks.{Picked, picked, picked_line, picked_child, child_by, comp_picks, prop_picks, line_by, without_value}
 use Rattle.cal_model.specs.Selections.ShownData.{busy_shown}
 use Rattle.cal_model.specs.Words.Lists.{is_empty}

@@ -1,9 +1,8 @@
 -- The tree of an object that was read, what is shown of it, and the zones at hand.
-use Rattle.std.proofs.Common.{◌≡◌, ℕ, false, List, length, map, Option, Some, None, refl, sym, ap, subst, ◌∙◌}
+use Rattle.std.proofs.Common.{◌≡◌, ℕ, false, List, length, map, Option, None, refl, sym, ap, subst, ◌∙◌}
 use Rattle.std.proofs.lemmas.Bool.{cond-false}
 use Rattle.std.proofs.lemmas.List.{length-map}
 use Rattle.std.specs.Prelude.{All, flat_map}
-use Rattle.cal_base.specs.declared.line.Line.{Line}
 use Rattle.cal_base.specs.declared.line.Node.{Node}
 use Rattle.cal_base.specs.declared.line.Node.TheOpen.{Node-F}
 use Rattle.cal_base.specs.declared.line.Node.TheViews.{out-roll-Node}

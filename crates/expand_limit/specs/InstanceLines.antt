@@ -1,5 +1,5 @@
 -- The lines of an instance, once it is known what stands behind its DTSTART; and rows that can be shown.
-use Rattle.std.specs.Prelude.{ℕ, Bool, ◌&&◌, ◌||◌, if◌then◌else◌, List, [], ◌∷◌, bytes_eq, codes, is_some}
+use Rattle.std.specs.Prelude.{◌&&◌, ◌||◌, if◌then◌else◌, List, [], ◌∷◌, bytes_eq, codes, is_some}
 use Rattle.cal_base.specs.declared.line.Line.{Line}
 use Rattle.cal_moment.specs.Calendar.{IsCalendarMoment}
 use Rattle.cal_model.specs.declared.row.Row.{Row}

@@ -1,4 +1,4 @@
-use Rattle.std.proofs.Common.{◌≡◌, ◌++◌, sym, ap, subst, ◌∙◌}
+use Rattle.std.proofs.Common.{◌++◌, sym, ap, subst, ◌∙◌}
 use Rattle.std.specs.Prelude.{All, flat_map}
 use Rattle.cal_model.specs.Objects.ComponentLines.{name_of, lines_of, children_of}
 use Rattle.cal_model.specs.Selections.Expansion.{expanded_children, instances_of_row, overlapping, plain_lines}

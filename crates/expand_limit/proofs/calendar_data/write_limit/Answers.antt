@@ -1,4 +1,4 @@
-use Rattle.std.proofs.Common.{◌≡◌, sym, ap, subst, ◌∙◌}
+use Rattle.std.proofs.Common.{sym, ap, subst, ◌∙◌}
 use Rattle.std.specs.Prelude.{All}
 use Rattle.cal_model.specs.TimeZones.TableBounds.{IsTable}
 use Rattle.override_merge.specs.Conversions.{tables_of}

@@ -1,4 +1,4 @@
-use Rattle.std.proofs.Common.{◌≡◌, ◌++◌, ap, ◌∙◌}
+use Rattle.std.proofs.Common.{◌++◌, ap, ◌∙◌}
 use Rattle.ical_objects.proofs.Printed.{OnOk-then}
 use Rattle.expand_limit.proofs.ShownTrees.{whole-shown}
 use Rattle.expand_limit.proofs.calendar_data.write_tree.Goals as goal

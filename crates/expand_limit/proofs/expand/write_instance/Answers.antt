@@ -1,14 +1,14 @@
-use Rattle.std.proofs.Common.{◌≡◌, ℕ, suc, true, false, List, [], ◌∷◌, ◌++◌, refl, sym, ap, subst, ◌∙◌}
+use Rattle.std.proofs.Common.{◌≡◌, suc, false, ◌++◌, refl, sym, ap, subst, ◌∙◌}
 use Rattle.std.specs.Prelude.{flat_map, codes}
 use Rattle.cal_base.specs.declared.line.Node.TheViews.{out-Node}
 use Rattle.cal_base.specs.Lines.WrittenLines.{written}
 use Rattle.cal_model.specs.Objects.ComponentLines.{name_of, lines_of, children_of}
 use Rattle.cal_model.specs.Selections.Expansion.{instance_lines, plain_lines, plain}
 use Rattle.cal_model.specs.Selections.Picks.{comp_picks}
-use Rattle.ical_objects.specs.Printing.{IsPrintable, ArePrintable, begin_line, end_line}
+use Rattle.ical_objects.specs.Printing.{ArePrintable, begin_line, end_line}
 use Rattle.ical_objects.proofs.Printed.{IsPrintable_out, OnOk-then}
 use Rattle.expand_limit.specs.KeptParts.{IsKept, IsKeptAs, leaves_out_as, inner_as, now_of}
-use Rattle.expand_limit.specs.ShownTexts.{line_text, node_text, seen_nodes}
+use Rattle.expand_limit.specs.ShownTexts.{line_text, node_text}
 use Rattle.expand_limit.proofs.KeptLemmas.{inner-kept}
 use Rattle.expand_limit.proofs.ShownParts.{node_text-component}
 use Rattle.expand_limit.proofs.PrintedParts.{printable-room, four-parts}

@@ -1,8 +1,7 @@
-use Rattle.std.proofs.Common.{◌≡◌, ℕ, true, false, List, [], ◌∷◌, ◌++◌, sym, ap, subst, ◌∙◌}
+use Rattle.std.proofs.Common.{◌≡◌, ℕ, true, false, [], ◌∷◌, ◌++◌, sym, ap, subst, ◌∙◌}
 use Rattle.std.specs.Prelude.{flat_map}
-use Rattle.cal_base.specs.declared.line.Node.{Node}
 use Rattle.cal_model.specs.Selections.Expansion.{is_of_four_kinds, other_components}
-use Rattle.ical_objects.specs.Printing.{IsPrintable, ArePrintable}
+use Rattle.ical_objects.specs.Printing.{ArePrintable}
 use Rattle.expand_limit.specs.ShownTexts.{node_text, seen_nodes}
 use Rattle.expand_limit.proofs.OtherParts.{others-skipped, others-text}
 use Rattle.expand_limit.proofs.PrintedParts.{first_fits}

@@ -1,4 +1,4 @@
-use Rattle.std.proofs.Common.{◌≡◌, ℕ, true, [], ◌∷◌, ◌++◌, Some, sym, ap, ◌∙◌, append-nil}
+use Rattle.std.proofs.Common.{◌≡◌, true, ◌++◌, Some, sym, ap, ◌∙◌, append-nil}
 use Rattle.std.specs.Prelude.{flat_map, slice_get}
 use Rattle.cal_model.specs.Objects.ComponentLines.{children_of}
 use Rattle.cal_model.specs.Ranges.Overlap.{row_overlaps}

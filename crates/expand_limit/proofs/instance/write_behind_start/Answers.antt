@@ -1,10 +1,8 @@
-use Rattle.std.proofs.Common.{◌≡◌, true, false, [], ◌∷◌, ◌++◌, sym, ap, ◌∙◌, append_assoc, append-nil}
-use Rattle.std.specs.Prelude.{flat_map, if◌then◌else◌, codes}
-use Rattle.std.proofs.lemmas.Bool.{cond-true, cond-false}
+use Rattle.std.proofs.Common.{◌++◌, ap, ◌∙◌}
+use Rattle.std.specs.Prelude.{codes}
 use Rattle.cal_model.specs.Selections.Expansion.{end_line}
 use Rattle.cal_model.specs.Selections.RowLines.{new_line}
 use Rattle.ical_objects.proofs.Printed.{OnOk-then}
-use Rattle.expand_limit.specs.InstanceLines.{lines_after_start_by}
 use Rattle.expand_limit.specs.ShownTexts.{line_text}
 use Rattle.expand_limit.proofs.MadeLines.{behind-both, behind-id, whole-moment}
 use Rattle.expand_limit.proofs.instance.write_behind_start.Goals as goal

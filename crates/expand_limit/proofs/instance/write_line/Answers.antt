@@ -1,8 +1,7 @@
-use Rattle.std.proofs.Common.{◌≡◌, true, false, [], ◌∷◌, ◌++◌, sym, ap, ◌∙◌, append-nil}
-use Rattle.std.specs.Prelude.{◌||◌, flat_map, bytes_eq, codes}
+use Rattle.std.proofs.Common.{◌++◌, sym, ap, ◌∙◌, append-nil}
+use Rattle.std.specs.Prelude.{flat_map}
 use Rattle.cal_model.specs.Selections.RowLines.{rewritten}
 use Rattle.ical_objects.proofs.Printed.{OnOk-then}
-use Rattle.expand_limit.specs.InstanceLines.{instance_line_by}
 use Rattle.expand_limit.specs.ShownTexts.{line_text}
 use Rattle.expand_limit.proofs.LineCases.{line-end, line-id}
 use Rattle.expand_limit.proofs.MadeLines.{whole-moment}

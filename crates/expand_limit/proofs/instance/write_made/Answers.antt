@@ -1,4 +1,4 @@
-use Rattle.std.proofs.Common.{◌≡◌, ◌++◌, false, w64, sym, ap, ap₂, subst, ◌∙◌}
+use Rattle.std.proofs.Common.{◌≡◌, ◌++◌, false, w64, sym, ap, ap₂, ◌∙◌}
 use Rattle.std.specs.Prelude.{flat_map, bytes_eq, codes}
 use Rattle.std.proofs.lemmas.Int.{to_z-of_z}
 use Rattle.cal_model.specs.Selections.Picks.{prop_picks}
@@ -6,7 +6,6 @@ use Rattle.cal_model.specs.Selections.RowLines.{new_line}
 use Rattle.ical_objects.proofs.Printed.{OnOk-then}
 use Rattle.shown_lines.specs.Portions.{written_portion}
 use Rattle.expand_limit.specs.KeptParts.{portion_by}
-use Rattle.expand_limit.specs.ShownTexts.{line_text}
 use Rattle.expand_limit.proofs.ShownParts.{other_line-text}
 use Rattle.expand_limit.proofs.MadeLines.{new_line-name}
 use Rattle.expand_limit.proofs.instance.write_made.Goals as goal

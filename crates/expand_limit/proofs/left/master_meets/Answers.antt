@@ -1,6 +1,5 @@
-use Rattle.std.proofs.Common.{◌≡◌, [], ◌∷◌, length, sym, ap, subst, ◌∙◌}
+use Rattle.std.proofs.Common.{◌≡◌, length, sym, ap, subst, ◌∙◌}
 use Rattle.std.specs.Prelude.{unwrap_or}
-use Rattle.std.specs.List.{list_any}
 use Rattle.cal_moment.specs.Calendar.{IsCalendarMoment}
 use Rattle.cal_model.specs.Instances.Rows.{Numbered}
 use Rattle.cal_model.specs.Objects.ObjectFacts.{IsReadComponent}
@@ -8,7 +7,7 @@ use Rattle.cal_model.specs.Selections.LimitedSets.{original_row}
 use Rattle.cal_model.proofs.Objects.ObjectFactLaws.{IsReadObject-read}
 use Rattle.override_merge.specs.Conversions.{HasConvertibleRow}
 use Rattle.override_merge.proofs.ReadObjects.{HasConvertibleRows-read}
-use Rattle.expand_limit.specs.SeenRows.{meets, named_id, originals}
+use Rattle.expand_limit.specs.SeenRows.{meets, named_id}
 use Rattle.expand_limit.proofs.MadeLines.{whole-moment}
 use Rattle.expand_limit.proofs.SeenParts.{master-is, master-known, master-there, originals-one}
 use Rattle.expand_limit.proofs.ShownRows.{id_moment}

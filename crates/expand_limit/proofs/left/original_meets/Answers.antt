@@ -1,4 +1,4 @@
-use Rattle.std.proofs.Common.{◌≡◌, [], length, sym, ap, subst, ◌∙◌}
+use Rattle.std.proofs.Common.{[], length, sym, ap, subst, ◌∙◌}
 use Rattle.std.specs.Prelude.{All, option_to_list}
 use Rattle.std.specs.List.{list_any}
 use Rattle.std.proofs.lemmas.List.Elements.{All-head}

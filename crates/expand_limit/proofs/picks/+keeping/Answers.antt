@@ -1,16 +1,16 @@
-use Rattle.std.proofs.Common.{◌≡◌, ℕ, ◌+◌, ◌-◌, ◌<◌, Bool, true, false, not, List, [], ◌∷◌, Some, length, take, get_or, sym, ap, subst, ◌∙◌, arith}
+use Rattle.std.proofs.Common.{◌≡◌, ℕ, ◌-◌, ◌<◌, not, List, Some, length, take, sym, ap, subst, ◌∙◌, arith}
 use Rattle.std.specs.Prelude.{if◌then◌else◌, bytes_eq, flat_map, IfSome}
 use Rattle.std.specs.List.{list_any}
 use Rattle.std.proofs.lemmas.List.{take_all}
 use Rattle.cal_base.specs.Lists.NameMap.{value_at}
-use Rattle.cal_model.specs.declared.selection.CompPick.{CompPick, out-CompPick}
+use Rattle.cal_model.specs.declared.selection.CompPick.{out-CompPick}
 use Rattle.cal_model.specs.Words.Lists.{is_empty}
 use Rattle.expand_limit.specs.declared.kept.Kept.{Kept}
 use Rattle.expand_limit.specs.declared.kept.Kept.TheOpen.{Kept-F}
 use Rattle.expand_limit.specs.KeptParts.{IsKeptBy, kept_at}
 use Rattle.expand_limit.specs.NamedPicks.{asked_at, named_comps, IsNamed}
-use Rattle.expand_limit.proofs.PickLemmas.{held, named-init, named-next, any-held, all_props_in, all_comps_in}
-use Rattle.expand_limit.proofs.KeptBuilding.{SaysProps, kept-none, kept-all_comps, kept-named}
+use Rattle.expand_limit.proofs.PickLemmas.{held, named-init, named-next, any-held, all_comps_in}
+use Rattle.expand_limit.proofs.KeptBuilding.{SaysProps, kept-all_comps, kept-named}
 use Rattle.expand_limit.proofs.picks.+keeping.Goals as goal
 
 pub kept_by-names-init : goal.kept_by-names-init

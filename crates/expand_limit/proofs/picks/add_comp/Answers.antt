@@ -1,5 +1,5 @@
-use Rattle.std.proofs.Common.{◌≡◌, ◌==◌, ℕ, Bool, true, false, List, [], ◌∷◌, ◌++◌, length, ap, subst, sym, ◌∙◌}
-use Rattle.std.specs.Prelude.{bytes_eq, filter}
+use Rattle.std.proofs.Common.{◌≡◌, ◌==◌, ℕ, List, [], ◌∷◌, ◌++◌, ap, sym, ◌∙◌}
+use Rattle.std.specs.Prelude.{bytes_eq}
 use Rattle.std.specs.List.{list_any}
 use Rattle.std.specs.Borrow.{Bor}
 use Rattle.std.proofs.lemmas.List.{map-append, length-map}
@@ -7,7 +7,7 @@ use Rattle.ical_objects.proofs.Printed.{OnOk-then}
 use Rattle.cal_base.specs.Lists.NameMap.{value_at, with_value}
 use Rattle.cal_model.specs.declared.selection.CompPick.{CompPick}
 use Rattle.cal_model.specs.Words.Lists.{is_empty}
-use Rattle.expand_limit.specs.NamedPicks.{asked_at, is_comp}
+use Rattle.expand_limit.specs.NamedPicks.{asked_at}
 use Rattle.expand_limit.proofs.PickLemmas.{held, group-next, grown, covered-next}
 use Rattle.expand_limit.proofs.picks.add_comp.Goals as goal
 use Rattle.expand_limit.proofs.picks.add_comp.Goals.{then-is_empty+in_ok-of+in_ok-push, else-is_empty}

@@ -1,4 +1,4 @@
-use Rattle.std.proofs.Common.{◌≡◌, ◌<◌, ◌∷◌, ◌++◌, [], length, ap, ap₂, subst, sym, ◌∙◌}
+use Rattle.std.proofs.Common.{◌<◌, ◌∷◌, ◌++◌, [], length, ap₂, subst, sym, ◌∙◌}
 use Rattle.std.specs.Prelude.{IfSome}
 use Rattle.ical_objects.proofs.Printed.{OnOk-then}
 use Rattle.cal_base.specs.Lists.NameMap.{value_at, with_value}

@@ -1,4 +1,4 @@
-use Rattle.std.proofs.Common.{◌≡◌, sym, ap, ap₂, ◌∙◌}
+use Rattle.std.proofs.Common.{◌≡◌, ap, ap₂, ◌∙◌}
 use Rattle.cal_base.specs.Lists.NameMap.{value_at, with_value}
 use Rattle.ical_objects.proofs.Printed.{OnOk-then}
 use Rattle.expand_limit.specs.NamedPicks.{with_prop}

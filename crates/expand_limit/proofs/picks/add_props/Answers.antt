@@ -2,7 +2,7 @@ use Rattle.std.proofs.Common.{◌≡◌, ◌∷◌, sym, ap, ◌∙◌}
 use Rattle.std.specs.Prelude.{filter}
 use Rattle.cal_base.specs.Lists.NameMap.{value_at}
 use Rattle.expand_limit.specs.NamedPicks.{said_by, is_prop}
-use Rattle.expand_limit.proofs.PickLemmas.{said-next, put-prop}
+use Rattle.expand_limit.proofs.PickLemmas.{said-next}
 use Rattle.expand_limit.proofs.picks.add_props.Goals as goal
 
 pub props-preserved : goal.props-preserved

@@ -1,4 +1,4 @@
-use Rattle.std.proofs.Common.{◌≡◌, ◌+◌, ◌++◌, drop, ap, ◌∙◌}
+use Rattle.std.proofs.Common.{◌+◌, ◌++◌, drop, ap, ◌∙◌}
 use Rattle.std.specs.Prelude.{filter, flat_map}
 use Rattle.cal_base.specs.Lists.NameMap.{value_at}
 use Rattle.expand_limit.specs.NamedPicks.{is_comp, named_comps, asked_at}

@@ -1,4 +1,4 @@
-use Rattle.std.proofs.Common.{◌≡◌, ◌+◌, ap, ◌∙◌, drop}
+use Rattle.std.proofs.Common.{◌+◌, ap, ◌∙◌, drop}
 use Rattle.std.specs.Prelude.{filter, flat_map}
 use Rattle.cal_base.specs.Lists.NameMap.{value_at}
 use Rattle.expand_limit.specs.NamedPicks.{said_by, is_prop, named_props}

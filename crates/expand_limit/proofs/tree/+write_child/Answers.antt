@@ -1,15 +1,12 @@
-use Rattle.std.proofs.Common.{◌≡◌, ℕ, suc, ◌<◌, false, List, [], ◌∷◌, ◌++◌, length, take, refl, sym, ap, subst, ◌∙◌, append-nil}
+use Rattle.std.proofs.Common.{◌≡◌, ℕ, suc, ◌<◌, false, ◌++◌, length, take, refl, sym, ap, subst, ◌∙◌}
 use Rattle.std.specs.Prelude.{◌&&◌, flat_map, codes}
-use Rattle.std.specs.List.{AllByRecursion}
 use Rattle.std.proofs.lemmas.Bool.{and_left, and_right}
 use Rattle.std.proofs.lemmas.List.{take_all}
 use Rattle.cal_base.specs.Lines.WrittenLines.{written}
-use Rattle.cal_base.specs.declared.line.Node.{Node}
 use Rattle.cal_base.specs.declared.line.Node.TheViews.{out-Node}
-use Rattle.cal_model.specs.declared.selection.CompPick.{CompPick}
 use Rattle.cal_model.specs.Objects.ComponentLines.{name_of, lines_of, children_of}
 use Rattle.cal_model.specs.Selections.Picks.{comp_picks}
-use Rattle.ical_objects.specs.Printing.{IsPrintable, ArePrintable, IsOwnLine, begin_line, end_line}
+use Rattle.ical_objects.specs.Printing.{ArePrintable, begin_line, end_line}
 use Rattle.ical_objects.proofs.Printed.{IsPrintable_out, ArePrintable-at, OnOk-then}
 use Rattle.expand_limit.specs.KeptParts.{IsKept, IsKeptAs, leaves_out_as, inner_as, now_of}
 use Rattle.expand_limit.specs.ShownTexts.{line_text, node_text, seen_lines, seen_nodes}

@@ -1,7 +1,6 @@
-use Rattle.std.proofs.Common.{◌≡◌, ℕ, List, [], ◌∷◌, ◌++◌, sym, ap, subst, ◌∙◌}
+use Rattle.std.proofs.Common.{◌≡◌, ℕ, ◌∷◌, ◌++◌, sym, ap, subst, ◌∙◌}
 use Rattle.std.specs.Prelude.{flat_map}
-use Rattle.cal_base.specs.declared.line.Node.{Node}
-use Rattle.ical_objects.specs.Printing.{IsPrintable, ArePrintable}
+use Rattle.ical_objects.specs.Printing.{ArePrintable}
 use Rattle.expand_limit.specs.ShownTexts.{node_text, seen_nodes}
 use Rattle.expand_limit.proofs.PrintedParts.{first_fits, rest-text}
 use Rattle.expand_limit.proofs.tree.write_children.Goals as goal
