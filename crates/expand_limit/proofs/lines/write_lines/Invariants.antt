@@ -1,0 +1,18 @@
+use Rattle.std.proofs.Common.{◌≡◌, ℕ, suc, List, ◌++◌, length}
+use Rattle.std.specs.Prelude.{flat_map}
+use Rattle.std.specs.List.{AllByRecursion}
+use Rattle.cal_model.specs.declared.selection.CompPick.{CompPick}
+use Rattle.ical_objects.specs.Printing.{IsOwnLine}
+use Rattle.expand_limit.specs.KeptParts.{IsKept}
+use Rattle.expand_limit.specs.ShownTexts.{line_text, seen_lines}
+use Rattle.expand_limit.proofs.lines.write_lines.Given as goal
+
+-- what is written so far stands before the text of what is left
+abbrev pub invariant-lines : goal.invariant-lines
+invariant-lines l = record {
+  own : AllByRecursion IsOwnLine l.rest;
+  text : (levels : ℕ) (picks : List CompPick) → IsKept (suc levels) l.kept picks → l.out ++ flat_map (line_text picks l.options.busy) (seen_lines l.options.plain l.rest) ≡ l.initial.out ++ flat_map (line_text picks l.options.busy) (seen_lines l.options.plain l.fn.lines);
+}
+
+abbrev pub decreases-lines : goal.decreases-lines
+decreases-lines l = length l.rest
