@@ -1,5 +1,6 @@
 pub mod CalendarWalks
 pub mod CalendarZones
+pub mod FreeBusyJoined
 pub mod KeptObjects
 pub mod LengthLemmas
 pub mod ListSteps

@@ -1,4 +1,5 @@
 pub mod CalendarObjects
+pub mod FreeBusyLines
 pub mod Lengths
 pub mod ObjectTimes
 pub mod PieceRows

@@ -9,6 +9,7 @@
 mod busy;
 mod margin;
 mod runs;
+mod text;
 mod windows;
 
 pub use runs::calendar_runs;
