@@ -1,5 +1,5 @@
 -- The lines of an answer to a query for busy times, put one behind another.
-use Rattle.std.proofs.Common.{◌≡◌, ℕ, ◌+◌, ◌<◌, ◌≤◌, List, [], ◌∷◌, ◌++◌, map, length, refl, sym, ap, ◌∙◌, append_assoc, arith, ℤ, length-append}
+use Rattle.std.proofs.Common.{◌≡◌, ℕ, ◌<◌, List, [], ◌∷◌, ◌++◌, map, length, refl, sym, ap, ◌∙◌, append_assoc, arith, ℤ, length-append}
 use Rattle.std.specs.Prelude.{codes}
 use Rattle.cal_model.specs.declared.row.Range.{Range}
 use Rattle.cal_model.specs.Busy.FreeBusyText.{class_name, free_busy_text, head_lines, run_line, utc_text}

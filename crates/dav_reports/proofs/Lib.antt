@@ -1,3 +1,4 @@
+pub mod BusyBodies
 pub mod CalendarWalks
 pub mod CalendarZones
 pub mod FreeBusyJoined
@@ -5,6 +6,10 @@ pub mod KeptObjects
 pub mod LengthLemmas
 pub mod ListSteps
 pub mod NeededRows
+pub mod RangeLemmas
+pub mod ReportLemmas
+pub mod ReportZones
+pub mod SeenReports
 pub mod StoredTimes
 pub mod StretchLemmas
 pub mod TimeClasses

@@ -1,5 +1,5 @@
--- The lines of runs of busy time, and texts that may be too long.
-use Rattle.std.specs.Prelude.{◌≡◌, ℕ, ◌<◌, ◌≤◌, List, length, map, Option, Some, None}
+-- The lines of runs of busy time.
+use Rattle.std.specs.Prelude.{ℕ, List, map}
 use Rattle.cal_moment.specs.Calendar.{IsCalendarMoment}
 use Rattle.cal_model.specs.Busy.FreeBusyText.{run_line}
 use Rattle.cal_model.specs.Words.TextLines.{lines_text}
@@ -14,8 +14,3 @@ run_lines runs = lines_text (map run_line (map time_of_run runs))
 pub record IsWithinDates (run : Run) : Type 0 where
   pub start : IsCalendarMoment run.start.0
   pub end : IsCalendarMoment run.end.0
-
--- a text of at most so many octets, or none where it has more
-abbrev pub IsWithin : ℕ → List ℕ → Option (List ℕ) → Type 0
-IsWithin limit text None = limit < length text
-IsWithin limit text (Some found) = (found ≡ text) × (length text ≤ limit)

@@ -3,4 +3,7 @@ pub mod FreeBusyLines
 pub mod Lengths
 pub mod ObjectTimes
 pub mod PieceRows
+pub mod RangeDates
+pub mod ReportOutcomes
+pub mod SeenCalendars
 pub mod Stretches

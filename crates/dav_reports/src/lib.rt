@@ -7,9 +7,13 @@
 #![tactic(auto)]
 
 mod busy;
+mod dates;
+mod free_busy;
 mod margin;
+mod refusals;
 mod runs;
 mod text;
 mod windows;
+mod zones;
 
 pub use runs::calendar_runs;

@@ -6,7 +6,8 @@ ghost use Rattle.cal_model.specs.Refusals.RequestLimits.{answer_limit};
 ghost use Rattle.cal_model.specs.Words.TextLines.{ended, lines_text};
 ghost use Rattle.freebusy.specs.declared.busy.Run.{Run};
 ghost use Rattle.freebusy.specs.Times.{time_of_run};
-ghost use Rattle.dav_reports.specs.FreeBusyLines.{IsWithin, IsWithinDates, run_lines};
+ghost use Rattle.dav_reports.specs.FreeBusyLines.{IsWithinDates, run_lines};
+ghost use Rattle.dav_reports.specs.SeenCalendars.{IsBody};
 
 use cal_base::{NoMemory, Octets};
 use cal_model::{Class, Range};
@@ -101,7 +102,7 @@ pub(crate) fn free_busy_text(
     requires start { IsCalendarMoment range.start.0 }
     requires end { IsCalendarMoment range.end.0 }
     requires runs { All IsWithinDates runs.now }
-    ensures { IfOk result (λ text. IsWithin answer_limit (spec.free_busy_text moment range (map time_of_run runs.now)) text) }
+    ensures { IfOk result (λ text. IsBody text (spec.free_busy_text moment range (map time_of_run runs.now))) }
 {
     let mut out = Octets::new(alloc);
     put_head(moment, range, &mut out)?;

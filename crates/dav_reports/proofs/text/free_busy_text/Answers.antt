@@ -1,4 +1,4 @@
-use Rattle.std.proofs.Common.{rules, arith, ap, length, ◌∙◌, sym, FitsSigned, w64, to_z-of_z}
+use Rattle.std.proofs.Common.{rules, arith, ap, length, FitsSigned, w64, to_z-of_z}
 use Rattle.cal_model.specs.Refusals.RequestLimits.{answer_limit}
 use Rattle.dav_reports.proofs.FreeBusyJoined.{front_long, text_joined}
 use Rattle.dav_reports.proofs.text.free_busy_text.Goals as goal

@@ -1,4 +1,4 @@
-use Rattle.std.proofs.lemmas.List.Elements.{All-head, All-tail}
+use Rattle.std.proofs.lemmas.List.Elements.{All-tail}
 use Rattle.dav_reports.specs.FreeBusyLines.{IsWithinDates}
 use Rattle.dav_reports.proofs.FreeBusyJoined.{run_next}
 use Rattle.dav_reports.proofs.text.put_runs.Goals as goal
