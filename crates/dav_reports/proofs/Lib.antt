@@ -1,12 +1,12 @@
 pub mod BusyBodies
 pub mod CalendarWalks
 pub mod CalendarZones
+pub mod FirstRanges
 pub mod FreeBusyJoined
 pub mod KeptObjects
 pub mod LengthLemmas
 pub mod ListSteps
 pub mod NeededRows
-pub mod RangeLemmas
 pub mod ReportLemmas
 pub mod ReportZones
 pub mod SeenReports

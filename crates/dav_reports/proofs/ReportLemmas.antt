@@ -25,7 +25,7 @@ use Rattle.dav_reports.specs.declared.dates.Outside.{Outside}
 use Rattle.dav_reports.specs.RangeDates.{IsFirst, first_refusal, refusal_of}
 use Rattle.dav_reports.specs.ReportOutcomes.{HasServedRange, IsServedRange, unless_long, unless_outside, unless_refused, zone_given, zone_of_text, zone_read}
 use Rattle.dav_reports.proofs.CalendarZones.{table_read}
-use Rattle.dav_reports.proofs.RangeLemmas.{first-cons, or_else-nothing}
+use Rattle.dav_reports.proofs.FirstRanges.{first-cons, or_else-nothing}
 
 -- The rows
 

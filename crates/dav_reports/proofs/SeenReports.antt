@@ -38,6 +38,12 @@ home_of state home name c there = by (home_at state home) there where
   by None e = absurd cc
   by (Some h) e = (h, refl)
 
+-- and so is its owner
+pub home_known : (directory : Directory) (state : ServerState) (home : ℕ) (name : List ℕ) (c : Calendar) → IsSound directory state → calendar_at state home name ≡ Some c → home < length directory.names
+home_known directory state home name c sound there =
+    let h = home_of state home name c there in
+    let w = slice_get_within state.homes home h.0 h.1 in omega (arith, w, sound.one_each)
+
 module _ (directory : Directory) (state : ServerState) (who home : ℕ) (name : List ℕ) (c : Calendar) where
   scene_has : (calendar_scene directory state who home name).calendar ≡ at_both (option_and_then (visible_home (seen_by directory state who) who) (user_number directory (user_name directory home))) (Some name)
   unfolding scene_at
@@ -48,7 +54,7 @@ module _ (directory : Directory) (state : ServerState) (who home : ℕ) (name : 
       → (calendar_scene directory state who home name).calendar ≡ cond (holds_some directory home who c) (Some (sight_of directory home who c)) None
   seen_there sound told there =
       let h = home_of state home name c there in
-      let within : home < length directory.names = let w = slice_get_within state.homes home h.0 h.1 in omega (arith, w, sound.one_each) in
+      let within = home_known directory state home name c sound there in
       scene_has
       ∙ ap (λ user. at_both (option_and_then (visible_home (seen_by directory state who) who) user) (Some name)) (told.own home within)
       ∙ calendar_in-scene (sight_of) directory state who home h.0 name h.1 (home-sound directory state home h.0 sound h.1).in_order

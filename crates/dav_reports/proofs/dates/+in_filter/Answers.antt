@@ -5,7 +5,7 @@ use Rattle.cal_model.specs.Reports.NamedRanges.{ranges_of_filter}
 use Rattle.cal_model.specs.declared.filter.CompFilter.{CompFilter}
 use Rattle.cal_model.specs.declared.filter.CompFilter.TheViews.{out-CompFilter}
 use Rattle.dav_reports.specs.RangeDates.{IsFirst, first_refusal, own_ranges}
-use Rattle.dav_reports.proofs.RangeLemmas.{first_before, first_within, found_at, none_more, ranges_of_filter-own}
+use Rattle.dav_reports.proofs.FirstRanges.{first_before, first_within, found_at, none_more, ranges_of_filter-own}
 use Rattle.dav_reports.proofs.dates.+in_filter.Goals as goal
 
 pub returns-in-Some : goal.returns-in-Some

@@ -1,6 +1,6 @@
 use Rattle.cal_model.specs.declared.filter.PropFilter.{PropFilter}
 use Rattle.cal_model.specs.Reports.NamedRanges.{ranges_of_test}
-use Rattle.dav_reports.proofs.RangeLemmas.{found_at, none_more}
+use Rattle.dav_reports.proofs.FirstRanges.{found_at, none_more}
 use Rattle.dav_reports.proofs.dates.in_props.Goals as goal
 
 pub returns-in-Some : goal.returns-in-Some
