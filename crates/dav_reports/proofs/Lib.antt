@@ -8,3 +8,7 @@ pub mod StoredTimes
 pub mod StretchLemmas
 pub mod TimeClasses
 pub mod WindowsFound
+pub mod ShownLemmas
+pub mod SaidLemmas
+pub mod SeenObjects
+pub mod LookedRows

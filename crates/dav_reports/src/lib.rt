@@ -8,7 +8,11 @@
 
 mod busy;
 mod margin;
+mod names;
+mod ranges;
+mod rows;
 mod runs;
+mod shown_response;
 mod windows;
 
 pub use runs::calendar_runs;
