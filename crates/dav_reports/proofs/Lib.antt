@@ -12,3 +12,6 @@ pub mod ShownLemmas
 pub mod SaidLemmas
 pub mod SeenObjects
 pub mod LookedRows
+pub mod ToldRows
+pub mod QueryWalks
+pub mod RangeLemmas

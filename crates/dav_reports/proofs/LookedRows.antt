@@ -1,7 +1,10 @@
 -- The rows of an object that a report looks at: those without a date, and those of the windows that it needs, in order.
-use Rattle.std.proofs.Common.{◌≡◌, ℕ, Bool, true, false, cond, List, [], ◌∷◌, ◌++◌, ◌<◌, map, refl, sym, ap, ◌∙◌, arith, ℤ}
+use Rattle.std.proofs.Common.{◌≡◌, ℕ, suc, ◌==◌, length, Bool, true, false, cond, List, [], ◌∷◌, ◌++◌, ◌<◌, map, refl, sym, ap, ◌∙◌, arith, ℤ}
 use Rattle.std.specs.Prelude.{All, AllPairs, ◌||◌, filter, flat_map, not, option_to_list, is_none}
-use Rattle.std.specs.List.{Contains}
+use Rattle.std.specs.Prelude.{Option, None, Some, IfSome}
+use Rattle.std.proofs.lemmas.Bool.{eqb-true}
+use Rattle.std.specs.Borrow.{Bor}
+use Rattle.std.specs.Option.{option_copied}
 use Rattle.std.proofs.lemmas.Int.{ints}
 use Rattle.std.proofs.lemmas.List.Elements.{All-append, All-head, All-tail, All-map, All-filter, All-contains, All-weaker, filter-append, filter_agree}
 use Rattle.cal_moment.specs.declared.stamp.Stamp.{Stamp}
@@ -22,7 +25,7 @@ use Rattle.cal_model.proofs.Ranges.WindowLaws.{in_order-windows, lies_in_some}
 use Rattle.cal_model.proofs.Reports.ReportLaws.{is_looked_at}
 use Rattle.cal_model.proofs.Words.AllLemmas.{All-everywhere, All-flat_map}
 use Rattle.overlap_rules.specs.Bounds.{IsNearRow}
-use Rattle.dav_reports.specs.PieceRows.{IsKept}
+use Rattle.dav_reports.specs.PieceRows.{AreRowsOf, Held, IsKept}
 use Rattle.dav_reports.proofs.KeptObjects.{rows_near}
 use Rattle.dav_reports.proofs.NeededRows.{looked_at-windows}
 
@@ -139,3 +142,14 @@ one_window object window kept =
 
     same : (row : Row) → lies_in_some object (window ∷ []) row ≡ lies_in_window object window row
     same row = ap (λ b. cond (is_dated row) b false) (or_false (same_int (window_of object row) window))
+
+-- and may be lent
+pub lent_rows : (held : Held) (origin : ℕ) (object : Object) (undated : List Row) (windows : List ℤ) (window : ℤ) (found : Option (Bor (List Row))) → IsKept object → AreRowsOf held origin object
+    → undated ≡ [] → windows ≡ window ∷ [] → option_copied found ≡ held origin window → IfSome found (λ rows. rows.now ≡ undated ++ in_order (flat_map (rows_in object) windows))
+lent_rows held origin object undated windows window None kept right none one e = tt
+lent_rows held origin object undated windows window (Some rows) kept right none one e =
+    right window rows.now (sym e) ∙ sym (one_window object window kept) ∙ (λ i. sym none i ++ in_order (flat_map (rows_in object) (sym one i)))
+
+pub none_in : {X : Type 0} (xs : List X) → (length xs == 0) ≡ true → xs ≡ []
+none_in [] e = refl
+none_in (x ∷ xs) e = absurd (omega (arith, eqb-true (suc (length xs)) 0 e))

@@ -17,6 +17,18 @@ use Rattle.cal_model.specs.Sight.Resources.{Resource, object}
 use Rattle.cal_model.specs.Serving.SeenResources.{resources_seen}
 use Rattle.cal_model.proofs.Sight.SceneLaws.{holds_some, home_in-view, calendar_in-scene}
 use Rattle.cal_model.proofs.State.NameWalkLaws.{home-sound}
+use Rattle.std.specs.Prelude.{Ok}
+use Rattle.std.specs.Result.{result_ok}
+use Rattle.cal_model.specs.declared.filter.Filter.{Filter}
+use Rattle.cal_model.specs.declared.object.Object.{Object}
+use Rattle.cal_model.specs.declared.row.Row.{Row}
+use Rattle.cal_model.specs.declared.selection.Selection.{Selection}
+use Rattle.cal_model.specs.declared.zone.ZoneTable.{ZoneTable}
+use Rattle.cal_model.specs.Filters.Matching.{matches_object}
+use Rattle.cal_model.specs.Objects.ObjectReading.{read_object}
+use Rattle.cal_model.specs.Selections.Picks.{picked_text}
+use Rattle.cal_model.specs.Selections.ShownData.{shown as shown_by, shown_of_object, shown_tree, takes_all}
+use Rattle.cal_model.specs.Serving.ReportReplies.{octets_match, shown_octets}
 use Rattle.dav_reports.specs.SeenCalendars.{MayRead, reported_of}
 use Rattle.dav_reports.specs.ShownObjects.{IsShown}
 
@@ -96,3 +108,14 @@ is_shown directory state who home name c object_name octets text shown sound tol
       may_read = may.may_read;
       is_text = is;
     }
+
+-- what a report shows of stored octets
+pub shown_is : (select : Selection) (zone : ZoneTable) (octets : List ℕ) (object : Object) → read_object octets ≡ Ok object → shown_octets select zone octets ≡ shown_of_object octets object select zone
+shown_is select zone octets object reading = ap (λ (found : Option Object). elim found [ None ↦ octets | Some read ↦ shown_of_object octets read select zone ]) (ap result_ok reading)
+
+pub match_is : (wanted : Filter) (zone : ZoneTable) (octets : List ℕ) (object : Object) → read_object octets ≡ Ok object → octets_match wanted zone octets ≡ matches_object wanted object zone
+match_is wanted zone octets object reading = ap (λ (found : Option Object). elim found [ None ↦ false | Some read ↦ matches_object wanted read zone ]) (ap result_ok reading)
+
+-- stored octets that are shown as they are
+pub shown_all : (octets : List ℕ) (object : Object) (rows : List Row) (select : Selection) (zone : ZoneTable) → takes_all select ≡ true → shown_by octets object rows select zone ≡ octets
+shown_all octets object rows select zone all = ap (λ b. cond b octets (picked_text select.comp (shown_tree object rows select zone))) all

@@ -9,6 +9,7 @@
 mod busy;
 mod margin;
 mod names;
+mod query;
 mod ranges;
 mod rows;
 mod runs;

@@ -38,9 +38,11 @@ pub(crate) fn lent_rows<'a, P: Pieces>(
 ) -> Option<&'a List<Row>>
     ensures { (object : ObjectSpec) → IsKept object → AreRowsOf (P.held pieces.now) origin object → IfSome result (λ rows. rows.now ≡ undated.now ++ in_order (flat_map (rows_in object) windows.now)) }
 {
-    match (undated, windows) {
-        ([], [window]) => pieces.rows(origin, *window),
-        _ => None,
+    let (window, more) = windows.split_first()?;
+    if undated.is_empty() && more.is_empty() {
+        pieces.rows(origin, *window)
+    } else {
+        None
     }
 }
 
