@@ -30,7 +30,7 @@ use Rattle.cal_model.proofs.State.NameWalkLaws.{calendar-sound}
 use Rattle.dav_reports.specs.CalendarObjects.{objects_at, sought_responses}
 use Rattle.cal_model.specs.Replies.XmlText.{multistatus}
 use Rattle.multistatus.specs.ReplyPieces.{begun}
-use Rattle.multistatus.proofs.ReplyLemmas.{multistatus_filled}
+use Rattle.multistatus.proofs.ReplyLemmas.{begun_size, multistatus_filled}
 use Rattle.dav_reports.specs.PieceRows.{Held, windows_cost}
 
 -- each of some entries is one of a calendar
@@ -74,10 +74,6 @@ sought_cost held select wanted origin object ranges named = ap (λ rs. windows_c
 -- responses that are too long already
 pub too_long : (out new rest all : List ℕ) → answer_limit < length new → new ++ rest ≡ all → answer_limit < length all
 too_long out new rest all over e = let size = ap length e in let both = length-append new rest in omega (arith, over, size, both)
-
-begun_size : length begun ≡ 109
-unfolding begun
-begun_size = refl
 
 -- what is too long before it ends is too long
 pub too_long_whole : (responses : List ℕ) → answer_limit < length (begun ++ responses) → answer_limit < length (multistatus responses)

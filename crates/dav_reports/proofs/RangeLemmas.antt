@@ -11,8 +11,8 @@ joined : {X Y : Type 0} (f : X → List Y) (xs : List X) → flat_map (λ (ys : 
 joined f [] = refl
 joined f (x ∷ xs) = ap (λ ys. f x ++ ys) (joined f xs)
 
-pub ranges_parts : (filter : CompFilter) → ranges_of_filter filter ≡ option_to_list filter.time ++ (flat_map (λ (p : PropFilter). ranges_of_test p.test) filter.props ++ flat_map ranges_of_filter filter.comps)
+pub ranges_parts : (filter : CompFilter) → ranges_of_filter filter ≡ option_to_list (out-CompFilter filter).time ++ (flat_map (λ (p : PropFilter). ranges_of_test p.test) (out-CompFilter filter).props ++ flat_map ranges_of_filter (out-CompFilter filter).comps)
 ranges_parts filter =
     ap ranges_of_filter (sym (roll-out-CompFilter filter))
     ∙ ranges_of_filter_roll (out-CompFilter filter)
-    ∙ ap (λ inner. option_to_list filter.time ++ (flat_map (λ (p : PropFilter). ranges_of_test p.test) filter.props ++ inner)) (joined ranges_of_filter filter.comps)
+    ∙ ap (λ inner. option_to_list (out-CompFilter filter).time ++ (flat_map (λ (p : PropFilter). ranges_of_test p.test) (out-CompFilter filter).props ++ inner)) (joined ranges_of_filter (out-CompFilter filter).comps)

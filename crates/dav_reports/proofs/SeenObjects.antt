@@ -110,12 +110,12 @@ is_shown directory state who home name c object_name octets text shown sound tol
     }
 
 -- what a report shows of stored octets
-pub shown_is : (select : Selection) (zone : ZoneTable) (octets : List ℕ) (object : Object) → read_object octets ≡ Ok object → shown_octets select zone octets ≡ shown_of_object octets object select zone
-shown_is select zone octets object reading = ap (λ (found : Option Object). elim found [ None ↦ octets | Some read ↦ shown_of_object octets read select zone ]) (ap result_ok reading)
+pub shown_is : (select : Selection) (zone : ZoneTable) (octets : List ℕ) (it : Object) → read_object octets ≡ Ok it → shown_octets select zone octets ≡ shown_of_object octets it select zone
+shown_is select zone octets it reading = ap (λ (found : Option Object). elim found [ None ↦ octets | Some read ↦ shown_of_object octets read select zone ]) (ap result_ok reading)
 
-pub match_is : (wanted : Filter) (zone : ZoneTable) (octets : List ℕ) (object : Object) → read_object octets ≡ Ok object → octets_match wanted zone octets ≡ matches_object wanted object zone
-match_is wanted zone octets object reading = ap (λ (found : Option Object). elim found [ None ↦ false | Some read ↦ matches_object wanted read zone ]) (ap result_ok reading)
+pub match_is : (wanted : Filter) (zone : ZoneTable) (octets : List ℕ) (it : Object) → read_object octets ≡ Ok it → octets_match wanted zone octets ≡ matches_object wanted it zone
+match_is wanted zone octets it reading = ap (λ (found : Option Object). elim found [ None ↦ false | Some read ↦ matches_object wanted read zone ]) (ap result_ok reading)
 
 -- stored octets that are shown as they are
-pub shown_all : (octets : List ℕ) (object : Object) (rows : List Row) (select : Selection) (zone : ZoneTable) → takes_all select ≡ true → shown_by octets object rows select zone ≡ octets
-shown_all octets object rows select zone all = ap (λ b. cond b octets (picked_text select.comp (shown_tree object rows select zone))) all
+pub shown_all : (octets : List ℕ) (it : Object) (rows : List Row) (select : Selection) (zone : ZoneTable) → takes_all select ≡ true → shown_by octets it rows select zone ≡ octets
+shown_all octets it rows select zone all = ap (λ b. cond b octets (picked_text select.comp (shown_tree it rows select zone))) all

@@ -12,6 +12,7 @@ use multistatus::once;
 use std::alloc::Global;
 
 const DAV: &[u8] = b"DAV:";
+
 const CALDAV: &[u8] = b"urn:ietf:params:xml:ns:caldav";
 
 /// Puts a name behind others.

@@ -186,7 +186,8 @@ fn push_sought<V: View, A: PropAnswers, P: Pieces, L: Ledger>(
         steps,
     )?;
     push_if_matching(
-        alloc, seen, home, calendar, answers, stored, &rows, wanted, props, names, select, zone, out,
+        alloc, seen, home, calendar, answers, stored, &rows, wanted, props, names, select, zone,
+        out,
     )
 }
 

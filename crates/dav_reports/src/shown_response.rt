@@ -70,7 +70,17 @@ fn push_named<V: View, A: PropAnswers>(
 {
     let mut response = Response::begin(alloc, href, out)?;
     'names: for name in names {
-        add_said(alloc, answers, seen, path, text, props, name, &mut response, out)?;
+        add_said(
+            alloc,
+            answers,
+            seen,
+            path,
+            text,
+            props,
+            name,
+            &mut response,
+            out,
+        )?;
     }
     response.end(out)
 }

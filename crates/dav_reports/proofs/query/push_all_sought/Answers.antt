@@ -1,7 +1,8 @@
 use Rattle.std.proofs.Common.{◌≡◌, ℕ, List, ◌++◌, [], ◌∷◌, ◌<◌, refl, sym, ap, ◌∙◌, arith, length, map, subst, append-nil}
 use Rattle.cal_model.specs.declared.property.Props.TheVariants.{None as NoProps}
 use Rattle.cal_model.specs.declared.report.ReportRequest.TheVariants.{Query}
-use Rattle.std.specs.Prelude.{None}
+use Rattle.std.specs.Prelude.{None, Some}
+use Rattle.cal_base.specs.Lists.NameMap.{value_at}
 use Rattle.cal_model.specs.declared.stored.Stored.{Stored}
 use Rattle.cal_model.specs.State.ServerState.{Calendar}
 use Rattle.cal_model.specs.State.NameWalks.{objects_above}
@@ -98,9 +99,10 @@ returns-then-len-gt-ANSWER_LIMIT-clause-written g c k may =
     let pair : List ℕ × List ℕ = (stored.path.object, stored.octets) in
     let rest = objects_above state c.args.home c.args.calendar.now stored.path.object in
     let over : answer_limit < length c.push_sought.new.out = omega arith in
-    too_long _ c.push_sought.new.out _ _ over (
+    too_long c.objects.out c.push_sought.new.out _ _ over (
     sought_next (reported_of directory c.args.seen.now.who c.args.home c.args.calendar.now k) c.args.select.now c.args.zone.now c.args.props.now c.args.wanted.now c.objects.out c.push_sought.new.out _ pair rest
-    ((rw c.deref.ensures at c.in_ok-push_sought.ensures.response) k may ((rw above at (c.objects.invariant.found k may.there)).0)) (rw above at (c.objects.invariant.made k may)))
+    (subst (λ (s : Stored). value_at k.objects s.path.object ≡ Some s.octets → c.push_sought.new.out ≡ c.objects.out ++ sought_responses (reported_of directory c.args.seen.now.who c.args.home c.args.calendar.now k) c.args.select.now c.args.zone.now c.args.props.now c.args.wanted.now ((s.path.object, s.octets) ∷ []))
+    c.deref.ensures (c.in_ok-push_sought.ensures.response k may) ((rw above at (c.objects.invariant.found k may.there)).0)) (rw above at (c.objects.invariant.made k may)))
 
 pub objects-preserved : goal.objects-preserved
 objects-preserved g c =
@@ -121,7 +123,8 @@ objects-preserved g c =
     let steps = rw c.deref.ensures at c.in_ok-push_sought.ensures.steps in
     rw last (record {
       made = λ k may. sought_next (reported_of directory c.args.seen.now.who c.args.home c.args.calendar.now k) c.args.select.now c.args.zone.now c.args.props.now c.args.wanted.now c.objects.out c.push_sought.new.out _ pair rest
-    ((rw c.deref.ensures at c.in_ok-push_sought.ensures.response) k may ((rw above at (c.objects.invariant.found k may.there)).0)) (rw above at (c.objects.invariant.made k may));
+          (subst (λ (s : Stored). value_at k.objects s.path.object ≡ Some s.octets → c.push_sought.new.out ≡ c.objects.out ++ sought_responses (reported_of directory c.args.seen.now.who c.args.home c.args.calendar.now k) c.args.select.now c.args.zone.now c.args.props.now c.args.wanted.now ((s.path.object, s.octets) ∷ []))
+          c.deref.ensures (c.in_ok-push_sought.ensures.response k may) ((rw above at (c.objects.invariant.found k may.there)).0)) (rw above at (c.objects.invariant.made k may));
       counted = omega (arith, counted, whole, cost, named, steps);
       right = (rw above at c.objects.invariant.right).1;
       served = (rw above at c.objects.invariant.served).1;

@@ -1,6 +1,7 @@
 use Rattle.std.proofs.Common.{◌≡◌, ◌≤◌, ◌++◌, length, sym, ap, ◌∙◌, append_assoc, arith}
 use Rattle.std.specs.Prelude.{flat_map, option_to_list}
 use Rattle.std.proofs.lemmas.List.{take_all}
+use Rattle.cal_model.specs.declared.filter.CompFilter.TheViews.{out-CompFilter}
 use Rattle.cal_model.specs.declared.filter.PropFilter.{PropFilter}
 use Rattle.cal_model.specs.Reports.NamedRanges.{ranges_of_filter, ranges_of_test}
 use Rattle.dav_reports.proofs.RangeLemmas.{ranges_parts}
@@ -8,7 +9,7 @@ use Rattle.dav_reports.proofs.ranges.+put_ranges_of_comp.Goals as goal
 
 pub returns : goal.returns
 returns t c =
-    let filter = c.args.filter.now in
+    let filter = out-CompFilter c.args.filter.now in
     let own = option_to_list filter.time in
     let of_props = flat_map (λ (p : PropFilter). ranges_of_test p.test) filter.props in
     let inner = flat_map ranges_of_filter filter.comps in
@@ -20,4 +21,4 @@ returns t c =
     ∙ ap (λ out. out ++ inner) (props ∙ ap (λ out. out ++ of_props) c.in_ok-put_some.ensures)
     ∙ append_assoc (c.args.out.now ++ own) of_props inner
     ∙ append_assoc c.args.out.now own (of_props ++ inner)
-    ∙ ap (λ ranges. c.args.out.now ++ ranges) (sym (ranges_parts filter))
+    ∙ ap (λ ranges. c.args.out.now ++ ranges) (sym (ranges_parts c.args.filter.now))

@@ -16,8 +16,8 @@ names-preserved g c shown resource shows =
 pub returns : goal.returns
 returns g c = record {
   response = λ shown resource shows.
-  let asker = asker_of (g.V.View.directory c.args.seen.now.view.now) c.args.seen.now.who shown in
-  let past : length c.args.names.now ≤ c.names.name-index = omega arith in
-  let all = take_all c.names.name-index c.args.names.now past in
-  c.end.ensures.text c.args.out.now c.args.href.now (flat_map (said_of c.args.props.now asker resource) c.args.names.now) (rw all at (c.names.invariant shown resource shows));
+      let asker = asker_of (g.V.View.directory c.args.seen.now.view.now) c.args.seen.now.who shown in
+      let past : length c.args.names.now ≤ c.names.name-index = omega arith in
+      let all = take_all c.names.name-index c.args.names.now past in
+      c.end.ensures.text c.args.out.now c.args.href.now (flat_map (said_of c.args.props.now asker resource) c.args.names.now) (rw all at (c.names.invariant shown resource shows));
 }
