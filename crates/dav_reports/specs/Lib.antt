@@ -1,3 +1,4 @@
+pub mod AskedProperties
 pub mod CalendarObjects
 pub mod FreeBusyLines
 pub mod Lengths
@@ -6,4 +7,5 @@ pub mod PieceRows
 pub mod RangeDates
 pub mod ReportOutcomes
 pub mod SeenCalendars
+pub mod ShownObjects
 pub mod Stretches

@@ -1,5 +1,5 @@
 -- A calendar as the caller of a report sees it, and the body of the reply.
-use Rattle.std.specs.Prelude.{◌≡◌, ℕ, ◌<◌, ◌≤◌, true, List, length, Option, Some, None}
+use Rattle.std.specs.Prelude.{◌≡◌, ℕ, ◌<◌, ◌≤◌, Bool, true, false, List, ◌++◌, length, Option, Some, None}
 use Rattle.cal_model.specs.Access.Privileges.{has_all, read}
 use Rattle.cal_model.specs.Refusals.RequestLimits.{answer_limit}
 use Rattle.cal_model.specs.Serving.ReportReplies.{Reported}
@@ -25,3 +25,8 @@ pub record MayRead (directory : Directory) (state : ServerState) (who home : ℕ
 abbrev pub IsBody : Option (List ℕ) → List ℕ → Type 0
 IsBody (Some body) whole = (body ≡ whole) × (length whole ≤ answer_limit)
 IsBody None whole = answer_limit < length whole
+
+-- responses were written behind others, or they are longer than an answer may be
+abbrev pub IsWritten : Bool → List ℕ → List ℕ → List ℕ → Type 0
+IsWritten true old new responses = new ≡ old ++ responses
+IsWritten false old new responses = answer_limit < length (old ++ responses)
