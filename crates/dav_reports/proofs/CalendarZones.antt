@@ -43,7 +43,7 @@ data_known state home name found e = by_home (home_at state home) e
     by_home (Some h) e = by_name (value_at h.calendars name) e
 
 -- a zone that was read is a table
-table_read : (text : List ℕ) (zone : ZoneTable) → read_zone text ≡ Ok zone → IsTable zone
+pub table_read : (text : List ℕ) (zone : ZoneTable) → read_zone text ≡ Ok zone → IsTable zone
 table_read text zone reading = let is = IsZone-read_zone text zone reading in subst IsTable (sym is.table) (IsTable-table_of zone.name is.parts is.read)
 
 -- the zone of a calendar, or another table

@@ -1,10 +1,15 @@
 -- The objects of a calendar in a state, which pieces of their rows are right, and what it costs to find the other rows that a report needs.
-use Rattle.std.specs.Prelude.{◌≡◌, ℕ, List, map, flat_map, option_to_list, sum, Option, Some, None, Ok}
+use Rattle.std.specs.Prelude.{◌≡◌, ℕ, List, filter, map, flat_map, option_to_list, sum, Option, Some, None, Ok}
 use Rattle.std.specs.List.{AllByRecursion}
 use Rattle.cal_base.specs.Lists.NameMap.{Named}
 use Rattle.cal_model.specs.declared.object.Object.{Object}
 use Rattle.cal_model.specs.declared.report.ReportRequest.{ReportRequest}
-use Rattle.cal_model.specs.declared.report.ReportRequest.TheVariants.{FreeBusy}
+use Rattle.cal_model.specs.declared.filter.Filter.{Filter}
+use Rattle.cal_model.specs.declared.property.Props.{Props}
+use Rattle.cal_model.specs.declared.property.Props.TheVariants.{None as NoProps}
+use Rattle.cal_model.specs.declared.selection.Selection.{Selection}
+use Rattle.cal_model.specs.Serving.ReportReplies.{Reported, object_response, octets_match}
+use Rattle.cal_model.specs.declared.report.ReportRequest.TheVariants.{FreeBusy, Query}
 use Rattle.cal_model.specs.declared.row.Range.{Range}
 use Rattle.cal_model.specs.declared.zone.ZoneTable.{ZoneTable}
 use Rattle.cal_model.specs.Busy.BusyTimes.{BusyTime}
@@ -50,3 +55,12 @@ times_needed zone range object = times_by_windows zone object (windows_needed ob
 
 abbrev pub times_of_entries : ZoneTable → Range → Named (List ℕ) → List BusyTime
 times_of_entries zone range entries = flat_map (times_needed zone range) (objects_of entries)
+
+-- what a query costs so: its properties and its zone make no window needed
+abbrev pub query_cost : Held → Selection → Filter → OriginOf → Named (List ℕ) → ℕ
+query_cost held select wanted origin_of entries = entries_cost held (Query NoProps select wanted None) origin_of entries
+
+-- the responses of the objects that match a filter
+abbrev pub sought_responses : Reported → Selection → ZoneTable → Props → Filter → Named (List ℕ) → List ℕ
+sought_responses reported select zone props wanted entries =
+    flat_map (object_response reported select zone props) (filter (λ (entry : List ℕ × List ℕ). octets_match wanted zone entry.1) entries)

@@ -1,5 +1,11 @@
+pub mod AskedProperties
 pub mod CalendarObjects
+pub mod FreeBusyLines
 pub mod Lengths
 pub mod ObjectTimes
 pub mod PieceRows
+pub mod RangeDates
+pub mod ReportOutcomes
+pub mod SeenCalendars
+pub mod ShownObjects
 pub mod Stretches

@@ -7,8 +7,18 @@
 #![tactic(auto)]
 
 mod busy;
+mod dates;
+mod free_busy;
 mod margin;
+mod names;
+mod query;
+mod ranges;
+mod refusals;
+mod rows;
 mod runs;
+mod shown_response;
+mod text;
 mod windows;
+mod zones;
 
 pub use runs::calendar_runs;

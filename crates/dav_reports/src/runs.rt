@@ -1,8 +1,7 @@
 //! When a calendar is busy (RFC 4791, 7.10).
-ghost use Rattle.std.specs.Prelude.{◌≡◌, ◌+◌, ◌≤◌, IfOk, Some, map, unwrap_or};
+ghost use Rattle.std.specs.Prelude.{◌≡◌, ◌+◌, ◌≤◌, IfOk, Some, map};
 ghost use Rattle.cal_model.specs.declared.report.ReportRequest.TheVariants.{FreeBusy};
 ghost use Rattle.cal_model.specs.Busy.BusyRuns as spec;
-ghost use Rattle.cal_model.specs.Instances.Alignment.{utc_zone};
 ghost use Rattle.cal_model.specs.Reports.FloatingZone.{floating_zone};
 ghost use Rattle.cal_model.specs.State.ServerState.{Calendar, calendar_at, objects_of, own_zone};
 ghost use Rattle.cal_model.specs.State.SoundStates.{IsSound};
@@ -11,9 +10,10 @@ ghost use Rattle.freebusy.specs.Times.{time_of_run, times_of};
 ghost use Rattle.dav_reports.specs.CalendarObjects.{AreHeldRight, entries_cost, objects_at, times_of_entries};
 
 use crate::busy::put_object;
-use cal_base::{List, NoMemory, Octets, Steps};
+use crate::zones::{utc, zone_or};
+use cal_base::{List, NoMemory, Steps};
 use cal_model::view::{Pieces, View};
-use cal_model::{CalendarData, Range, Seen, ZoneTable};
+use cal_model::{Range, Seen, ZoneTable};
 use freebusy::{BusyRow, Run, busy_runs};
 use std::alloc::Global;
 use std::sync::ledger::Ledger;
@@ -52,28 +52,6 @@ fn times_in_calendar<V: View, P: Pieces, L: Ledger>(
         last = stored.path.object.as_slice();
     }
     Ok(times)
-}
-
-/// The clock of UTC.
-fn utc(alloc: Global) -> ZoneTable
-    ensures value { result ≡ utc_zone }
-    ensures table { IsTable result }
-{
-    ZoneTable {
-        name: Octets::new(alloc),
-        before: 0,
-        onsets: List::new(alloc),
-    }
-}
-
-/// The zone of a calendar, or another where it has none.
-fn zone_or<'a>(kept: &'a CalendarData, other: &'a ZoneTable) -> &'a ZoneTable
-    ensures { result.now ≡ unwrap_or kept.now.zone other.now }
-{
-    match &kept.zone {
-        Some(zone) => zone,
-        None => other,
-    }
 }
 
 /// The longest runs of one class of a calendar in a range, in order (RFC 4791, 7.10). Floating times are

@@ -1,0 +1,155 @@
+-- The rows of an object that a report looks at: those without a date, and those of the windows that it needs, in order.
+use Rattle.std.proofs.Common.{◌≡◌, ℕ, suc, ◌==◌, length, Bool, true, false, cond, List, [], ◌∷◌, ◌++◌, ◌<◌, map, refl, sym, ap, ◌∙◌, arith, ℤ}
+use Rattle.std.specs.Prelude.{All, AllPairs, ◌||◌, filter, flat_map, not, option_to_list, is_none}
+use Rattle.std.specs.Prelude.{Option, None, Some, IfSome}
+use Rattle.std.proofs.lemmas.Bool.{eqb-true}
+use Rattle.std.specs.Borrow.{Bor}
+use Rattle.std.specs.Option.{option_copied}
+use Rattle.std.proofs.lemmas.Int.{ints}
+use Rattle.std.proofs.lemmas.List.Elements.{All-append, All-head, All-tail, All-map, All-filter, All-contains, All-weaker, filter-append, filter_agree}
+use Rattle.cal_moment.specs.declared.stamp.Stamp.{Stamp}
+use Rattle.cal_moment.specs.declared.stamp.Stamp.TheVariants.{Date, Floating, Zoned, Utc}
+use Rattle.cal_model.specs.declared.object.Object.{Object}
+use Rattle.cal_model.specs.declared.report.ReportRequest.{ReportRequest}
+use Rattle.cal_model.specs.declared.row.Row.{Row}
+use Rattle.cal_model.specs.Instances.Alignment.{Aligned, kind_of, value_of}
+use Rattle.cal_model.specs.Instances.Starts.{own_start, end_from, end_of_instance}
+use Rattle.cal_model.specs.Instances.Rows.{Numbered, numbered, masters, overrides, ids_start, id_of_override, named_by, is_named, row_of, has_date, is_dated, undated_row, undated_rows, starts, master_row, row_at, override_row, override_row_from, dated_rows, rows, rows_in, in_order, lies_in_window, window_of}
+use Rattle.cal_model.specs.Recurrence.RecurrenceSet.{every_moment}
+use Rattle.cal_model.specs.Reports.NeededWindows.{windows_needed}
+use Rattle.cal_model.proofs.Instances.EachRowLemmas.{All-in_order}
+use Rattle.cal_model.specs.Words.Integers.{same_int}
+use Rattle.cal_model.proofs.Instances.RowsInOrder.{rows-in_order}
+use Rattle.cal_model.proofs.Objects.ObjectFactLaws.{IsReadObject-read}
+use Rattle.cal_model.proofs.Ranges.WindowLaws.{in_order-windows, lies_in_some}
+use Rattle.cal_model.proofs.Reports.ReportLaws.{is_looked_at}
+use Rattle.cal_model.proofs.Words.AllLemmas.{All-everywhere, All-flat_map}
+use Rattle.overlap_rules.specs.Bounds.{IsNearRow}
+use Rattle.dav_reports.specs.PieceRows.{AreRowsOf, Held, IsKept}
+use Rattle.dav_reports.proofs.KeptObjects.{rows_near}
+use Rattle.dav_reports.proofs.NeededRows.{looked_at-windows}
+
+-- Tests that all or none of a list pass
+
+or_false : (b : Bool) → (b || false) ≡ b
+or_false true = refl
+or_false false = refl
+
+passing : {X : Type 0} (p : X → Bool) (xs : List X) → All (λ x. p x ≡ true) xs → filter p xs ≡ xs
+passing p [] all = refl
+passing p (x ∷ xs) all = ap (λ b. cond b (x ∷ filter p xs) (filter p xs)) (All-head (λ y. p y ≡ true) x xs all) ∙ ap (λ ys. x ∷ ys) (passing p xs (All-tail (λ y. p y ≡ true) x xs all))
+
+failing : {X : Type 0} (p : X → Bool) (xs : List X) → All (λ x. p x ≡ false) xs → filter p xs ≡ []
+failing p [] all = refl
+failing p (x ∷ xs) all = ap (λ b. cond b (x ∷ filter p xs) (filter p xs)) (All-head (λ y. p y ≡ false) x xs all) ∙ failing p xs (All-tail (λ y. p y ≡ false) x xs all)
+
+-- Rows with a date, and without
+
+abbrev IsDated : Row → Type 0
+IsDated row = is_dated row ≡ true
+
+kind_dated : (s : Stamp) → has_date (kind_of s) ≡ true
+kind_dated (Date d) = refl
+kind_dated (Floating l) = refl
+kind_dated (Zoned l zone) = refl
+kind_dated (Utc u) = refl
+
+overrides_dated : (object : Object) (ids : Stamp) (all : List ℤ) (n : Numbered) → All IsDated (override_row object ids all n)
+overrides_dated object ids all n =
+    All-flat_map IsDated (λ s. override_row_from object ids all n s (value_of object.zones s)) (option_to_list (own_start n.component))
+    (All-everywhere (λ s. All IsDated (override_row_from object ids all n s (value_of object.zones s))) from (option_to_list (own_start n.component)))
+  where
+    row : Stamp → Aligned → Row
+    row s x = row_of (id_of_override object ids all x) (value_of object.zones s) (end_from object.zones n.component (value_of object.zones s)) n.number (kind_of ids) (kind_of s)
+
+    from : (s : Stamp) → All IsDated (override_row_from object ids all n s (value_of object.zones s))
+    from s = All-map IsDated (row s) (named_by object.zones ids n) (All-everywhere (λ x. IsDated (row s x)) (λ x. kind_dated s) (named_by object.zones ids n))
+
+masters_dated : (object : Object) (ids : Stamp) (r : ℤ) (n : Numbered) → All IsDated (master_row every_moment object ids r n)
+masters_dated object ids r n =
+    All-map IsDated row (option_to_list (own_start n.component)) (All-everywhere (λ s. IsDated (row s)) (λ s. kind_dated s) (option_to_list (own_start n.component)))
+  where
+    row : Stamp → Row
+    row s = row_of r r (end_of_instance every_moment object.zones s n.component r) n.number (kind_of ids) (kind_of s)
+
+abbrev dated_of : Object → List Row
+dated_of object = flat_map (dated_rows (row_at every_moment object) every_moment object) (option_to_list (ids_start object))
+
+all_dated : (object : Object) → All IsDated (dated_of object)
+all_dated object =
+    All-flat_map IsDated (dated_rows (row_at every_moment object) every_moment object) (option_to_list (ids_start object))
+    (All-everywhere (λ ids. All IsDated (dated_rows (row_at every_moment object) every_moment object ids)) dated (option_to_list (ids_start object)))
+  where
+    starts_of_object : List ℤ
+    starts_of_object = starts every_moment object
+
+    instances : (ids : Stamp) → All IsDated (flat_map (row_at every_moment object ids starts_of_object) starts_of_object)
+    instances ids =
+        All-flat_map IsDated (row_at every_moment object ids starts_of_object) starts_of_object
+        (All-everywhere (λ r. All IsDated (row_at every_moment object ids starts_of_object r))
+        (λ r. All-flat_map IsDated (master_row every_moment object ids r) (masters object) (All-everywhere (λ n. All IsDated (master_row every_moment object ids r n)) (masters_dated object ids r) (masters object))) starts_of_object)
+
+    dated : (ids : Stamp) → All IsDated (dated_rows (row_at every_moment object) every_moment object ids)
+    dated ids =
+        All-in_order IsDated (flat_map (override_row object ids starts_of_object) (overrides object) ++ filter (λ (r : Row). not (is_named object ids r.id)) (flat_map (row_at every_moment object ids starts_of_object) starts_of_object))
+        (All-append IsDated (flat_map (override_row object ids starts_of_object) (overrides object)) (filter (λ (r : Row). not (is_named object ids r.id)) (flat_map (row_at every_moment object ids starts_of_object) starts_of_object))
+        (All-flat_map IsDated (override_row object ids starts_of_object) (overrides object) (All-everywhere (λ n. All IsDated (override_row object ids starts_of_object n)) (overrides_dated object ids starts_of_object) (overrides object)))
+        (All-filter (λ (r : Row). not (is_named object ids r.id)) IsDated (flat_map (row_at every_moment object ids starts_of_object) starts_of_object) (instances ids)))
+
+without_date : (P : Row → Type 0) → ((n : Numbered) → P (undated_row n)) → (object : Object) → All P (undated_rows object)
+without_date P each object =
+    All-map P undated_row (filter (λ (n : Numbered). is_none (own_start n.component)) (numbered object))
+    (All-everywhere (λ n. P (undated_row n)) each (filter (λ (n : Numbered). is_none (own_start n.component)) (numbered object)))
+
+-- the rows that a report looks at
+abbrev pub rows_looked_at : Object → ReportRequest → List Row
+rows_looked_at object report = filter (is_looked_at object report) (rows object)
+
+pub looked_rows : (object : Object) (report : ReportRequest) → IsKept object
+    → undated_rows object ++ in_order (flat_map (rows_in object) (windows_needed object report)) ≡ rows_looked_at object report
+looked_rows object report kept =
+    ap (λ found. undated_rows object ++ found) (sym (looked_at-windows object report kept) ∙ dated_part)
+    ∙ sym parts
+  where
+    parts : filter (is_looked_at object report) (rows object) ≡ undated_rows object ++ filter (is_looked_at object report) (dated_of object)
+    parts =
+        filter-append (is_looked_at object report) (undated_rows object) (dated_of object)
+        ∙ ap (λ front. front ++ filter (is_looked_at object report) (dated_of object)) (passing (is_looked_at object report) (undated_rows object) (without_date (λ row. is_looked_at object report row ≡ true) (λ n. refl) object))
+
+    dated_part : filter is_dated (filter (is_looked_at object report) (rows object)) ≡ filter (is_looked_at object report) (dated_of object)
+    dated_part =
+        ap (filter is_dated) parts
+        ∙ filter-append is_dated (undated_rows object) (filter (is_looked_at object report) (dated_of object))
+        ∙ ap (λ front. front ++ filter is_dated (filter (is_looked_at object report) (dated_of object))) (failing is_dated (undated_rows object) (without_date (λ row. is_dated row ≡ false) (λ n. refl) object))
+        ∙ passing is_dated (filter (is_looked_at object report) (dated_of object)) (All-filter (is_looked_at object report) IsDated (dated_of object) (all_dated object))
+
+-- they are near
+pub looked_near : (object : Object) (windows : List ℤ) → IsKept object → All IsNearRow (undated_rows object ++ in_order (flat_map (rows_in object) windows))
+looked_near object windows kept =
+    All-append IsNearRow (undated_rows object) (in_order (flat_map (rows_in object) windows))
+    (without_date IsNearRow (λ n. record { start = (omega (arith, ints), omega (arith, ints)); end = (omega (arith, ints), omega (arith, ints)) }) object)
+    (All-in_order IsNearRow (flat_map (rows_in object) windows)
+    (All-flat_map IsNearRow (rows_in object) windows (All-everywhere (λ w. All IsNearRow (rows_in object w)) (rows_near object kept) windows)))
+
+-- the rows of one window are in order
+pub one_window : (object : Object) (window : ℤ) → IsKept object → in_order (flat_map (rows_in object) (window ∷ [])) ≡ rows_in object window
+one_window object window kept =
+    sym (in_order-windows every_moment object (window ∷ []) (rows-in_order every_moment object (IsReadObject-read object kept.read).one_master) alone)
+    ∙ filter_agree (lies_in_some object (window ∷ [])) (lies_in_window object window) same (rows object)
+  where
+    alone : AllPairs (λ (a b : ℤ). (a ≡ b) → ⊥) (window ∷ [])
+    alone i j d lt below = absurd (omega (arith, lt, below))
+
+    same : (row : Row) → lies_in_some object (window ∷ []) row ≡ lies_in_window object window row
+    same row = ap (λ b. cond (is_dated row) b false) (or_false (same_int (window_of object row) window))
+
+-- and may be lent
+pub lent_rows : (held : Held) (origin : ℕ) (object : Object) (undated : List Row) (windows : List ℤ) (window : ℤ) (found : Option (Bor (List Row))) → IsKept object → AreRowsOf held origin object
+    → undated ≡ [] → windows ≡ window ∷ [] → option_copied found ≡ held origin window → IfSome found (λ rows. rows.now ≡ undated ++ in_order (flat_map (rows_in object) windows))
+lent_rows held origin object undated windows window None kept right none one e = tt
+lent_rows held origin object undated windows window (Some rows) kept right none one e =
+    right window rows.now (sym e) ∙ sym (one_window object window kept) ∙ (λ i. sym none i ++ in_order (flat_map (rows_in object) (sym one i)))
+
+pub none_in : {X : Type 0} (xs : List X) → (length xs == 0) ≡ true → xs ≡ []
+none_in [] e = refl
+none_in (x ∷ xs) e = absurd (omega (arith, eqb-true (suc (length xs)) 0 e))

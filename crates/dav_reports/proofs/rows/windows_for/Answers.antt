@@ -1,0 +1,15 @@
+use Rattle.std.proofs.Common.{◌≡◌, ◌∙◌, ap, length, sym, subst}
+use Rattle.std.specs.Prelude.{All}
+use Rattle.override_merge.proofs.MergeLemmas.{zones_count}
+use Rattle.rrule_sets.specs.AskedStarts.{IsExpandable}
+use Rattle.dav_reports.proofs.KeptObjects.{kept_components, kept_zones}
+use Rattle.dav_reports.proofs.rows.windows_for.Goals as goal
+
+pub local_times-requires : goal.local_times-requires
+local_times-requires c = rw c.as_slice.ensures (kept_zones c.args.object.now c.requires)
+
+pub windows_needed-requires-clause-lengths : goal.windows_needed-requires-clause-lengths
+windows_needed-requires-clause-lengths c =
+    let object = c.args.object.now in
+    let count : length c.as_slice-2.result.now ≡ length object.zones = ap length c.as_slice-2.ensures ∙ zones_count c.in_ok-zones.zones object.zones (c.in_ok-zones.ensures ∙ c.as_slice.ensures) in
+    subst (λ n. All (IsExpandable n) object.components) (sym count) (kept_components object c.requires)
