@@ -154,7 +154,7 @@ taken_first o k old new r apart at value rest =
     let m = first_member o k old apart (sym at) in
     rw (value ∙ m.1) (subst (λ es. IsOneOut m.0 (pieces_of old) (pieces_of es)) (sym rest) (one_out k m.0 old m.1), m.2)
 
-pub taken_oldest : (k : ℕ) (old new : List (ℕ × Piece)) (r : Option Piece) → IsApart (keys old) → Some k ≡ last_or None (keys old) → r ≡ piece_of k old → new ≡ removed k old → MatchOption r (pieces_of old ≡ []) (λ piece. pieces_of old ≡ piece ∷ pieces_of new)
+pub taken_oldest : (k : ℕ) (old new : List (ℕ × Piece)) (r : Option Piece) → IsApart (keys old) → Some k ≡ last_or None (keys old) → r ≡ piece_of k old → new ≡ removed k old → MatchOption r ((pieces_of old ≡ []) × (new ≡ old)) (λ piece. pieces_of old ≡ piece ∷ pieces_of new)
 taken_oldest k old new r apart at value rest =
     let m = oldest_out k old apart (sym at) in
     rw (value ∙ m.1) (m.2 ∙ ap (λ es. m.0 ∷ pieces_of es) (sym rest))

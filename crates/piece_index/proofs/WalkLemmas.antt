@@ -1,11 +1,9 @@
 -- Going along a chain.
-use Rattle.std.proofs.Common.{◌≡◌, ◌≢◌, ℕ, zero, suc, ◌≤◌, ◌<◌, Bool, true, false, ◌&&◌, ◌==◌, if◌then◌else◌, List, [], ◌∷◌, map, filter, length, Option, Some, None, refl, sym, ap, ◌∙◌, subst, arith}
+use Rattle.std.proofs.Common.{◌≡◌, ℕ, zero, suc, ◌≤◌, ◌<◌, Bool, true, false, ◌&&◌, ◌==◌, if◌then◌else◌, List, [], ◌∷◌, map, filter, length, Option, Some, None, refl, sym, ap, ◌∙◌, subst, arith}
 use Rattle.std.specs.Prelude.{ℤ, filter_map}
 use Rattle.std.specs.Ordering.{int_eq}
-use Rattle.std.specs.Option.{option_and_then}
 use Rattle.std.proofs.lemmas.List.{length-map}
 use Rattle.std.proofs.lemmas.List.Sums.{length-filter, count_by-le-length}
-use Rattle.std.proofs.lemmas.Bool.Decides.{Decides-int_eq}
 use Rattle.slab.specs.Slab.{Slab, get, slab_len}
 use Rattle.cal_model.specs.declared.piece.Piece.{Piece}
 use Rattle.cal_model.specs.declared.row.Row.{Row}

@@ -198,7 +198,7 @@ impl Chains {
 
     /// Takes the oldest piece out. Takes no memory.
     pub(crate) fn take_oldest(&mut self) -> Option<Piece>
-        ensures { MatchOption result (pieces_of self.old ≡ []) (λ piece. pieces_of self.old ≡ piece ∷ pieces_of self.new) }
+        ensures { MatchOption result ((pieces_of self.old ≡ []) × (self.new ≡ self.old)) (λ piece. pieces_of self.old ≡ piece ∷ pieces_of self.new) }
     {
         let Some(key) = self.oldest() else {
             return None;

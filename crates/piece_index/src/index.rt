@@ -1,5 +1,5 @@
 //! The index: pieces by origin and window, within a budget of rows.
-ghost use Rattle.std.specs.Prelude.{◌≡◌, ◌≢◌, ℕ, ℤ, ◌+◌, None, Some, [], filter, length};
+ghost use Rattle.std.specs.Prelude.{◌≡◌, ◌≢◌, ℕ, ℤ, ◌+◌, None, Some, [], ◌∷◌, filter, length, MatchOption, IfNone};
 ghost use Rattle.std.specs.Option.{option_copied};
 ghost use Rattle.cal_model.specs.Pieces.PieceLists.{rows_at, rows_in, is_piece_of, is_other_piece};
 ghost use Rattle.cal_model.specs.Pieces.KeptPieces.{IsWithinBudget};
@@ -92,6 +92,19 @@ impl Index {
         let rows = u128::from(self.rows) + u128::from(needed);
         self.rows = self.chains.shrink(rows, self.budget);
         Added::Done
+    }
+
+    /// Drops the oldest piece, and gives it. Takes no memory.
+    pub fn drop_oldest(&mut self) -> Option<Piece>
+        ensures piece { MatchOption result (self.old.pieces ≡ []) (λ piece. self.old.pieces ≡ piece ∷ self.new.pieces) }
+        ensures none { IfNone result (self.new ≡ self.old) }
+        ensures budget { self.new.budget ≡ self.old.budget }
+    {
+        let Some(piece) = self.chains.take_oldest() else {
+            return None;
+        };
+        self.rows -= piece.rows.len() as u64;
+        Some(piece)
     }
 
     /// Drops the pieces of an object, with one step for each. Takes no memory.
