@@ -1,7 +1,8 @@
 -- What a store shows of what it keeps: calendars, objects and their origins, and the next ones.
 use Rattle.std.proofs.Common.{◌≡◌, ℕ, ◌≤◌, List, Option, Some, None, refl, sym, ap, ◌∙◌, subst}
-use Rattle.std.specs.Prelude.{slice_get, option_map, option_and_then, IfSome, IsSome}
+use Rattle.std.specs.Prelude.{length, slice_get, option_map, option_and_then, IfSome, IsSome}
 use Rattle.std.specs.Option.{option_map_or}
+use Rattle.std.proofs.lemmas.List.{length-map}
 use Rattle.cal_base.specs.Lists.NameMap.{value_at, next_above}
 use Rattle.cal_model.specs.declared.store.CalendarData.{CalendarData}
 use Rattle.cal_model.specs.Words.Limits.{home_limit}
@@ -122,6 +123,14 @@ module _ (kept : Kept) (store : IsStore kept) (number : ℕ) where
   -- what a home's changes cost
   pub used_some : (home : KeptHome) → slice_get kept.homes number ≡ Some home → (home.accepted ≡ option_map_or (λ (h : Home). h.accepted) (home_at (state_of kept) number) 0) × (home.accepted ≤ home_limit)
   used_some home at = (sym (ap (λ o. option_map_or (λ (h : Home). h.accepted) o 0) (home_shown kept.users kept.homes number ∙ ap (option_map home_of) at)), (store.homes number home at).within)
+
+  -- how many calendars a home has
+  pub count_some : (home : KeptHome) → slice_get kept.homes number ≡ Some home → length home.calendars ≡ option_map_or (λ (h : Home). length h.calendars) (home_at (state_of kept) number) 0
+  count_some home at =
+      sym (ap (λ o. option_map_or (λ (h : Home). length h.calendars) o 0) (home_shown kept.users kept.homes number ∙ ap (option_map home_of) at) ∙ length-map home.calendars (λ entry. (entry.0, calendar_of entry.1)))
+
+  pub count_none : slice_get kept.homes number ≡ None → 0 ≡ option_map_or (λ (h : Home). length h.calendars) (home_at (state_of kept) number) 0
+  count_none at = sym (ap (λ o. option_map_or (λ (h : Home). length h.calendars) o 0) (home_shown kept.users kept.homes number ∙ ap (option_map home_of) at))
 
   pub used_none : slice_get kept.homes number ≡ None → 0 ≡ option_map_or (λ (h : Home). h.accepted) (home_at (state_of kept) number) 0
   used_none at = sym (ap (λ o. option_map_or (λ (h : Home). h.accepted) o 0) (home_shown kept.users kept.homes number ∙ ap (option_map home_of) at))

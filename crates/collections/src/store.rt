@@ -68,6 +68,16 @@ impl Store {
         })
     }
 
+    /// The users, whose homes these are. (That the state is sound, and that each object has an
+    /// origin, holds of every store.)
+    pub fn users(&self) -> &Users
+        ensures users { result.now ≡ self.now.users }
+        ensures sound { IsSound (users_of self.now) (state_of self.now) }
+        ensures everywhere { HaveOrigins (state_of self.now) (origins_of self.now) }
+    {
+        &self.users
+    }
+
     /// A calendar in a user's home, without its objects. Takes no memory.
     pub fn calendar(&self, home: u32, name: &[u8]) -> Option<&CalendarData>
         ensures data { option_copied result ≡ data_at (state_of self.now) home name.now }
@@ -144,6 +154,16 @@ impl Store {
     {
         match self.homes.get(home as usize) {
             Some(home) => home.accepted,
+            None => 0,
+        }
+    }
+
+    /// How many calendars a home has; none where it isn't there. Takes no memory.
+    pub fn calendar_count(&self, home: u32) -> usize
+        ensures { result ≡ option_map_or (λ (h : Home). length h.calendars) (home_at (state_of self.now) home) 0 }
+    {
+        match self.homes.get(home as usize) {
+            Some(home) => home.calendars.len(),
             None => 0,
         }
     }

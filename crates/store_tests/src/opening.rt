@@ -53,7 +53,9 @@ fn each_home_has_its_calendar(rt: HostRuntime) -> Result<(), Fail> {
         assert!(rt; is_first(next, home));
         assert!(rt; store.calendar_after(home, NAME).is_none());
         assert!(rt; store.used(home) == 0);
+        assert!(rt; store.calendar_count(home) == 1);
     }
+    assert!(rt; store.users().len() == 2);
     Ok(())
 }
 
@@ -66,6 +68,7 @@ fn nothing_else_is_there(rt: HostRuntime) -> Result<(), Fail> {
     assert!(rt; store.calendar(0, b"calendar2").is_none());
     assert!(rt; store.calendar(1, b"").is_none());
     assert!(rt; store.used(2) == 0);
+    assert!(rt; store.calendar_count(2) == 0);
     for home in 0u32..3 {
         assert!(rt; store.object(home, NAME, b"a.ics").is_none());
         assert!(rt; store.object_after(home, NAME, b"").is_none());

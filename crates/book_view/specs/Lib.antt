@@ -1,0 +1,3 @@
+-- What a view of a store shows, and what holds of it.
+pub mod ShownStates
+pub mod Views
