@@ -1,9 +1,10 @@
 -- Users by number and by name, and one user more.
-use Rattle.std.proofs.Common.{◌≡◌, ℕ, ◌<◌, Bool, true, false, cond, List, [], ◌∷◌, ◌++◌, length, get_or, Option, Some, None, refl, sym, ap, ◌∙◌, subst, arith, inl, inr}
-use Rattle.std.specs.Prelude.{bytes_eq, slice_get, unwrap_or}
+use Rattle.std.proofs.Common.{◌≡◌, ℕ, ◌<◌, ◌≤◌, Bool, true, false, cond, List, [], ◌∷◌, ◌++◌, length, get_or, Option, Some, None, refl, sym, ap, ◌∙◌, subst, arith, inl, inr}
+use Rattle.std.specs.Prelude.{All, map, bytes_eq, slice_get, unwrap_or}
 use Rattle.std.specs.Option.{option_map}
 use Rattle.std.proofs.lemmas.Bool.{cases_Bool, cases_lt}
 use Rattle.std.proofs.lemmas.List.{length_push, get_or_append_left, length-map, map-append}
+use Rattle.std.proofs.lemmas.List.Elements.{All-append, All-cons, All-nil}
 use Rattle.std.proofs.Math.Seq.{get_or-append_seam}
 use Rattle.std.proofs.lemmas.Option.{slice_get-map, slice_get-get_or}
 use Rattle.std.proofs.lemmas.Slice.Eq.{bytes_eq-Decides}
@@ -12,7 +13,7 @@ use Rattle.cal_base.proofs.Lists.NameMapLemmas.{value_at_with}
 use Rattle.cal_model.specs.State.ServerState.{directory_of, user_name, user_number}
 use Rattle.cal_model.specs.State.UserNames.{AreToldApart}
 use Rattle.cal_model.specs.Users.UsersFile.{User, number_of, user_limit}
-use Rattle.privileges.specs.KnownUsers.{AreKnown}
+use Rattle.privileges.specs.KnownUsers.{AreKnown, name_limit}
 use Rattle.privileges.specs.declared.users.KnownUser.{KnownUser}
 use Rattle.privileges.specs.ShownUsers.{shown_user, shown_users}
 use Rattle.privileges.proofs.Places.{or_last, position-push, position-map}
@@ -126,22 +127,32 @@ told-push users user told some new = record {
       ∙ ap (λ b. cond b (Some (length users)) None) (unnamed user some);
 }
 
-pub AreKnown-push : (users : List User) (numbers : Named ℕ) (user : User) → AreKnown users numbers → length users < user_limit → 0 < length user.name → number_of users user.name ≡ None
+-- names that are short are so with a short one more
+abbrev IsShort : List ℕ → Type 0
+IsShort name = length name ≤ name_limit
+
+short-push : (users : List User) (user : User) → All IsShort (directory_of users).names → length user.name ≤ name_limit → All IsShort (directory_of (users ++ user ∷ [])).names
+short-push users user are is =
+    subst (All IsShort) (sym (map-append (λ (other : User). other.name) users (user ∷ [])))
+    (All-append IsShort (directory_of users).names (user.name ∷ []) are (All-cons IsShort user.name [] is (All-nil IsShort)))
+
+pub AreKnown-push : (users : List User) (numbers : Named ℕ) (user : User) → AreKnown users numbers → length users < user_limit → 0 < length user.name → length user.name ≤ name_limit → number_of users user.name ≡ None
     → AreKnown (users ++ user ∷ []) (with_value numbers user.name (length users))
-AreKnown-push users numbers user known room some new = record {
+AreKnown-push users numbers user known room some short new = record {
   agree = λ name. agree-push users numbers user name known.agree new;
   few = omega (arith, length_push users user);
   told = told-push users user known.told some new;
+  short = short-push users user known.short short;
 }
 
 -- the same of the users that are kept
 pub AreKnown-kept : (users : List KnownUser) (numbers : Named ℕ) (user : KnownUser) (kept : List KnownUser) (name : List ℕ) (number : ℕ) (with_it : Named ℕ)
     → kept ≡ users ++ user ∷ [] → with_it ≡ with_value numbers name number → name ≡ user.name → number ≡ length users
-    → AreKnown (shown_users users) numbers → length (shown_users users) < user_limit → 0 < length user.name → number_of (shown_users users) user.name ≡ None
+    → AreKnown (shown_users users) numbers → length (shown_users users) < user_limit → 0 < length user.name → length user.name ≤ name_limit → number_of (shown_users users) user.name ≡ None
     → AreKnown (shown_users kept) with_it
-AreKnown-kept users numbers user kept name number with_it kept_is with_is name_is number_is known room some new =
+AreKnown-kept users numbers user kept name number with_it kept_is with_is name_is number_is known room some short new =
     let shown : shown_users kept ≡ shown_users users ++ shown_user user ∷ [] = ap shown_users kept_is ∙ map-append shown_user users (user ∷ []) in
     let count : number ≡ length (shown_users users) = number_is ∙ sym (length-map users shown_user) in
     let put : with_it ≡ with_value numbers user.name (length (shown_users users)) = with_is ∙ ap (λ n. with_value numbers n number) name_is ∙ ap (with_value numbers user.name) count in
     subst (λ them. AreKnown them with_it) (sym shown)
-    (subst (AreKnown (shown_users users ++ shown_user user ∷ [])) (sym put) (AreKnown-push (shown_users users) numbers (shown_user user) known room some new))
+    (subst (AreKnown (shown_users users ++ shown_user user ∷ [])) (sym put) (AreKnown-push (shown_users users) numbers (shown_user user) known room some short new))

@@ -1,8 +1,9 @@
 //! Lines of a users file.
-ghost use Rattle.std.specs.Prelude.{◌≡◌, ◌+◌, ◌<◌, length, IfSome, option_map, bytes_eq, position, ◌==◌, ◌&&◌, codes};
+ghost use Rattle.std.specs.Prelude.{◌≡◌, ◌+◌, ◌<◌, ◌≤◌, length, IfSome, option_map, bytes_eq, position, ◌==◌, ◌&&◌, codes};
 ghost use Rattle.std.specs.List.{list_all};
 ghost use Rattle.cal_base.specs.Lines.ContentLines.{pieces};
 ghost use Rattle.cal_model.specs.Users.UsersFile as spec;
+ghost use Rattle.privileges.specs.KnownUsers.{name_limit};
 ghost use Rattle.privileges.specs.LineCuts.{behind_cut, both_texts, user_of_texts, is_digest_octet};
 
 /// The text before the first place of an octet, and the text behind that place.
@@ -24,7 +25,8 @@ fn place_of(text: &[u8], separator: u8) -> Option<usize>
 
 /// The name and the digest of the user whose line this is.
 pub(crate) fn user_of_line(line: &[u8]) -> Option<(&[u8], &[u8])>
-    ensures { option_map user_of_texts result ≡ spec.user_of_line line.now }
+    ensures user { option_map user_of_texts result ≡ spec.user_of_line line.now }
+    ensures short { IfSome result (λ parts. length parts.0.now ≤ name_limit) }
 {
     let (word, behind) = cut(line, b' ')?;
     let (name, digest) = cut(behind, b' ')?;

@@ -1,8 +1,9 @@
 //! Reading a users file.
-ghost use Rattle.std.specs.Prelude.{◌≡◌, ℕ, ◌+◌, ◌<◌, ◌^◌, length, Ok, Err, IfOk, IfNone, IfSome, OnOk, OnErr, IsErrOf, IsNone, Option, Some};
+ghost use Rattle.std.specs.Prelude.{◌≡◌, ℕ, ◌+◌, ◌<◌, ◌≤◌, ◌^◌, length, Ok, Err, IfOk, IfNone, IfSome, OnOk, OnErr, IsErrOf, IsNone, Option, Some};
 ghost use Rattle.cal_base.specs.Lines.ContentLines.{pieces};
 ghost use Rattle.cal_base.specs.Texts.Octets.{line_feed};
 ghost use Rattle.cal_model.specs.Users.UsersFile.{users_of};
+ghost use Rattle.privileges.specs.KnownUsers.{name_limit};
 ghost use Rattle.privileges.specs.LineReading.{read_line, read_on, with_user};
 
 use crate::lines::{cut, is_silent, user_of_line};
@@ -91,6 +92,7 @@ fn add_user(
     digest: &[u8],
 ) -> Result<(), UsersFault>
     requires named { 0 < length name.now }
+    requires short { length name.now ≤ name_limit }
     requires whole { length digest.now ≡ 64 }
     ensures users { OnOk result (with_user users.old place (record { name = name.now; digest = digest.now }) ≡ Ok users.new) }
     ensures fault { (at : ℕ) → IsErrOf result (UsersFault.Line at) → with_user users.old place (record { name = name.now; digest = digest.now }) ≡ Err at }

@@ -1,8 +1,9 @@
 //! The users of the server.
-ghost use Rattle.std.specs.Prelude.{◌≡◌, ◌≤◌, ◌<◌, ◌∷◌, ◌++◌, [], None, Some, length, OnOk, OnErr, IfSome, slice_get, option_map, bytes_eq};
+ghost use Rattle.std.specs.Prelude.{◌≡◌, ◌≤◌, ◌<◌, ◌∷◌, ◌++◌, [], None, Some, length, OnOk, OnErr, IfSome, All, slice_get, option_map, bytes_eq};
 ghost use Rattle.cal_model.specs.State.ServerState.{directory_of, user_name, user_number};
 ghost use Rattle.cal_model.specs.State.UserNames.{AreToldApart};
 ghost use Rattle.cal_model.specs.Users.UsersFile as spec;
+ghost use Rattle.privileges.specs.KnownUsers.{name_limit};
 
 use crate::digests::is_same;
 use cal_base::{List, NameMap, NoMemory, Octets};
@@ -48,12 +49,13 @@ impl Users {
         }
     }
 
-    /// How many users there are. (That they are few, and that their names tell them apart, holds of
-    /// all users of a file.)
+    /// How many users there are. (That they are few, and that their names tell them apart and are
+    /// short, holds of all users of a file.)
     pub fn len(&self) -> u32
         ensures len { result ≡ length self.now }
         ensures few { length self.now ≤ spec.user_limit }
         ensures told { AreToldApart (directory_of self.now) }
+        ensures short { All (λ name. length name ≤ 200) (directory_of self.now).names }
     {
         self.users.len() as u32
     }
@@ -95,6 +97,7 @@ impl Users {
     ) -> Result<(), NoMemory>
         requires room { length self.old < spec.user_limit }
         requires named { 0 < length name.now }
+        requires short { length name.now ≤ name_limit }
         requires apart { spec.number_of self.old name.now ≡ None }
         ensures ok { OnOk result (self.new ≡ self.old ++ record { name = name.now; digest = digest } ∷ []) }
         ensures err { OnErr result (self.new ≡ self.old) }

@@ -10,5 +10,5 @@ invariant_of-self-in-Ok c =
     let name = c.in_ok-shown.ensures in
     AreKnown-kept c.self.inside.users c.self.inside.numbers (record { name = c.in_ok-shown.shown; digest = c.args.digest }) c.push.new.self c.in_ok-key.key c.len-number.result c.insert.new.self
     c.in_ok-push.ensures.ok c.in-Ok.ensures.ok (c.in_ok-key.ensures ∙ sym name) c.len-number.ensures
-    c.self.invariant (omega (arith, c.requires.room, ap length seen)) (omega (arith, c.requires.named, ap length name))
+    c.self.invariant (omega (arith, c.requires.room, ap length seen)) (omega (arith, c.requires.named, ap length name)) (omega (arith, c.requires.short, ap length name))
     (ap (number_of (shown_users c.self.inside.users)) name ∙ ap (λ users. number_of users c.args.name.now) seen ∙ c.requires.apart)
