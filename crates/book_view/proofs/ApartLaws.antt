@@ -1,5 +1,5 @@
 -- The origins of a journal's live objects are apart: an entry makes one object.
-use Rattle.std.proofs.Common.{◌≡◌, ℕ, List, Option, Some, refl, sym, ◌∙◌}
+use Rattle.std.proofs.Common.{◌≡◌, List, Option, Some, refl}
 use Rattle.cal_model.specs.History.Journal.{Entry}
 use Rattle.cal_model.specs.History.LiveObjects.{Placed}
 use Rattle.cal_model.specs.History.Origins.{Origins, AreLive}
