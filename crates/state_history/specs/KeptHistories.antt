@@ -1,0 +1,44 @@
+-- What a history keeps, as contracts see it: the store, and the entries of the changes that led to it. That both are in step is what it is for.
+-- Given: what is kept. Gives: the users, the state and the origins of its objects.
+use Rattle.std.specs.Prelude.{◌≡◌, ℕ, List}
+use Rattle.cal_model.specs.History.Journal.{Entry, replay, IsAcceptedAt, IsLegal}
+use Rattle.cal_model.specs.History.Origins.{Origins, AreLive}
+use Rattle.cal_model.specs.State.ServerState.{Directory, ServerState, directory_of}
+use Rattle.cal_model.specs.State.SoundStates.{IsSoundChange}
+use Rattle.cal_model.specs.State.UserNames.{AreToldApart}
+use Rattle.cal_model.specs.Users.UsersFile.{User}
+use Rattle.cal_journal.specs.KeptEntries.{AreSound}
+use Rattle.collections.specs.Kept.{Kept as KeptStore, state_of, users_of, origins_of}
+
+-- the users, the store, the entries in their order, and for how many more there is room
+pub record Kept : Type 0 where
+  pub users : List User
+  pub store : KeptStore
+  pub journal : List Entry
+  pub room : ℕ
+
+abbrev pub users_in : Kept → List User
+users_in kept = kept.users
+
+abbrev pub directory_in : Kept → Directory
+directory_in kept = directory_of kept.users
+
+abbrev pub state_in : Kept → ServerState
+state_in kept = state_of kept.store
+
+abbrev pub origins_in : Kept → Origins
+origins_in kept = origins_of kept.store
+
+-- Each entry was accepted at its place; together they lead to the store, and its origins are those of the objects that they left.
+pub record IsInStep (users : List User) (store : KeptStore) (journal : List Entry) : Type 0 where
+  pub same : users_of store ≡ directory_of users
+  pub told : AreToldApart (directory_of users)
+  pub legal : IsLegal (directory_of users) journal
+  pub sound : AreSound (directory_of users) journal
+  pub state_is : state_of store ≡ replay (directory_of users) journal
+  pub live : AreLive journal (origins_of store)
+
+-- an entry may come next: its request is accepted, and it names what can be named
+pub record IsNext (directory : Directory) (state : ServerState) (entry : Entry) : Type 0 where
+  pub accepted : IsAcceptedAt directory state entry
+  pub sound : IsSoundChange directory entry.change

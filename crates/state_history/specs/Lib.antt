@@ -1,0 +1,2 @@
+pub mod KeptHistories
+pub mod Deletions
