@@ -23,48 +23,75 @@ WIRE = os.path.join(TOP, "crates/wire_bench/out/wire_bench")
 USERS = b"user alice ba7816bf8f01cfea414140de5dae2223b00361a396177a9cb410ff61f20015ad\n"
 
 
-def frame(payload):
-    return b"bytes 0 1741600000 %d\n%s\n" % (len(payload), payload)
+MOMENT = 1741600000  # 09:46:40 on 10 March 2025
+RULES_OF_THIRDS = (b"FREQ=WEEKLY;COUNT=52", b"FREQ=DAILY;COUNT=30", b"FREQ=MONTHLY;COUNT=24")
+
+
+def request(method, target, body=b"", media=b"application/xml", depth=b"", connection=15):
+    """The frame of a request of alice. A connection takes 1,000 requests."""
+    fields = [b"%s %s HTTP/1.1" % (method, target), b"Host: h", b"Authorization: Basic YWxpY2U6YWJj"]
+    fields += [b"Depth: " + depth] if depth else []
+    fields += [b"Content-Type: " + media, b"Content-Length: %d" % len(body)] if body else []
+    payload = b"\r\n".join(fields + [b"", body])
+    return b"bytes %d %d %d\n%s\n" % (connection, MOMENT, len(payload), payload)
+
+
+CALENDAR = b"/calendars/alice/calendar/"
+WORDS_OF_TEXT = b"we talk over what was done since the last time and what comes next, then about all that is still open "
 
 
 def put(number):
-    """The PUT of one event of half an hour on a day of 2025 or later."""
+    """The PUT of an event of half an hour within 2025, of some 700 octets; each third one recurs."""
     name = b"o%06d" % number
-    day = 1 + number % 28
-    month = 1 + number // 28 % 12
-    year = 2025 + number // 336 % 60
-    date = b"%04d%02d%02d" % (year, month, day)
-    body = b"\r\n".join([
+    date = datetime.date(2025, 1, 1) + datetime.timedelta(days=number * 7 % 365)
+    moment = b"%sT%02d%02d00Z" % (date.strftime("%Y%m%d").encode(), 8 + number % 9, number * 5 % 60)
+    lines = [
         b"BEGIN:VCALENDAR", b"VERSION:2.0", b"PRODID:-//a//EN", b"BEGIN:VEVENT", b"UID:" + name,
-        b"DTSTAMP:20250101T000000Z", b"DTSTART:" + date + b"T090000Z", b"DTEND:" + date + b"T093000Z",
-        b"SUMMARY:Stand-up", b"END:VEVENT", b"END:VCALENDAR", b"",
-    ])
-    head = b"\r\n".join([
-        b"PUT /calendars/alice/calendar/" + name + b".ics HTTP/1.1", b"Host: h",
-        b"Authorization: Basic YWxpY2U6YWJj", b"Content-Type: text/calendar",
-        b"Content-Length: %d" % len(body), b"", b"",
-    ])
-    return frame(head + body)
+        b"DTSTAMP:20250101T000000Z", b"DTSTART:" + moment, b"DURATION:PT30M",
+        *([b"RRULE:" + RULES_OF_THIRDS[number // 3 % 3]] if number % 3 == 0 else []),
+        b"SUMMARY:Meeting %d" % number, b"LOCATION:Room %d" % (number % 40),
+        *[b"X-NOTE-%d:%s" % (n, WORDS_OF_TEXT[:60]) for n in range(7)], b"END:VEVENT", b"END:VCALENDAR", b"",
+    ]
+    return request(b"PUT", CALENDAR + name + b".ics", b"\r\n".join(lines), b"text/calendar", connection=number // 1000)
 
 
-def query(start, end):
-    body = (
+def query(start, end, data=b"<C:calendar-data/>"):
+    return request(b"REPORT", CALENDAR, (
         b'<C:calendar-query xmlns:D="DAV:" xmlns:C="urn:ietf:params:xml:ns:caldav">'
-        b"<D:prop><D:getetag/><C:calendar-data/></D:prop>"
+        b"<D:prop><D:getetag/>" + data + b"</D:prop>"
         b'<C:filter><C:comp-filter name="VCALENDAR"><C:comp-filter name="VEVENT">'
         b'<C:time-range start="' + start + b'" end="' + end + b'"/>'
         b"</C:comp-filter></C:comp-filter></C:filter></C:calendar-query>"
-    )
-    head = b"\r\n".join([
-        b"REPORT /calendars/alice/calendar/ HTTP/1.1", b"Host: h", b"Authorization: Basic YWxpY2U6YWJj",
-        b"Content-Type: application/xml", b"Content-Length: %d" % len(body), b"", b"",
-    ])
-    return frame(head + body)
+    ))
 
 
-NONE = query(b"20240101T000000Z", b"20240102T000000Z")
-ONE = query(b"20250101T000000Z", b"20250101T093000Z")
-ALL = query(b"20250101T000000Z", b"20990101T000000Z")
+def multiget(numbers):
+    hrefs = b"".join(b"<D:href>%so%06d.ics</D:href>" % (CALENDAR, n) for n in numbers)
+    return request(b"REPORT", CALENDAR, (
+        b'<C:calendar-multiget xmlns:D="DAV:" xmlns:C="urn:ietf:params:xml:ns:caldav">'
+        b"<D:prop><D:getetag/><C:calendar-data/></D:prop>" + hrefs + b"</C:calendar-multiget>"
+    ))
+
+
+MONTH = (b"20250301T000000Z", b"20250401T000000Z")
+ASKED = {
+    "GET": request(b"GET", CALENDAR + b"o000042.ics"),
+    "PROPFIND of all, getetag": request(
+        b"PROPFIND", CALENDAR, b'<D:propfind xmlns:D="DAV:"><D:prop><D:getetag/></D:prop></D:propfind>', depth=b"1"
+    ),
+    "multiget of 50": multiget(range(100, 150)),
+    "a day that is past": query(b"20240101T000000Z", b"20240102T000000Z"),
+    "month, getetag": query(*MONTH, data=b""),
+    "month": query(*MONTH),
+    "month, expanded": query(*MONTH, data=b'<C:calendar-data><C:expand start="%s" end="%s"/></C:calendar-data>' % MONTH),
+    "year": query(b"20250101T000000Z", b"20260101T000000Z"),
+    "free-busy of a year": request(b"REPORT", CALENDAR, (
+        b'<C:free-busy-query xmlns:C="urn:ietf:params:xml:ns:caldav">'
+        b'<C:time-range start="20250101T000000Z" end="20260101T000000Z"/></C:free-busy-query>'
+    )),
+}
+WORK = b"claim 0\nexpand 0\npublish 0\n"
+HORIZON = 13
 
 
 def run(program, words, text):
@@ -85,24 +112,31 @@ def run(program, words, text):
 
 
 def scripts():
-    print(f"{'script':34} {'seconds':>8} {'us each':>8} {'MiB':>6} {'octets out':>12} {'objects shown':>14}")
+    print(f"{'script':44} {'seconds':>8} {'us each':>9} {'MiB':>6} {'octets each':>12} {'shown':>7}")
     with tempfile.TemporaryDirectory() as folder:
         users = os.path.join(folder, "users")
         with open(users, "wb") as file:
             file.write(USERS)
         words = ["script", "--users", users]
-        base = {}
-        for count in (2000, 20000):
+        for count in (1000, 5000):
             puts = b"".join(put(n) for n in range(count))
-            seconds, memory, output = run(SERVER, words, puts)
-            base[count] = seconds
-            print(f"{f'{count} PUTs':34} {seconds:8.3f} {seconds / count * 1e6:8.1f} {memory:6.1f} {len(output):12d}")
-            for label, text in (("nothing", NONE), ("one day", ONE), ("all", ALL)):
-                times = 20 if count == 20000 else 200
-                seconds, memory, output = run(SERVER, words, puts + text * times)
-                each = (seconds - base[count]) / times * 1e6
-                shown = output.count(b"<D:response>") // times
-                print(f"{f'{times} queries of {count} for {label}':34} {seconds:8.3f} {each:8.0f} {memory:6.1f} {len(output):12d} {shown:14d}")
+            for pieces, work in (("no pieces", b""), ("all pieces", WORK * (count * HORIZON))):
+                base, memory, before = processor_run(SERVER, words, puts + work)
+                if not work:
+                    print(f"{f'{count} PUTs':44} {base:8.3f} {base / count * 1e6:9.1f} {memory:6.1f} {len(before) // count:12d}")
+                    of_puts = base
+                else:
+                    steps = count * HORIZON
+                    print(f"{f'{steps} claims, expansions, publications':44} {base - of_puts:8.3f} {(base - of_puts) / steps * 1e6:9.1f} {memory:6.1f}")
+                for label, text in ASKED.items():
+                    times = 1000 if label == "GET" else 20
+                    seconds, memory, output = processor_run(SERVER, words, puts + work + text * times)
+                    if output.count(b"reply 15 ") != times:
+                        sys.exit(f"{label}: replies are missing")
+                    each = (seconds - base) / times * 1e6
+                    octets = (len(output) - len(before)) // times
+                    shown = output.count(b"<D:response>") // times
+                    print(f"{f'{label}, {count} objects, {pieces}':44} {seconds:8.3f} {each:9.0f} {memory:6.1f} {octets:12d} {shown:7d}")
 
 
 def lines():

@@ -8,7 +8,7 @@ use Rattle.cal_moment.specs.Calendar.{year_of, month_of, day_of_month}
 use Rattle.cal_model.specs.Replies.DateField.{date_of_moment}
 use Rattle.cal_model.specs.Replies.ReplyOctets.{fields, reply_octets}
 use Rattle.cal_model.specs.Replies.Statuses.{reason}
-use Rattle.cal_model.specs.Server.Step.{bare_reply}
+use Rattle.cal_model.specs.Replies.BareReplies.{bare_reply}
 use Rattle.cal_examples.proofs.Samples.{stand_up_etag, moment}
 
 -- the example of RFC 9110, 5.6.7

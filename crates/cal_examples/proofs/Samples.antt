@@ -4,14 +4,8 @@ use Rattle.cal_model.specs.declared.reply.Etag.{Etag}
 use Rattle.cal_model.specs.declared.request.Event.{Event}
 use Rattle.cal_model.specs.declared.request.Request.{Request}
 use Rattle.cal_model.specs.declared.row.Range.{Range}
-use Rattle.cal_model.specs.FirstPath.EventTexts.{EventText}
-use Rattle.cal_model.specs.FirstPath.QueryTexts.{QueryText}
 
 -- a meeting from 09:00 to 10:00 on 10 March 2025, in UTC
-abbrev pub stand_up : EventText
-stand_up = record { name = codes "one"; start = codes "20250310T090000Z"; end = codes "20250310T100000Z"; summary = codes "Stand-up" }
-
--- its octets
 abbrev pub stand_up_octets : List ℕ
 stand_up_octets = codes "BEGIN:VCALENDAR\r\nVERSION:2.0\r\nPRODID:-//a//EN\r\nBEGIN:VEVENT\r\nUID:one\r\nDTSTAMP:20250101T000000Z\r\nDTSTART:20250310T090000Z\r\nDTEND:20250310T100000Z\r\nSUMMARY:Stand-up\r\nEND:VEVENT\r\nEND:VCALENDAR\r\n"
 
@@ -34,10 +28,6 @@ ten = 1_741_600_800
 
 abbrev pub eleven : ℕ
 eleven = 1_741_604_400
-
--- the query for 09:00 to 10:00
-abbrev pub morning : QueryText
-morning = record { start = codes "20250310T090000Z"; end = codes "20250310T100000Z" }
 
 -- 09:46:40 of that day
 abbrev pub moment : ℕ

@@ -17,8 +17,6 @@ pub mod Streams
 pub mod Paths
 pub mod Bodies
 pub mod Requests
-pub mod FirstPath
-pub mod Scripts
 pub mod State
 pub mod Sight
 pub mod Refusals

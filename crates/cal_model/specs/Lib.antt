@@ -12,15 +12,12 @@ pub mod Busy
 pub mod Reports
 pub mod Pieces
 pub mod Access
-pub mod Server
 pub mod Replies
 pub mod Streams
 pub mod Paths
 pub mod Users
 pub mod Bodies
 pub mod Requests
-pub mod FirstPath
-pub mod Scripts
 pub mod State
 pub mod Sight
 pub mod Properties

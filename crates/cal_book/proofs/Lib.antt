@@ -1,4 +1,0 @@
-pub mod OneHomeLemmas
-pub mod StoredLemmas
-pub mod XmlLemmas
-pub mod MultistatusLemmas

@@ -1,6 +1,0 @@
-mod Appends
-mod EventLemmas
-mod MomentLemmas
-mod PutLemmas
-mod QueryLemmas
-mod TextLemmas
