@@ -1,0 +1,200 @@
+-- Over the hrefs of a multiget as it goes over them: what stands where, what is said of an object once more, and what the objects cost that were not met.
+use Rattle.std.proofs.Common.{◌≡◌, ℕ, ◌+◌, ◌-◌, ◌≤◌, Bool, true, false, cond, List, [], ◌∷◌, ◌++◌, length, take, drop, map, Option, Some, None, refl, sym, ap, ◌∙◌, subst, append-nil, append_assoc, arith, length-append, length-drop}
+use Rattle.std.specs.Prelude.{flat_map, is_some, option_and_then, option_map, option_to_list, sum, unwrap_or}
+use Rattle.std.specs.List.{AllByRecursion}
+use Rattle.std.specs.Str.{bytes_eq}
+use Rattle.std.proofs.lemmas.List.{drop-append-le, take-append-le, take_all}
+use Rattle.std.proofs.lemmas.Map.Text.{is_eq-slice_cmp}
+use Rattle.std.proofs.lemmas.Slice.Eq.{bytes_eq-Decides}
+use Rattle.std.proofs.Math.Seq.{drop-append_seam}
+use Rattle.cal_base.specs.Lists.NameMap.{Named, value_at, with_value}
+use Rattle.cal_base.proofs.Lists.NameMapLemmas.{value_at_with}
+use Rattle.cal_model.specs.declared.path.Path.{Path}
+use Rattle.cal_model.specs.declared.property.Props.{Props}
+use Rattle.cal_model.specs.declared.property.Props.TheVariants.{None as NoProps}
+use Rattle.cal_model.specs.declared.report.ReportRequest.TheVariants.{Multiget}
+use Rattle.cal_model.specs.declared.selection.Selection.{Selection}
+use Rattle.cal_model.specs.declared.zone.ZoneTable.{ZoneTable}
+use Rattle.cal_model.specs.Paths.TargetPaths.{target_path}
+use Rattle.cal_model.specs.Properties.PropertyReplies.{status_response}
+use Rattle.cal_model.specs.Serving.ReportReplies.{Reported, href_response, object_response, own_object}
+use Rattle.cal_model.specs.State.ServerState.{Calendar, ServerState, calendar_at, octets_at}
+use Rattle.rrule_sets.proofs.AskedLemmas.{sum-cons}
+use Rattle.dav_reports.specs.declared.multiget.Place.{Place}
+use Rattle.dav_reports.specs.CalendarObjects.{OriginOf, entry_cost, objects_at}
+use Rattle.dav_reports.specs.MetObjects.{AreResponses, AreWithin, IsWithin, Met, cost_unless_met, multiget_cost, named_response, response_at, text_at, unmet_cost}
+use Rattle.dav_reports.specs.PieceRows.{Held}
+
+same_name : (one other : List ℕ) → bytes_eq one other ≡ true → one ≡ other
+same_name one other same = (bytes_eq-Decides one other).0 same
+
+-- Entries by their names
+
+-- what holds of each entry holds of one that is found
+pub found_among : (P : List ℕ × List ℕ → Type 0) (entries : Named (List ℕ)) (name octets : List ℕ) → AllByRecursion P entries → value_at entries name ≡ Some octets → P (name, octets)
+found_among P [] name octets all none = absurd cc
+found_among P (entry ∷ entries) name octets all found =
+    by (bytes_eq name entry.0) refl (sym (ap (λ b. cond b (Some entry.1) (value_at entries name)) (is_eq-slice_cmp name entry.0)) ∙ found)
+  where
+    by : (b : Bool) → bytes_eq name entry.0 ≡ b → cond b (Some entry.1) (value_at entries name) ≡ Some octets → P (name, octets)
+    by true same e = let octets_are : entry.1 ≡ octets = cc in subst P (λ i. (sym (same_name name entry.0 same) i, octets_are i)) all.0
+    by false apart e = found_among P entries name octets all.1 e
+
+-- an object of a state stands among those of its calendar
+pub object_among : (state : ServerState) (home : ℕ) (calendar name octets : List ℕ) → octets_at state home calendar name ≡ Some octets → value_at (objects_at state home calendar) name ≡ Some octets
+object_among state home calendar name octets found = by (calendar_at state home calendar) found
+  where
+    by : (there : Option Calendar) → option_and_then (λ (c : Calendar). value_at c.objects name) there ≡ Some octets → value_at (flat_map (λ (c : Calendar). c.objects) (option_to_list there)) name ≡ Some octets
+    by None none = absurd cc
+    by (Some c) e = ap (λ objects. value_at objects name) (append-nil c.objects) ∙ e
+
+-- Places
+
+-- what stands at a place stays there
+pub text_kept : (written more : List ℕ) (place : Place) → IsWithin (length written) place → text_at (written ++ more) place ≡ text_at written place
+text_kept written more place within =
+    ap (take (place.end - place.begin)) (drop-append-le place.begin written more (omega arith))
+    ∙ take-append-le (place.end - place.begin) (drop place.begin written) more (let left = length-drop place.begin written in omega arith)
+
+-- what was written last stands behind the rest
+pub text_new : (written text : List ℕ) → text_at (written ++ text) (record { begin = length written; end = length (written ++ text) }) ≡ text
+text_new written text =
+    ap (take (length (written ++ text) - length written)) (drop-append_seam written text)
+    ∙ take_all (length (written ++ text) - length written) text (let size = length-append written text in omega arith)
+
+pub within_more : (met : Met) (size more : ℕ) → size ≤ more → AreWithin met size → AreWithin met more
+within_more met size more grown within name place at = let is = within name place at in record { in_order = is.in_order; before_end = omega arith }
+
+pub within_with : (met : Met) (name : List ℕ) (place : Place) (size : ℕ) → IsWithin size place → AreWithin met size → AreWithin (with_value met name place) size
+within_with met name place size is within other at found = by (bytes_eq other name) (sym (value_at_with name place other met) ∙ found)
+  where
+    by : (b : Bool) → cond b (Some place) (value_at met other) ≡ Some at → IsWithin size at
+    by true e = let same : place ≡ at = cc in subst (IsWithin size) same is
+    by false e = within other at e
+
+-- What was said
+
+module _ (reported : Reported) (select : Selection) (zone : ZoneTable) (props : Props) where
+  pub responses_kept : (met : Met) (written more : List ℕ) → AreWithin met (length written) → AreResponses reported select zone props met written → AreResponses reported select zone props met (written ++ more)
+  responses_kept met written more within said name place at = said name place at ∙ ap Some (sym (text_kept written more place (within name place at)))
+
+  pub responses_with : (met : Met) (name : List ℕ) (place : Place) (written : List ℕ) → response_at reported select zone props name ≡ Some (text_at written place) → AreResponses reported select zone props met written
+      → AreResponses reported select zone props (with_value met name place) written
+  responses_with met name place written is said other at found = by (bytes_eq other name) refl (sym (value_at_with name place other met) ∙ found)
+    where
+      by : (b : Bool) → bytes_eq other name ≡ b → cond b (Some place) (value_at met other) ≡ Some at → response_at reported select zone props other ≡ Some (text_at written at)
+      by true same e =
+          let here : place ≡ at = cc in
+          ap (response_at reported select zone props) (same_name other name same) ∙ is ∙ ap (λ p. Some (text_at written p)) here
+      by false apart e = said other at e
+
+  -- an object that is there
+  pub response_there : (name octets : List ℕ) → value_at reported.contents.objects name ≡ Some octets → response_at reported select zone props name ≡ Some (object_response reported select zone props (name, octets))
+  response_there name octets there = ap (option_map (λ found. object_response reported select zone props (name, found))) there
+
+  -- one that is not there
+  pub response_absent : (href name : List ℕ) → value_at reported.contents.objects name ≡ None → named_response reported select zone props href name ≡ status_response href 404
+  response_absent href name absent = ap (λ found. unwrap_or (option_map (λ octets. object_response reported select zone props (name, octets)) found) (status_response href 404)) absent
+
+  -- the response to an href, by the name that it has
+  response_of : List ℕ → Option (List ℕ) → List ℕ
+  response_of href None = status_response href 404
+  response_of href (Some name) = named_response reported select zone props href name
+
+  response_is : (href : List ℕ) (name : Option (List ℕ)) (octets_of : List ℕ → Option (List ℕ))
+      → elim (option_and_then (λ n. option_map (λ octets. (n, octets)) (octets_of n)) name) [ None ↦ status_response href 404 | Some entry ↦ object_response reported select zone props entry ]
+      ≡ elim name [ None ↦ status_response href 404 | Some n ↦ unwrap_or (option_map (λ octets. object_response reported select zone props (n, octets)) (octets_of n)) (status_response href 404) ]
+  response_is href None octets_of = refl
+  response_is href (Some name) octets_of = by (octets_of name)
+    where
+      by : (found : Option (List ℕ)) → elim (option_map (λ octets. (name, octets)) found) [ None ↦ status_response href 404 | Some entry ↦ object_response reported select zone props entry ]
+          ≡ unwrap_or (option_map (λ octets. object_response reported select zone props (name, octets)) found) (status_response href 404)
+      by None = refl
+      by (Some octets) = refl
+
+  pub href_named : (href : List ℕ) (name : List ℕ) → option_and_then (own_object reported) (target_path href) ≡ Some name → href_response reported select zone props href ≡ named_response reported select zone props href name
+  href_named href name is =
+      response_is href (option_and_then (own_object reported) (target_path href)) (value_at reported.contents.objects)
+      ∙ ap (λ (found : Option (List ℕ)). elim found [ None ↦ status_response href 404 | Some n ↦ named_response reported select zone props href n ]) is
+
+  pub href_foreign : (href : List ℕ) → option_and_then (own_object reported) (target_path href) ≡ None → href_response reported select zone props href ≡ status_response href 404
+  href_foreign href is =
+      response_is href (option_and_then (own_object reported) (target_path href)) (value_at reported.contents.objects)
+      ∙ ap (λ (found : Option (List ℕ)). elim found [ None ↦ status_response href 404 | Some n ↦ named_response reported select zone props href n ]) is
+
+  -- an href of an object that was met
+  pub href_met : (href name text : List ℕ) → option_and_then (own_object reported) (target_path href) ≡ Some name → response_at reported select zone props name ≡ Some text → href_response reported select zone props href ≡ text
+  href_met href name text is said = href_named href name is ∙ ap (λ found. unwrap_or found (status_response href 404)) said
+
+-- one response more
+pub next_written : (said : List ℕ → List ℕ) (href : List ℕ) (out new all : List ℕ) (rest : List (List ℕ)) → new ≡ out ++ said href → out ++ flat_map said (href ∷ rest) ≡ all → new ++ flat_map said rest ≡ all
+next_written said href out new all rest more so_far = ap (λ written. written ++ flat_map said rest) more ∙ append_assoc out (said href) (flat_map said rest) ∙ so_far
+
+-- Costs
+
+module _ (held : Held) (select : Selection) (origin_of : OriginOf) where
+  pub unmet_first : (entries : Named (List ℕ)) → unmet_cost held select origin_of [] entries ≡ multiget_cost held select origin_of entries
+  unmet_first entries = refl
+
+  module _ (met : Met) (name : List ℕ) (place : Place) where
+    abbrev before : List ℕ × List ℕ → ℕ
+    before = cost_unless_met held select origin_of met
+
+    abbrev after : List ℕ × List ℕ → ℕ
+    after = cost_unless_met held select origin_of (with_value met name place)
+
+    abbrev whole : List ℕ × List ℕ → ℕ
+    whole = entry_cost held (Multiget NoProps select []) origin_of
+
+    costs_less : (entry : List ℕ × List ℕ) → after entry ≤ before entry
+    costs_less entry = subst (λ found. cond (is_some found) 0 (whole entry) ≤ before entry) (sym (value_at_with name place entry.0 met)) (by (bytes_eq entry.0 name))
+      where
+        by : (b : Bool) → cond (is_some (cond b (Some place) (value_at met entry.0))) 0 (whole entry) ≤ before entry
+        by true = omega arith
+        by false = omega arith
+
+    unmet_less : (entries : Named (List ℕ)) → sum (map after entries) ≤ sum (map before entries)
+    unmet_less [] = omega arith
+    unmet_less (entry ∷ entries) =
+        let one = costs_less entry in
+        let more = unmet_less entries in
+        let sum_before = sum-cons (before entry) (map before entries) in
+        let sum_after = sum-cons (after entry) (map after entries) in
+        omega arith
+
+    -- an object that is met costs no more
+    pub unmet_with : (entries : Named (List ℕ)) (octets : List ℕ) → value_at met name ≡ None → value_at entries name ≡ Some octets
+        → unmet_cost held select origin_of (with_value met name place) entries + entry_cost held (Multiget NoProps select []) origin_of (name, octets) ≤ unmet_cost held select origin_of met entries
+    unmet_with [] octets new none = absurd cc
+    unmet_with (entry ∷ entries) octets new found =
+        by (bytes_eq name entry.0) refl (sym (ap (λ b. cond b (Some entry.1) (value_at entries name)) (is_eq-slice_cmp name entry.0)) ∙ found)
+      where
+        sum_before : sum (map before (entry ∷ entries)) ≡ before entry + sum (map before entries)
+        sum_before = sum-cons (before entry) (map before entries)
+
+        sum_after : sum (map after (entry ∷ entries)) ≡ after entry + sum (map after entries)
+        sum_after = sum-cons (after entry) (map after entries)
+
+        by : (b : Bool) → bytes_eq name entry.0 ≡ b → cond b (Some entry.1) (value_at entries name) ≡ Some octets → sum (map after (entry ∷ entries)) + whole (name, octets) ≤ sum (map before (entry ∷ entries))
+        by true same e =
+            let named = same_name name entry.0 same in
+            let octets_are : entry.1 ≡ octets = cc in
+            let is : entry ≡ (name, octets) = λ i. (sym named i, octets_are i) in
+            let was : before entry ≡ whole (name, octets) = ap (λ found. cond (is_some found) 0 (whole entry)) (ap (value_at met) (sym named) ∙ new) ∙ ap whole is in
+            let test : bytes_eq entry.0 name ≡ true = ap (λ n. bytes_eq entry.0 n) named ∙ (subst (λ n. bytes_eq n entry.0 ≡ true) named same) in
+            let now : after entry ≡ 0 = ap (λ found. cond (is_some found) 0 (whole entry)) (value_at_with name place entry.0 met ∙ ap (λ b. cond b (Some place) (value_at met entry.0)) test) in
+            let more = unmet_less entries in
+            let old = sum_before in
+            let left = sum_after in
+            omega arith
+        by false apart e =
+            let one = costs_less entry in
+            let more = unmet_with entries octets new e in
+            let old = sum_before in
+            let left = sum_after in
+            omega arith
+
+  -- and is one of those that were not
+  pub unmet_one : (met : Met) (name octets : List ℕ) (entries : Named (List ℕ)) → value_at met name ≡ None → value_at entries name ≡ Some octets
+      → entry_cost held (Multiget NoProps select []) origin_of (name, octets) ≤ unmet_cost held select origin_of met entries
+  unmet_one met name octets entries new found = let all = unmet_with met name (record { begin = 0; end = 0 }) entries octets new found in omega arith
