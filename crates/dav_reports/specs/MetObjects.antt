@@ -1,5 +1,5 @@
 -- The objects that a multiget has met (RFC 4791, 7.9): where the response of each stands in what was written, and what the others may cost.
-use Rattle.std.specs.Prelude.{◌≡◌, ℕ, ◌≤◌, if◌then◌else◌, List, [], map, sum, slice_range, Option, Some, is_some, option_map, unwrap_or}
+use Rattle.std.specs.Prelude.{◌≡◌, ℕ, ◌≤◌, if◌then◌else◌, List, [], ◌++◌, length, map, sum, slice_range, Option, Some, is_some, option_map, unwrap_or}
 use Rattle.cal_base.specs.Lists.NameMap.{Named, value_at}
 use Rattle.cal_model.specs.declared.property.Props.{Props}
 use Rattle.cal_model.specs.declared.property.Props.TheVariants.{None as NoProps}
@@ -19,6 +19,10 @@ Met = Named Place
 -- what stands at a place
 abbrev pub text_at : List ℕ → Place → List ℕ
 text_at written place = slice_range written place.begin place.end
+
+-- the place of what is written behind the rest
+abbrev pub place_behind : List ℕ → List ℕ → Place
+place_behind written text = record { begin = length written; end = length (written ++ text) }
 
 -- a place in so many octets
 pub record IsWithin (size : ℕ) (place : Place) : Type 0 where

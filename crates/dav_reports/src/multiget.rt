@@ -1,6 +1,6 @@
 //! The objects of a calendar at some hrefs (RFC 4791, 7.9).
 ghost use Rattle.std.specs.Prelude.{◌≡◌, ◌<◌, [], ◌++◌, ◌≤◌, ◌+◌, ℕ, List, All, flat_map, IfOk, OnOk, length, None, option_and_then};
-ghost use Rattle.cal_base.specs.Lists.NameMap.{value_at};
+ghost use Rattle.cal_base.specs.Lists.NameMap.{value_at, with_value};
 ghost use Rattle.cal_model.specs.Paths.TargetPaths.{target_path};
 ghost use Rattle.cal_model.specs.Ranges.Nearness.{HasShortOffsets};
 ghost use Rattle.cal_model.specs.Reports.NamedRanges.{ranges_of_selection as selected_ranges};
@@ -13,7 +13,7 @@ ghost use Rattle.cal_model.specs.declared.property.Props.TheVariants.{None as No
 ghost use Rattle.cal_model.specs.declared.report.ReportRequest.TheVariants.{Multiget};
 ghost use Rattle.dav_reports.specs.AskedProperties.{names_asked};
 ghost use Rattle.dav_reports.specs.CalendarObjects.{AreHeldRight, entries_cost, objects_at};
-ghost use Rattle.dav_reports.specs.MetObjects.{AreResponses, AreWithin, IsWithin, multiget_cost, named_response, text_at, unmet_cost};
+ghost use Rattle.dav_reports.specs.MetObjects.{AreResponses, AreWithin, IsWithin, multiget_cost, named_response, place_behind, text_at, unmet_cost};
 ghost use Rattle.dav_reports.specs.PieceRows.{AreRowsOf, IsKept, windows_cost};
 ghost use Rattle.dav_reports.specs.SeenCalendars.{IsBody, IsWritten, MayRead, reported_of};
 
@@ -116,6 +116,22 @@ fn push_found<V: View, A: PropAnswers, P: Pieces, L: Ledger>(
     )
 }
 
+/// Appends a response, and keeps where it stands by the name of its object.
+fn push_said(
+    name: Octets,
+    said: &[u8],
+    met: &mut NameMap<Place>,
+    out: &mut Octets,
+) -> Result<(), NoMemory>
+    ensures text { OnOk result (out.new ≡ out.old ++ said.now) }
+    ensures met { OnOk result (met.new ≡ with_value met.old name (place_behind out.old said.now)) }
+{
+    let begin = out.len();
+    out.extend_from_slice(said)?;
+    let end = out.len();
+    met.insert(name, Place { begin, end })
+}
+
 /// Appends the response to an href that names an object of a calendar that was not met before, and
 /// keeps where it stands; or 404 where there is no such object.
 fn push_new<V: View, A: PropAnswers, P: Pieces, L: Ledger>(
@@ -155,13 +171,12 @@ fn push_new<V: View, A: PropAnswers, P: Pieces, L: Ledger>(
     let Some((stored, origin)) = seen.view.object(home, calendar, name.as_slice()) else {
         return push_status_response(href, PropStatus::NotFound, out);
     };
-    let begin = out.len();
+    let mut said = Octets::new(alloc);
     push_found(
         alloc, seen, home, calendar, pieces, answers, origin, stored, ranges, props, names, select,
-        zone, out, steps,
+        zone, &mut said, steps,
     )?;
-    let end = out.len();
-    met.insert(name, Place { begin, end })
+    push_said(name, said.as_slice(), met, out)
 }
 
 /// Appends the response to an href: that of an object of the calendar, or 404. What was said of an
