@@ -1,5 +1,5 @@
 -- Over the hrefs of a multiget as it goes over them: what stands where, what is said of an object once more, and what the objects cost that were not met.
-use Rattle.std.proofs.Common.{◌≡◌, ℕ, ◌+◌, ◌-◌, ◌≤◌, Bool, true, false, cond, List, [], ◌∷◌, ◌++◌, length, take, drop, map, Option, Some, None, refl, sym, ap, ◌∙◌, subst, append-nil, append_assoc, arith, length-append, length-drop}
+use Rattle.std.proofs.Common.{◌≡◌, ℕ, ◌+◌, ◌-◌, ◌≤◌, Bool, true, false, cond, List, [], ◌∷◌, ◌++◌, length, take, drop, map, Option, Some, None, refl, sym, ap, ◌∙◌, subst, append-nil, arith, length-append, length-drop}
 use Rattle.std.specs.Prelude.{Err, Ok, OnOk, Result, flat_map, is_some, option_and_then, option_map, option_to_list, sum, unwrap_or}
 use Rattle.std.specs.List.{AllByRecursion}
 use Rattle.std.specs.Str.{bytes_eq}
@@ -9,7 +9,6 @@ use Rattle.std.proofs.lemmas.Slice.Eq.{bytes_eq-Decides}
 use Rattle.std.proofs.Math.Seq.{drop-append_seam}
 use Rattle.cal_base.specs.Lists.NameMap.{Named, value_at, with_value}
 use Rattle.cal_base.proofs.Lists.NameMapLemmas.{value_at_with}
-use Rattle.cal_model.specs.declared.path.Path.{Path}
 use Rattle.cal_model.specs.declared.property.Props.{Props}
 use Rattle.cal_model.specs.declared.property.Props.TheVariants.{None as NoProps}
 use Rattle.cal_model.specs.declared.report.ReportRequest.TheVariants.{Multiget}
@@ -22,7 +21,7 @@ use Rattle.cal_model.specs.State.ServerState.{Calendar, ServerState, calendar_at
 use Rattle.rrule_sets.proofs.AskedLemmas.{sum-cons}
 use Rattle.dav_reports.specs.declared.multiget.Place.{Place}
 use Rattle.dav_reports.specs.CalendarObjects.{OriginOf, entry_cost, objects_at}
-use Rattle.dav_reports.specs.MetObjects.{AreResponses, AreWithin, IsWithin, Met, cost_unless_met, multiget_cost, named_response, place_behind, response_at, text_at, unmet_cost}
+use Rattle.dav_reports.specs.MetObjects.{AreResponses, AreWithin, IsWithin, Met, cost_unless_met, named_response, place_behind, response_at, text_at, unmet_cost}
 use Rattle.dav_reports.specs.PieceRows.{Held}
 
 same_name : (one other : List ℕ) → bytes_eq one other ≡ true → one ≡ other
@@ -60,21 +59,21 @@ text_ok (Err e) out new text other same is = is
 -- Places
 
 -- what stands at a place stays there
-pub text_kept : (written more : List ℕ) (place : Place) → IsWithin (length written) place → text_at (written ++ more) place ≡ text_at written place
+text_kept : (written more : List ℕ) (place : Place) → IsWithin (length written) place → text_at (written ++ more) place ≡ text_at written place
 text_kept written more place within =
     ap (take (place.end - place.begin)) (drop-append-le place.begin written more (omega arith))
     ∙ take-append-le (place.end - place.begin) (drop place.begin written) more (let left = length-drop place.begin written in omega arith)
 
 -- what was written last stands behind the rest
-pub text_new : (written text : List ℕ) → text_at (written ++ text) (place_behind written text) ≡ text
+text_new : (written text : List ℕ) → text_at (written ++ text) (place_behind written text) ≡ text
 text_new written text =
     ap (take (length (written ++ text) - length written)) (drop-append_seam written text)
     ∙ take_all (length (written ++ text) - length written) text (let size = length-append written text in omega arith)
 
-pub within_more : (met : Met) (size more : ℕ) → size ≤ more → AreWithin met size → AreWithin met more
+within_more : (met : Met) (size more : ℕ) → size ≤ more → AreWithin met size → AreWithin met more
 within_more met size more grown within name place at = let is = within name place at in record { in_order = is.in_order; before_end = omega arith }
 
-pub within_with : (met : Met) (name : List ℕ) (place : Place) (size : ℕ) → IsWithin size place → AreWithin met size → AreWithin (with_value met name place) size
+within_with : (met : Met) (name : List ℕ) (place : Place) (size : ℕ) → IsWithin size place → AreWithin met size → AreWithin (with_value met name place) size
 within_with met name place size is within other at found = by (bytes_eq other name) (sym (value_at_with name place other met) ∙ found)
   where
     by : (b : Bool) → cond b (Some place) (value_at met other) ≡ Some at → IsWithin size at
@@ -82,7 +81,7 @@ within_with met name place size is within other at found = by (bytes_eq other na
     by false e = within other at e
 
 -- behind one text more, of no object or of one that is met
-pub within_behind : (met : Met) (written text : List ℕ) → AreWithin met (length written) → AreWithin met (length (written ++ text))
+within_behind : (met : Met) (written text : List ℕ) → AreWithin met (length written) → AreWithin met (length (written ++ text))
 within_behind met written text within = within_more met (length written) (length (written ++ text)) (let size = length-append written text in omega arith) within
 
 pub within_next : (met : Met) (name written text : List ℕ) → AreWithin met (length written) → AreWithin (with_value met name (place_behind written text)) (length (written ++ text))
@@ -97,10 +96,10 @@ within_ok (Err e) met written text new within is = is
 -- What was said
 
 module _ (reported : Reported) (select : Selection) (zone : ZoneTable) (props : Props) where
-  pub responses_kept : (met : Met) (written more : List ℕ) → AreWithin met (length written) → AreResponses reported select zone props met written → AreResponses reported select zone props met (written ++ more)
+  responses_kept : (met : Met) (written more : List ℕ) → AreWithin met (length written) → AreResponses reported select zone props met written → AreResponses reported select zone props met (written ++ more)
   responses_kept met written more within said name place at = said name place at ∙ ap Some (sym (text_kept written more place (within name place at)))
 
-  pub responses_with : (met : Met) (name : List ℕ) (place : Place) (written : List ℕ) → response_at reported select zone props name ≡ Some (text_at written place) → AreResponses reported select zone props met written
+  responses_with : (met : Met) (name : List ℕ) (place : Place) (written : List ℕ) → response_at reported select zone props name ≡ Some (text_at written place) → AreResponses reported select zone props met written
       → AreResponses reported select zone props (with_value met name place) written
   responses_with met name place written is said other at found = by (bytes_eq other name) refl (sym (value_at_with name place other met) ∙ found)
     where
@@ -110,7 +109,7 @@ module _ (reported : Reported) (select : Selection) (zone : ZoneTable) (props : 
           ap (response_at reported select zone props) (same_name other name same) ∙ is ∙ ap (λ p. Some (text_at written p)) here
       by false apart e = said other at e
 
-  pub responses_next : (met : Met) (name written text : List ℕ) → AreWithin met (length written) → response_at reported select zone props name ≡ Some text → AreResponses reported select zone props met written
+  responses_next : (met : Met) (name written text : List ℕ) → AreWithin met (length written) → response_at reported select zone props name ≡ Some text → AreResponses reported select zone props met written
       → AreResponses reported select zone props (with_value met name (place_behind written text)) (written ++ text)
   responses_next met name written text within is said =
       responses_with met name (place_behind written text) (written ++ text) (is ∙ ap Some (sym (text_new written text))) (responses_kept met written text within said)
@@ -130,10 +129,6 @@ module _ (reported : Reported) (select : Selection) (zone : ZoneTable) (props : 
   -- an object that is there
   pub response_there : (name octets : List ℕ) → value_at reported.contents.objects name ≡ Some octets → response_at reported select zone props name ≡ Some (object_response reported select zone props (name, octets))
   response_there name octets there = ap (option_map (λ found. object_response reported select zone props (name, found))) there
-
-  -- one that is not there
-  pub response_absent : (href name : List ℕ) → value_at reported.contents.objects name ≡ None → named_response reported select zone props href name ≡ status_response href 404
-  response_absent href name absent = ap (λ found. unwrap_or (option_map (λ octets. object_response reported select zone props (name, octets)) found) (status_response href 404)) absent
 
   -- the response to an href, by the name that it has, and by the entry of that name
   of_name : List ℕ → Option (List ℕ) → List ℕ
@@ -173,16 +168,9 @@ module _ (reported : Reported) (select : Selection) (zone : ZoneTable) (props : 
   pub href_met : (href name text : List ℕ) → option_and_then (own_object reported) (target_path href) ≡ Some name → response_at reported select zone props name ≡ Some text → href_response reported select zone props href ≡ text
   href_met href name text is said = href_named href name is ∙ ap (λ found. unwrap_or found (status_response href 404)) said
 
--- one response more
-pub next_written : (said : List ℕ → List ℕ) (href : List ℕ) (out new all : List ℕ) (rest : List (List ℕ)) → new ≡ out ++ said href → out ++ flat_map said (href ∷ rest) ≡ all → new ++ flat_map said rest ≡ all
-next_written said href out new all rest more so_far = ap (λ written. written ++ flat_map said rest) more ∙ append_assoc out (said href) (flat_map said rest) ∙ so_far
-
 -- Costs
 
 module _ (held : Held) (select : Selection) (origin_of : OriginOf) where
-  pub unmet_first : (entries : Named (List ℕ)) → unmet_cost held select origin_of [] entries ≡ multiget_cost held select origin_of entries
-  unmet_first entries = refl
-
   module _ (met : Met) (name : List ℕ) (place : Place) where
     abbrev before : List ℕ × List ℕ → ℕ
     before = cost_unless_met held select origin_of met

@@ -1,5 +1,5 @@
 -- The rows that a query looks at tell as much of its filter and its selection as all rows of an object.
-use Rattle.std.proofs.Common.{◌≡◌, ℕ, true, List, [], ◌++◌, refl, sym, ap, ◌∙◌, subst, ℤ}
+use Rattle.std.proofs.Common.{◌≡◌, ℕ, List, [], ◌++◌, sym, ap, ◌∙◌, subst, ℤ}
 use Rattle.std.specs.Prelude.{All, None, filter, flat_map}
 use Rattle.cal_model.specs.declared.filter.Filter.{Filter}
 use Rattle.cal_model.specs.declared.object.Object.{Object}

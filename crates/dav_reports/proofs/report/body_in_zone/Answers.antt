@@ -9,7 +9,8 @@ use Rattle.dav_reports.specs.ReportOutcomes.{MaySee, answer_body, privilege_need
 use Rattle.dav_reports.specs.SeenCalendars.{IsBody}
 use Rattle.dav_reports.proofs.BusyBodies.{some_there}
 use Rattle.dav_reports.proofs.ReportZones.{table_chosen, zone_chosen}
-use Rattle.dav_reports.proofs.SeenReports.{answer_seen, home_known, may_see}
+use Rattle.dav_reports.proofs.SeenObjects.{owner_known}
+use Rattle.dav_reports.proofs.SeenReports.{answer_seen, may_see}
 use Rattle.dav_reports.proofs.report.body_in_zone.Goals as goal
 
 pub report_body-requires-clause-zone : goal.report_body-requires-clause-zone
@@ -26,7 +27,7 @@ pub report_body-requires-clause-home : goal.report_body-requires-clause-home
 report_body-requires-clause-home g c =
     let state = g.V.View.state c.args.seen.now.view.now in
     let there = some_there (calendar_at state c.args.calendar.0 c.args.calendar.1.now) c.requires.there in
-    home_known (g.V.View.directory c.args.seen.now.view.now) state c.args.calendar.0 c.args.calendar.1.now there.0 c.in-Some.ensures.sound there.1
+    owner_known (g.V.View.directory c.args.seen.now.view.now) state c.args.calendar.0 c.args.calendar.1.now there.0 c.in-Some.ensures.sound there.1
 
 pub returns-clause-body : goal.returns-clause-body
 returns-clause-body g c =
