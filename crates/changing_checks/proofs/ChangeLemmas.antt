@@ -1,9 +1,9 @@
 -- The change that a request asks for, once its path, its content and its user are known.
 use Rattle.std.proofs.Common.{◌≡◌, ℕ, Bool, true, false, ◌&&◌, List, Option, Some, None, refl, sym, ap, ◌∙◌, subst, arith}
 use Rattle.std.specs.Prelude.{option_and_then, IsTrue}
-use Rattle.std.proofs.lemmas.Bool.{false≢true}
 use Rattle.std.proofs.lemmas.List.{length-map}
 use Rattle.std.proofs.lemmas.List.Elements.{All-weaker}
+use Rattle.cal_base.proofs.Xml.XmlNameLemmas.{both_true}
 use Rattle.cal_model.specs.declared.path.Path.{Path}
 use Rattle.cal_model.specs.declared.path.Path.TheVariants.{Root, Principal, Home, Calendar, Object}
 use Rattle.cal_model.specs.declared.privilege.Grant.{Grant}
@@ -29,15 +29,11 @@ use Rattle.changing_checks.proofs.PassedLemmas.{is_of_calendars, of_calendar}
 
 -- Names
 
-last_of : (a b : Bool) → (a && b) ≡ true → b ≡ true
-last_of true b e = e
-last_of false b e = absurd (false≢true e)
-
 pub object_named : (path : Path) (user calendar object : List ℕ) → path ≡ Object user calendar object → IsTrue (is_path path) → IsTrue (is_resource_name object)
-object_named path user calendar object at is = last_of _ _ (subst (λ p. IsTrue (is_path p)) at is)
+object_named path user calendar object at is = (both_true _ _ (subst (λ p. IsTrue (is_path p)) at is)).1
 
 pub calendar_named : (path : Path) (user calendar : List ℕ) → path ≡ Calendar user calendar → IsTrue (is_path path) → IsTrue (is_resource_name calendar)
-calendar_named path user calendar at is = last_of _ _ (subst (λ p. IsTrue (is_path p)) at is)
+calendar_named path user calendar at is = (both_true _ _ (subst (λ p. IsTrue (is_path p)) at is)).1
 
 -- the number of the user in a path
 pub user_known : (directory : Directory) (state : ServerState) (who : ℕ) (path : Path) (home : ℕ) (user : List ℕ) → (scene_at directory (view_by whole_sight directory state who) who path).user ≡ Some home

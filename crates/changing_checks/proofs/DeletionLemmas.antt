@@ -58,8 +58,8 @@ module _ (directory : Directory) (state : ServerState) (shown : Scene) (request 
         passes = passes;
         change = change;
         asked_is = change_of_object_is directory request place.home user place.calendar.now object at
-        (user_known directory state shown.who shown.path.now place.home user is.user_is (ap user_in shown_at))
-        ∙ ap (λ method. change_of_object method request.content place.home place.calendar.now object) how;
+            (user_known directory state shown.who shown.path.now place.home user is.user_is (ap user_in shown_at))
+            ∙ ap (λ method. change_of_object method request.content place.home place.calendar.now object) how;
         status_is = status_is;
         deletes = refl;
         deleted = subst (λ path. IsDeleted state place.home path change) (sym at) (refl, there);
@@ -75,8 +75,8 @@ module _ (directory : Directory) (state : ServerState) (shown : Scene) (request 
         passes = passes;
         change = change;
         asked_is = change_of_calendar_is directory request place.home user place.calendar.now at
-        (user_known directory state shown.who shown.path.now place.home user is.user_is (ap user_in (passed.path_is ∙ at)))
-        ∙ ap (λ method. change_of_calendar method request.content place.home place.calendar.now request.size) how;
+            (user_known directory state shown.who shown.path.now place.home user is.user_is (ap user_in (passed.path_is ∙ at)))
+            ∙ ap (λ method. change_of_calendar method request.content place.home place.calendar.now request.size) how;
         status_is = status_is;
         deletes = refl;
         deleted = subst (λ path. IsDeleted state place.home path change) (sym at) (refl, ap is_some is.there);

@@ -1,30 +1,15 @@
 -- Which object conflicts with one that is put (RFC 4791, 5.3.2.1), by the one that has its UID.
 use Rattle.std.proofs.Common.{◌≡◌, ℕ, Bool, true, false, not, ◌&&◌, if◌then◌else◌, List, Option, Some, None, refl, sym, ap, ◌∙◌, subst, inl, inr}
 use Rattle.std.specs.Prelude.{bytes_eq, filter, is_some, option_map}
-use Rattle.std.proofs.lemmas.Bool.{false≢true}
+use Rattle.std.proofs.lemmas.Bool.{false≢true, and_from, not-true}
 use Rattle.std.proofs.lemmas.Slice.Eq.{bytes_eq-Decides}
+use Rattle.cal_base.proofs.Xml.XmlNameLemmas.{both_true}
 use Rattle.cal_base.specs.Lines.ComponentTrees.{first, or_else}
 use Rattle.cal_base.specs.Lists.NameMap.{Named, IsInOrder, value_at}
 use Rattle.cal_model.specs.Refusals.Preconditions.{has_uid, uid_of, holder}
 use Rattle.collections.specs.UidHolders.{with_uid, IsAloneWith}
 use Rattle.collections.proofs.NamedLemmas.{bytes_same, FirstPassing, none, some, first_passing}
 use Rattle.changing_checks.specs.Rows.{holder_name}
-
-and_left : (a b : Bool) → (a && b) ≡ true → a ≡ true
-and_left true b e = refl
-and_left false b e = e
-
-and_right : (a b : Bool) → (a && b) ≡ true → b ≡ true
-and_right true b e = e
-and_right false b e = absurd (false≢true e)
-
-both : (a b : Bool) → a ≡ true → b ≡ true → (a && b) ≡ true
-both true b left right = right
-both false b left right = left
-
-not_true : (b : Bool) → not b ≡ true → b ≡ false
-not_true true e = absurd (false≢true e)
-not_true false e = refl
 
 abbrev name_in : Option (List ℕ × List ℕ) → Option (List ℕ)
 name_in o = option_map (λ (entry : List ℕ × List ℕ). entry.0) o
@@ -64,23 +49,23 @@ module _ (objects : Named (List ℕ)) (in_order : IsInOrder objects) (name uid o
   module _ (alone : IsAloneWith objects uid) (found : List ℕ × List ℕ) (at : value_at objects found.0 ≡ Some found.1) (passes : has found ≡ true) where
     -- the object with the UID has another name
     other_found : bytes_eq found.0 name ≡ false → FirstPassing objects is_other → other_name ≡ Some found.0
-    other_found differs (none nothing all) = absurd (false≢true (sym (all found.0 found.1 at) ∙ both (not (bytes_eq found.0 name)) (has found) (ap not differs) passes))
-    other_found differs (some entry first_is there fits) = ap name_in first_is ∙ ap Some (alone entry.0 found.0 entry.1 found.1 there at (and_right _ _ fits) passes)
+    other_found differs (none nothing all) = absurd (false≢true (sym (all found.0 found.1 at) ∙ and_from (not (bytes_eq found.0 name)) (has found) (ap not differs) passes))
+    other_found differs (some entry first_is there fits) = ap name_in first_is ∙ ap Some (alone entry.0 found.0 entry.1 found.1 there at (both_true _ _ fits).1 passes)
 
     -- it has this name: then there is no other, and it has no other UID
     no_other : bytes_eq found.0 name ≡ true → FirstPassing objects is_other → other_name ≡ None
     no_other same (none nothing all) = ap name_in nothing
     no_other same (some entry first_is there fits) =
-        let is : entry.0 ≡ found.0 = alone entry.0 found.0 entry.1 found.1 there at (and_right _ _ fits) passes in
-        absurd (false≢true (sym (not_true _ (and_left _ _ fits)) ∙ (ap (λ n. bytes_eq n name) is ∙ same)))
+        let is : entry.0 ≡ found.0 = alone entry.0 found.0 entry.1 found.1 there at (both_true _ _ fits).1 passes in
+        absurd (false≢true (sym (not-true _ (both_true _ _ fits).0) ∙ (ap (λ n. bytes_eq n name) is ∙ same)))
 
     not_changed : bytes_eq found.0 name ≡ true → FirstPassing objects is_changed → changed_name ≡ None
     not_changed same (none nothing all) = ap name_in nothing
     not_changed same (some entry first_is there fits) =
-        let is : entry.0 ≡ found.0 = named_so entry (and_left _ _ fits) ∙ sym (named_so found same) in
+        let is : entry.0 ≡ found.0 = named_so entry (both_true _ _ fits).0 ∙ sym (named_so found same) in
         let octets_are : Some entry.1 ≡ Some found.1 = sym there ∙ (ap (value_at objects) is ∙ at) in
         let same_octets : entry.1 ≡ found.1 = cc in
-        absurd (false≢true (sym (not_true _ (and_right _ _ fits)) ∙ (ap (has_uid (Some uid)) same_octets ∙ passes)))
+        absurd (false≢true (sym (not-true _ (both_true _ _ fits).1) ∙ (ap (has_uid (Some uid)) same_octets ∙ passes)))
 
     holder_found : holder_name objects name octets ≡ (if bytes_eq found.0 name then None else Some found.0)
     holder_found = by (bytes_eq found.0 name) refl where
@@ -95,15 +80,15 @@ module _ (objects : Named (List ℕ)) (in_order : IsInOrder objects) (name uid o
 
     nobody_else : FirstPassing objects is_other → other_name ≡ None
     nobody_else (none nothing all) = ap name_in nothing
-    nobody_else (some entry first_is there fits) = absurd (false≢true (sym (fails (first_passing objects has in_order) entry there) ∙ and_right _ _ fits))
+    nobody_else (some entry first_is there fits) = absurd (false≢true (sym (fails (first_passing objects has in_order) entry there) ∙ (both_true _ _ fits).1))
 
     changed_there : (o : Option (List ℕ)) → value_at objects name ≡ o → FirstPassing objects is_changed → changed_name ≡ (if is_some o then Some name else None)
     changed_there (Some here) at (none nothing all) =
-        absurd (false≢true (sym (all name here at) ∙ both (bytes_eq name name) (not (has (name, here))) (bytes_same name) (ap not (fails (first_passing objects has in_order) (name, here) at))))
-    changed_there (Some here) at (some entry first_is there fits) = ap name_in first_is ∙ ap Some (named_so entry (and_left _ _ fits))
+        absurd (false≢true (sym (all name here at) ∙ and_from (bytes_eq name name) (not (has (name, here))) (bytes_same name) (ap not (fails (first_passing objects has in_order) (name, here) at))))
+    changed_there (Some here) at (some entry first_is there fits) = ap name_in first_is ∙ ap Some (named_so entry (both_true _ _ fits).0)
     changed_there None at (none nothing all) = ap name_in nothing
     changed_there None at (some entry first_is there fits) =
-        let gone : Some entry.1 ≡ None = sym there ∙ (ap (value_at objects) (named_so entry (and_left _ _ fits)) ∙ at) in absurd cc
+        let gone : Some entry.1 ≡ None = sym there ∙ (ap (value_at objects) (named_so entry (both_true _ _ fits).0) ∙ at) in absurd cc
 
     pub holder_none : holder_name objects name octets ≡ (if is_some (value_at objects name) then Some name else None)
     holder_none = holder_parts ∙ or_else_by other_name changed_name None _ (nobody_else (first_passing objects is_other in_order)) (changed_there (value_at objects name) refl (first_passing objects is_changed in_order))

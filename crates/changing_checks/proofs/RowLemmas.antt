@@ -2,6 +2,7 @@
 use Rattle.std.proofs.Common.{◌≡◌, ℕ, Bool, false, ◌||◌, List, [], ◌∷◌, ◌++◌, map, Option, Some, None, refl, sym, ap, ◌∙◌, subst}
 use Rattle.std.specs.Prelude.{flat_map, option_map, option_and_then, option_to_list, unwrap_or, nat_lt, nat_le, ◌+◌, length, true, Ok, codes, is_some}
 use Rattle.std.specs.Option.{option_map_or}
+use Rattle.std.proofs.lemmas.List.{append-nil}
 use Rattle.std.specs.Result.{result_ok}
 use Rattle.cal_model.specs.declared.change.Change.{Change as KeptChange}
 use Rattle.cal_model.specs.declared.object.Object.{Object as ObjectRead}
@@ -57,10 +58,6 @@ contents_there directory state scene place is = ap (λ o. option_to_list (option
 held_there : (directory : Directory) (state : ServerState) (scene : Scene) (place : Place) (is : IsPlace directory state scene place) → held_in scene ≡ place.held
 held_there directory state scene place is = ap (λ o. option_map_or (λ (sight : Sight). sight.held) o 0) is.seen ∙ is.held_is
 
-append_none : {X : Type 0} (xs : List X) → xs ++ [] ≡ xs
-append_none [] = refl
-append_none (x ∷ xs) = ap (λ rest. x ∷ rest) (append_none xs)
-
 -- A PUT
 
 abbrev put_row : Bool → Path → Calendar → List ℕ → Option Refusal
@@ -96,7 +93,7 @@ uid_read octets object reading = ap (λ r. option_map (λ (o : ObjectRead). o.ui
 pub faults_there : (directory : Directory) (state : ServerState) (scene : Scene) (place : Place) (is : IsPlace directory state scene place) (sets : List PropSet)
     → patch_faults scene sets ≡ faults_of_all false is.within.texts sets
 faults_there directory state scene place is sets =
-    ap (λ cs. flat_map (λ (contents : Contents). faults_of_all false contents.texts sets) cs) (contents_there directory state scene place is) ∙ append_none (faults_of_all false is.within.texts sets)
+    ap (λ cs. flat_map (λ (contents : Contents). faults_of_all false contents.texts sets) cs) (contents_there directory state scene place is) ∙ append-nil (faults_of_all false is.within.texts sets)
 
 -- The rows of a request by its method and its content
 

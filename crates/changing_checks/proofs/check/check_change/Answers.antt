@@ -27,8 +27,8 @@ refused-requires c =
     let at = path_seen directory state c.args.seen.now.who path shown c.scene_at-scene.ensures.scene in
     record {
       fits = room_for path c.in-Some.refusal c.args.room.now
-      (λ takes. c.scene_at-scene.ensures.names c.requires.names c.requires.bookable.bookable.path (subst (IsFoundAt shown) at (c.in-Some.ensures.found takes)))
-      c.requires.room;
+          (λ takes. c.scene_at-scene.ensures.names c.requires.names c.requires.bookable.bookable.path (subst (IsFoundAt shown) at (c.in-Some.ensures.found takes)))
+          c.requires.room;
     }
 
 pub check_own-requires-clause-passed : goal.check_own-requires-clause-passed
