@@ -1,5 +1,5 @@
 -- The change that a request asks for, once its path, its content and its user are known.
-use Rattle.std.proofs.Common.{◌≡◌, ℕ, Bool, true, false, ◌&&◌, List, Option, Some, None, refl, sym, ap, ◌∙◌, subst, arith}
+use Rattle.std.proofs.Common.{◌≡◌, ℕ, true, List, Some, sym, ap, ◌∙◌, subst, arith}
 use Rattle.std.specs.Prelude.{option_and_then, IsTrue}
 use Rattle.std.proofs.lemmas.List.{length-map}
 use Rattle.std.proofs.lemmas.List.Elements.{All-weaker}
@@ -16,7 +16,7 @@ use Rattle.cal_model.specs.Bodies.AclLaws.{IsAmong, IsGrantAmong}
 use Rattle.cal_model.specs.Paths.TargetPaths.{is_path, is_resource_name}
 use Rattle.cal_model.specs.Sight.Scenes.{scene_at, user_in, calendar_in}
 use Rattle.cal_model.specs.Sight.Views.{whole_sight, view_by}
-use Rattle.cal_model.specs.State.Changes.{Change, change_at, change_of, change_of_object, change_of_calendar}
+use Rattle.cal_model.specs.State.Changes.{change_at, change_of, change_of_object, change_of_calendar}
 use Rattle.cal_model.specs.State.ServerState.{Directory, ServerState, directory_of, user_number}
 use Rattle.cal_model.specs.State.SoundStates.{IsToUser, AreToUsers}
 use Rattle.cal_model.specs.Requests.BookableRequests.{GrantsAmong}

@@ -1,5 +1,5 @@
 -- What a DELETE deletes is there.
-use Rattle.std.proofs.Common.{◌≡◌, ℕ, Bool, true, false, ◌&&◌, List, Option, Some, None, refl, sym, ap, ◌∙◌, subst}
+use Rattle.std.proofs.Common.{◌≡◌, ℕ, false, ◌&&◌, List, Option, Some, None, refl, sym, ap, ◌∙◌, subst}
 use Rattle.std.specs.Prelude.{is_some, is_none, option_and_then, IsSome}
 use Rattle.std.proofs.lemmas.Bool.{false≢true}
 use Rattle.cal_base.specs.Lists.NameMap.{value_at}
@@ -9,8 +9,8 @@ use Rattle.cal_model.specs.declared.request.Method.TheVariants.{Delete}
 use Rattle.cal_model.specs.declared.request.Request.{Request}
 use Rattle.cal_model.specs.Objects.ObjectReading.{first_there}
 use Rattle.cal_model.specs.Refusals.ChangeRefusals.{own_rows}
-use Rattle.cal_model.specs.Refusals.SharedRefusals.{is_object_missing, needs_object}
-use Rattle.cal_model.specs.Serving.Outcomes.{accepted_status, is_reading}
+use Rattle.cal_model.specs.Refusals.SharedRefusals.{needs_object}
+use Rattle.cal_model.specs.Serving.Outcomes.{accepted_status}
 use Rattle.cal_model.specs.Sight.Scenes.{Scene as Sighted, user_in, calendar_in, object_in}
 use Rattle.cal_model.specs.State.Changes.{delete_object, delete_calendar, change_of_object, change_of_calendar}
 use Rattle.cal_model.specs.State.ServerState.{Directory, Calendar as CalendarState, ServerState, octets_at}
@@ -20,9 +20,9 @@ use Rattle.changing_checks.specs.Checks.{IsDeleted}
 use Rattle.changing_checks.specs.OwnChecks.{IsOwnDeletion}
 use Rattle.changing_checks.specs.Passed.{IsPassed, sighted}
 use Rattle.changing_checks.specs.Places.{IsPlace}
-use Rattle.changing_checks.proofs.PassedLemmas.{named_by_path, object_not_missing}
+use Rattle.changing_checks.proofs.PassedLemmas.{object_not_missing}
 use Rattle.changing_checks.proofs.PlaceLemmas.{path_with, object_seen}
-use Rattle.changing_checks.proofs.ChangeLemmas.{user_known, change_of_object_is, change_of_calendar_is, calendar_path}
+use Rattle.changing_checks.proofs.ChangeLemmas.{user_known, change_of_object_is, change_of_calendar_is}
 
 not_none : {X : Type 0} (o : Option X) → is_none o ≡ false → IsSome o
 not_none None e = absurd (false≢true (sym e))

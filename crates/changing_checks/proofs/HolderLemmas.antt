@@ -1,12 +1,12 @@
 -- Which object conflicts with one that is put (RFC 4791, 5.3.2.1), by the one that has its UID.
-use Rattle.std.proofs.Common.{◌≡◌, ℕ, Bool, true, false, not, ◌&&◌, if◌then◌else◌, List, Option, Some, None, refl, sym, ap, ◌∙◌, subst, inl, inr}
+use Rattle.std.proofs.Common.{◌≡◌, ℕ, Bool, true, false, not, ◌&&◌, if◌then◌else◌, List, Option, Some, None, refl, sym, ap, ◌∙◌, subst}
 use Rattle.std.specs.Prelude.{bytes_eq, filter, is_some, option_map}
 use Rattle.std.proofs.lemmas.Bool.{false≢true, and_from, not-true}
 use Rattle.std.proofs.lemmas.Slice.Eq.{bytes_eq-Decides}
 use Rattle.cal_base.proofs.Xml.XmlNameLemmas.{both_true}
 use Rattle.cal_base.specs.Lines.ComponentTrees.{first, or_else}
 use Rattle.cal_base.specs.Lists.NameMap.{Named, IsInOrder, value_at}
-use Rattle.cal_model.specs.Refusals.Preconditions.{has_uid, uid_of, holder}
+use Rattle.cal_model.specs.Refusals.Preconditions.{has_uid, uid_of}
 use Rattle.collections.specs.UidHolders.{with_uid, IsAloneWith}
 use Rattle.collections.proofs.NamedLemmas.{bytes_same, FirstPassing, none, some, first_passing}
 use Rattle.changing_checks.specs.Rows.{holder_name}

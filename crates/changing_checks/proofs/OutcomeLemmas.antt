@@ -1,12 +1,12 @@
 -- The outcome of a request that changes something, by its rows.
-use Rattle.std.proofs.Common.{◌≡◌, ℕ, false, List, [], ◌∷◌, ◌++◌, Option, Some, None, refl, sym, ap, ◌∙◌, subst}
+use Rattle.std.proofs.Common.{◌≡◌, false, List, [], ◌∷◌, ◌++◌, Option, Some, None, refl, sym, ap, ◌∙◌}
 use Rattle.cal_model.specs.declared.reply.Reply.{Reply}
 use Rattle.cal_model.specs.declared.request.Event.{Event}
 use Rattle.cal_model.specs.History.KeptChanges.{kept_change}
 use Rattle.cal_model.specs.Objects.ObjectReading.{first_there}
 use Rattle.cal_model.specs.Refusals.ChangeRefusals.{own_rows}
 use Rattle.cal_model.specs.Refusals.SharedRefusals.{shared_rows}
-use Rattle.cal_model.specs.Serving.Outcomes.{Outcome, accepted, unchanged, outcome, outcome_where, is_reading, accepted_status, changed, unless_refused, scene_by}
+use Rattle.cal_model.specs.Serving.Outcomes.{accepted, unchanged, outcome, outcome_where, is_reading, accepted_status, changed, unless_refused, scene_by}
 use Rattle.cal_model.specs.Sight.Scenes.{Scene}
 use Rattle.cal_model.specs.Sight.Views.{whole_sight}
 use Rattle.cal_model.specs.State.Changes.{Change, change_of, effect}

@@ -1,6 +1,6 @@
 -- What a scene has of the calendar and the object that are there.
-use Rattle.std.proofs.Common.{◌≡◌, ℕ, Bool, true, false, not, if◌then◌else◌, List, Option, Some, None, refl, sym, ap, ◌∙◌, subst, ◌⊎◌, inl, inr}
-use Rattle.std.specs.Prelude.{is_some, option_map, option_and_then, IfSome, ◌==◌}
+use Rattle.std.proofs.Common.{◌≡◌, ℕ, Bool, true, false, if◌then◌else◌, List, Option, Some, None, refl, sym, ap, ◌∙◌, subst, ◌⊎◌, inl, inr}
+use Rattle.std.specs.Prelude.{is_some, option_map, option_and_then, IfSome}
 use Rattle.std.specs.Borrow.{Bor}
 use Rattle.std.proofs.lemmas.Map.Entries.{option_filter}
 use Rattle.cal_base.specs.Lists.NameMap.{value_at}
@@ -18,7 +18,7 @@ use Rattle.cal_model.specs.State.StoredData.{data_of, data_at}
 use Rattle.cal_model.proofs.Sight.SceneLaws.{holds_some, calendar_in-scene}
 use Rattle.cal_model.proofs.State.NameWalkLaws.{home-sound, calendar-sound}
 use Rattle.request_checks.specs.declared.scenes.Scene.{Scene}
-use Rattle.request_checks.specs.Sightings.{IsDataAt, IsSoundAt, octets_lent}
+use Rattle.request_checks.specs.Sightings.{IsDataAt, IsSoundAt}
 use Rattle.changing_checks.specs.declared.places.Place.{Place}
 use Rattle.changing_checks.specs.declared.places.Target.{Target}
 use Rattle.changing_checks.specs.Passed.{IsPassed, sighted}

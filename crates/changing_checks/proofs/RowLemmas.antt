@@ -4,7 +4,6 @@ use Rattle.std.specs.Prelude.{flat_map, option_map, option_and_then, option_to_l
 use Rattle.std.specs.Option.{option_map_or}
 use Rattle.std.proofs.lemmas.List.{append-nil}
 use Rattle.std.specs.Result.{result_ok}
-use Rattle.cal_model.specs.declared.change.Change.{Change as KeptChange}
 use Rattle.cal_model.specs.declared.object.Object.{Object as ObjectRead}
 use Rattle.cal_model.specs.declared.path.Path.{Path}
 use Rattle.cal_model.specs.declared.path.Path.TheVariants.{Object}
@@ -18,7 +17,7 @@ use Rattle.cal_model.specs.declared.request.Method.TheVariants as method
 use Rattle.cal_model.specs.declared.request.Request.{Request}
 use Rattle.cal_model.specs.Access.Privileges.{has_all, read}
 use Rattle.cal_model.specs.Bodies.Refusals.{dav_refusal}
-use Rattle.cal_model.specs.History.KeptChanges.{kept_change, is_deletion}
+use Rattle.cal_model.specs.History.KeptChanges.{is_deletion}
 use Rattle.cal_model.specs.Objects.ObjectReading.{read_object, first_there}
 use Rattle.cal_model.specs.Properties.Settings.{faults_of_all, first_fault}
 use Rattle.cal_model.specs.Properties.PropertyReplies.{setting_answers, settings_reply}
@@ -29,7 +28,7 @@ use Rattle.cal_model.specs.Refusals.RequestLimits.{calendars_limit}
 use Rattle.cal_model.specs.Serving.EventReplies.{reply_to_change}
 use Rattle.cal_model.specs.Serving.Outcomes.{accepted_status}
 use Rattle.cal_model.specs.Sight.Scenes.{Scene, held_in, user_in, calendar_in, object_in}
-use Rattle.cal_model.specs.Sight.Views.{Contents, Sight, contents_of, whole_sight}
+use Rattle.cal_model.specs.Sight.Views.{Contents, Sight, contents_of}
 use Rattle.cal_model.specs.State.Changes.{Change, change_of}
 use Rattle.cal_model.specs.State.ServerState.{Directory, Calendar, Home, ServerState, home_at}
 use Rattle.cal_model.specs.State.SoundStates.{IsSoundChange}

@@ -1,5 +1,5 @@
 -- The scene that a request is about, as it is seen and as the definition of outcomes has it; and what a refusal needs.
-use Rattle.std.proofs.Common.{◌≡◌, ℕ, zero, suc, ◌<◌, ◌≤◌, true, [], ◌∷◌, Option, Some, None, refl, sym, ap, ◌∙◌, subst, arith}
+use Rattle.std.proofs.Common.{◌≡◌, ℕ, zero, suc, ◌<◌, ◌≤◌, true, [], ◌∷◌, refl, sym, ap, subst, arith}
 use Rattle.std.specs.Prelude.{slice_index_or}
 use Rattle.cal_base.specs.Lists.Reserved.{Reserved}
 use Rattle.cal_model.specs.Bodies.Refusals.{bad_request, unsupported_media}
@@ -8,7 +8,6 @@ use Rattle.cal_model.specs.declared.reply.Cond.TheVariants.{None as NoCondition}
 use Rattle.cal_model.specs.declared.reply.Refusal.{Refusal}
 use Rattle.cal_model.specs.declared.request.Content.{Content}
 use Rattle.cal_model.specs.declared.request.Content.TheVariants.{Bad}
-use Rattle.cal_model.specs.declared.request.Method.{Method}
 use Rattle.cal_model.specs.declared.request.Method.TheVariants.{Delete}
 use Rattle.cal_model.specs.Requests.BookableRequests.{Suits}
 use Rattle.cal_model.specs.Sight.Scenes.{scene_at}

@@ -1,4 +1,4 @@
-use Rattle.std.proofs.Common.{◌≡◌, [], ◌∷◌, refl, sym, ap, ◌∙◌}
+use Rattle.std.proofs.Common.{[], ◌∷◌, refl, sym, ap, ◌∙◌}
 use Rattle.cal_model.specs.Refusals.ChangeRefusals.{no_room}
 use Rattle.cal_model.specs.Refusals.SharedRefusals.{makes_or_asks}
 use Rattle.cal_model.specs.Replies.BareReplies.{bare_reply}

@@ -1,10 +1,8 @@
-use Rattle.std.proofs.Common.{◌≡◌, ℕ, Some, None, refl, sym, ap, ◌∙◌, subst}
-use Rattle.std.specs.Prelude.{option_map, IfSome}
+use Rattle.std.proofs.Common.{ℕ, Some, sym, ap, ◌∙◌, subst}
+use Rattle.std.specs.Prelude.{IfSome}
 use Rattle.std.specs.Borrow.{Bor}
 use Rattle.cal_model.specs.declared.path.Path.{Path}
 use Rattle.cal_model.specs.declared.store.CalendarData.{CalendarData}
-use Rattle.cal_model.specs.Objects.ObjectReading.{first_there}
-use Rattle.cal_model.specs.Refusals.SharedRefusals.{shared_rows}
 use Rattle.cal_model.specs.Sight.Scenes.{Scene as Sighted, scene_at, calendar_in}
 use Rattle.cal_model.specs.Sight.Views.{whole_sight, view_by}
 use Rattle.book_view.specs.ShownStates.{shown_directory, shown_state}
@@ -15,7 +13,7 @@ use Rattle.changing_checks.specs.Checks.{IsAskedOf}
 use Rattle.changing_checks.specs.OwnChecks.{IsOwnChecked}
 use Rattle.changing_checks.specs.Passed.{sighted}
 use Rattle.changing_checks.proofs.OutcomeLemmas.{checked_refusal, checked_own}
-use Rattle.changing_checks.proofs.SceneLemmas.{scene_seen, who_seen, path_seen, room_for, deletes_roomless}
+use Rattle.changing_checks.proofs.SceneLemmas.{scene_seen, who_seen, path_seen, room_for}
 use Rattle.changing_checks.proofs.check.check_change.Goals as goal
 
 pub refused-requires : goal.refused-requires

@@ -1,5 +1,5 @@
-use Rattle.std.proofs.Common.{◌≡◌, ℕ, List, Some, None, sym, ap, ◌∙◌, if◌then◌else◌}
-use Rattle.std.specs.Prelude.{bytes_eq, option_and_then, is_some}
+use Rattle.std.proofs.Common.{◌≡◌, Some, None, sym, ap, ◌∙◌, if◌then◌else◌}
+use Rattle.std.specs.Prelude.{bytes_eq, option_and_then}
 use Rattle.cal_model.specs.declared.stored.Stored.{Stored}
 use Rattle.cal_model.specs.State.ServerState.{Calendar, calendar_at}
 use Rattle.book_view.specs.ShownStates.{shown_state}

@@ -1,4 +1,4 @@
-use Rattle.std.proofs.Common.{◌≡◌, ◌||◌, List, [], ◌∷◌, Some, None, refl, sym, ap, ◌∙◌, false, true}
+use Rattle.std.proofs.Common.{◌≡◌, ◌||◌, List, [], ◌∷◌, None, refl, sym, ap, ◌∙◌, false}
 use Rattle.std.specs.Prelude.{codes, is_some}
 use Rattle.std.proofs.lemmas.Bool.{false≢true}
 use Rattle.cal_model.specs.declared.property.PropSet.{PropSet}

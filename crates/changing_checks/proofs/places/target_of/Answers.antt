@@ -1,4 +1,4 @@
-use Rattle.std.proofs.Common.{sym, ap, ◌∙◌}
+use Rattle.std.proofs.Common.{ap, ◌∙◌}
 use Rattle.cal_model.specs.Sight.Scenes.{calendar_in}
 use Rattle.changing_checks.proofs.PlaceLemmas.{path_with, target_there}
 use Rattle.changing_checks.specs.Passed.{sighted}

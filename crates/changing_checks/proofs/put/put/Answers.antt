@@ -1,6 +1,4 @@
-use Rattle.std.proofs.Common.{◌≡◌, ℕ, List, [], ◌∷◌, Some, None, refl, sym, ap, ◌∙◌, subst}
-use Rattle.cal_model.specs.declared.request.Content.TheVariants as content
-use Rattle.cal_model.specs.declared.request.Method.TheVariants as method
+use Rattle.std.proofs.Common.{◌≡◌, [], ◌∷◌, None, refl, sym, ap, ◌∙◌, subst}
 use Rattle.cal_model.specs.declared.store.CalendarData.{CalendarData}
 use Rattle.cal_model.specs.Refusals.ChangeRefusals.{no_room}
 use Rattle.cal_model.specs.Refusals.Preconditions.{put_refusal, IsServable}
