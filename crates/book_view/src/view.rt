@@ -20,6 +20,7 @@ use std::marker::Model;
 
 /// A state of the server with its users. Contracts see what the store keeps, by the words of
 /// `ShownStates`. No call takes memory, and each takes about the logarithm of what there is.
+#[derive(Drop)]
 pub struct BookView<'a> {
     store: &'a Store,
     users: &'a Users,

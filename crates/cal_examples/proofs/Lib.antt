@@ -8,7 +8,6 @@ mod PrivilegeExamples
 mod BusyRunExamples
 mod BusyTimeExamples
 mod MatchingExamples
-mod QueryExamples
 mod Samples
 mod LaterRowExamples
 mod OverrideExamples
@@ -25,9 +24,7 @@ mod ReplyExamples
 mod TextExamples
 mod NeededWindowExamples
 mod FrameExamples
-mod ScriptExamples
 mod ShownDataExamples
-mod StepExamples
 mod ZoneExamples
 mod ZoneOnsetExamples
 mod RulePlaceExamples

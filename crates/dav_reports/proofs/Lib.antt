@@ -7,6 +7,7 @@ pub mod KeptObjects
 pub mod LengthLemmas
 pub mod ListSteps
 pub mod LookedRows
+pub mod MetLemmas
 pub mod NeededRows
 pub mod QueryWalks
 pub mod RangeLemmas

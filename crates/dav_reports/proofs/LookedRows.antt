@@ -1,12 +1,12 @@
 -- The rows of an object that a report looks at: those without a date, and those of the windows that it needs, in order.
-use Rattle.std.proofs.Common.{◌≡◌, ℕ, suc, ◌==◌, length, Bool, true, false, cond, List, [], ◌∷◌, ◌++◌, ◌<◌, map, refl, sym, ap, ◌∙◌, arith, ℤ}
+use Rattle.std.proofs.Common.{◌≡◌, ℕ, suc, ◌==◌, length, Bool, true, false, cond, List, [], ◌∷◌, ◌++◌, refl, sym, ap, ◌∙◌, arith, ℤ}
 use Rattle.std.specs.Prelude.{All, AllPairs, ◌||◌, filter, flat_map, not, option_to_list, is_none}
 use Rattle.std.specs.Prelude.{Option, None, Some, IfSome}
 use Rattle.std.proofs.lemmas.Bool.{eqb-true}
 use Rattle.std.specs.Borrow.{Bor}
 use Rattle.std.specs.Option.{option_copied}
 use Rattle.std.proofs.lemmas.Int.{ints}
-use Rattle.std.proofs.lemmas.List.Elements.{All-append, All-head, All-tail, All-map, All-filter, All-contains, All-weaker, filter-append, filter_agree}
+use Rattle.std.proofs.lemmas.List.Elements.{All-append, All-head, All-tail, All-map, All-filter, filter-append, filter_agree}
 use Rattle.cal_moment.specs.declared.stamp.Stamp.{Stamp}
 use Rattle.cal_moment.specs.declared.stamp.Stamp.TheVariants.{Date, Floating, Zoned, Utc}
 use Rattle.cal_model.specs.declared.object.Object.{Object}

@@ -3,13 +3,11 @@ use Rattle.std.proofs.Common.{◌≡◌, ℕ, Bool, true, false, cond, List, [],
 use Rattle.std.specs.Prelude.{filter, flat_map, option_to_list, codes}
 use Rattle.std.specs.List.{AllByRecursion}
 use Rattle.std.specs.Map.{keys_of}
-use Rattle.std.proofs.lemmas.Grind.{flat_map-append}
-use Rattle.std.proofs.lemmas.List.Elements.{filter-append}
 use Rattle.std.proofs.lemmas.Map.Views.{lookup-from_Contains}
 use Rattle.std.proofs.lemmas.Cmp.{nat_list_cmp_total, eq_by_cmp_equiv}
 use Rattle.std.proofs.lemmas.Map.Keys.{IsDistinct-from_sorted}
 use Rattle.cal_model.proofs.Words.ListTests.{each_of}
-use Rattle.cal_base.specs.Lists.NameMap.{IsInOrder, Named, name_order, value_at}
+use Rattle.cal_base.specs.Lists.NameMap.{Named, name_order, value_at}
 use Rattle.cal_model.specs.declared.filter.Filter.{Filter}
 use Rattle.cal_model.specs.declared.property.Props.{Props}
 use Rattle.cal_model.specs.declared.selection.Selection.{Selection}

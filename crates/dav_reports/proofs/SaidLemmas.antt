@@ -1,6 +1,6 @@
 -- What is answered to the names that a report asks of an object, one after another.
-use Rattle.std.proofs.Common.{◌≡◌, ◌≤◌, ℕ, Bool, true, false, cond, List, [], ◌∷◌, ◌++◌, ◌+◌, get_or, length, map, take, drop, refl, sym, ap, ◌∙◌, append-nil, append_assoc, add-one, arith, ◌<◌}
-use Rattle.std.specs.Prelude.{◌==◌, not, filter, flat_map, Some, None, Option}
+use Rattle.std.proofs.Common.{◌≡◌, ℕ, Bool, true, false, cond, List, [], ◌∷◌, ◌++◌, ◌+◌, get_or, length, map, take, refl, sym, ap, ◌∙◌, append-nil, ◌<◌}
+use Rattle.std.specs.Prelude.{◌==◌, not, flat_map, Some, None, Option}
 use Rattle.std.proofs.lemmas.List.{take_more}
 use Rattle.std.proofs.lemmas.Grind.{flat_map-append}
 use Rattle.std.proofs.lemmas.List.Concat.{flat_map_single}
@@ -8,7 +8,7 @@ use Rattle.cal_model.specs.declared.property.PropName.{PropName}
 use Rattle.cal_model.specs.declared.property.Props.{Props}
 use Rattle.cal_model.specs.declared.property.Props.TheVariants.{All as AllProps, Names as AllNames, None as NoProps, Some as SomeProps}
 use Rattle.cal_model.specs.Properties.PropertyReplies.{answers, once, propstats, resource_response, with_status}
-use Rattle.cal_model.specs.Properties.PropertyTable.{Answer, Property, answer, answer_of_row, row_of, without_value, names_where, is_in_both, is_in_names}
+use Rattle.cal_model.specs.Properties.PropertyTable.{Answer, answer, row_of, without_value, names_where, is_in_both, is_in_names}
 use Rattle.cal_model.specs.Access.Privileges.{has_all}
 use Rattle.cal_model.specs.Replies.Hrefs.{href}
 use Rattle.cal_model.specs.Replies.XmlText.{response}

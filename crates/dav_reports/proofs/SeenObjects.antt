@@ -1,5 +1,5 @@
 -- An object of a calendar that a user may read is seen at its path.
-use Rattle.std.proofs.Common.{◌≡◌, ℕ, zero, suc, ◌<◌, Bool, true, false, not, ◌||◌, cond, ◌==◌, List, [], ◌∷◌, ◌++◌, length, map, Option, Some, None, refl, sym, ap, ◌∙◌, subst, append-nil, arith}
+use Rattle.std.proofs.Common.{◌≡◌, ℕ, zero, suc, ◌<◌, Bool, true, false, not, ◌||◌, cond, ◌==◌, List, [], ◌∷◌, ◌++◌, length, map, Option, Some, None, refl, sym, ap, ◌∙◌, append-nil, arith}
 use Rattle.std.specs.Prelude.{option_map, option_and_then, option_to_list, flat_map}
 use Rattle.std.proofs.lemmas.Bool.Decides.{nat_tests}
 use Rattle.std.proofs.lemmas.Map.Entries.{option_filter}
@@ -29,7 +29,7 @@ use Rattle.cal_model.specs.Objects.ObjectReading.{read_object}
 use Rattle.cal_model.specs.Selections.Picks.{picked_text}
 use Rattle.cal_model.specs.Selections.ShownData.{shown as shown_by, shown_of_object, shown_tree, takes_all}
 use Rattle.cal_model.specs.Serving.ReportReplies.{octets_match, shown_octets}
-use Rattle.dav_reports.specs.SeenCalendars.{MayRead, reported_of}
+use Rattle.dav_reports.specs.SeenCalendars.{MayRead}
 use Rattle.dav_reports.specs.ShownObjects.{IsShown}
 
 module _ (directory : Directory) (state : ServerState) (who : ℕ) where

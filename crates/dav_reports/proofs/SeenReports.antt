@@ -1,9 +1,8 @@
 -- The answer to a report as it is said of what is seen at the path of a calendar.
-use Rattle.std.proofs.Common.{◌≡◌, ℕ, ◌<◌, Bool, true, false, cond, List, length, Option, Some, None, refl, sym, ap, ◌∙◌, arith}
+use Rattle.std.proofs.Common.{◌≡◌, ℕ, Bool, true, false, cond, List, Option, Some, None, refl, sym, ap, ◌∙◌}
 use Rattle.std.specs.Prelude.{ℤ, option_map, option_and_then}
 use Rattle.std.specs.Option.{option_map_or}
 use Rattle.std.proofs.lemmas.Map.Entries.{option_filter}
-use Rattle.std.proofs.lemmas.Option.{slice_get_within}
 use Rattle.cal_base.specs.Lists.NameMap.{value_at}
 use Rattle.cal_model.specs.declared.object.Class.{Class}
 use Rattle.cal_model.specs.declared.reply.Reply.{Reply}
@@ -28,6 +27,7 @@ use Rattle.cal_model.proofs.Sight.SceneLaws.{calendar_in-scene, holds_some}
 use Rattle.cal_model.proofs.State.NameWalkLaws.{home-sound}
 use Rattle.dav_reports.specs.ReportOutcomes.{HasServedRange, IsServedRange, MaySee, answer_body, busy_text, calendar_scene, privilege_needed, reply_of, zone_of_text}
 use Rattle.dav_reports.specs.SeenCalendars.{reported_of}
+use Rattle.dav_reports.proofs.SeenObjects.{owner_known}
 
 -- The scene
 
@@ -37,12 +37,6 @@ home_of state home name c there = by (home_at state home) there where
   by : (found : Option Home) → option_and_then (λ (h : Home). value_at h.calendars name) found ≡ Some c → (h : Home) × (found ≡ Some h)
   by None e = absurd cc
   by (Some h) e = (h, refl)
-
--- and so is its owner
-pub home_known : (directory : Directory) (state : ServerState) (home : ℕ) (name : List ℕ) (c : Calendar) → IsSound directory state → calendar_at state home name ≡ Some c → home < length directory.names
-home_known directory state home name c sound there =
-    let h = home_of state home name c there in
-    let w = slice_get_within state.homes home h.0 h.1 in omega (arith, w, sound.one_each)
 
 module _ (directory : Directory) (state : ServerState) (who home : ℕ) (name : List ℕ) (c : Calendar) where
   scene_has : (calendar_scene directory state who home name).calendar ≡ at_both (option_and_then (visible_home (seen_by directory state who) who) (user_number directory (user_name directory home))) (Some name)
@@ -54,7 +48,7 @@ module _ (directory : Directory) (state : ServerState) (who home : ℕ) (name : 
       → (calendar_scene directory state who home name).calendar ≡ cond (holds_some directory home who c) (Some (sight_of directory home who c)) None
   seen_there sound told there =
       let h = home_of state home name c there in
-      let within = home_known directory state home name c sound there in
+      let within = owner_known directory state home name c sound there in
       scene_has
       ∙ ap (λ user. at_both (option_and_then (visible_home (seen_by directory state who) who) user) (Some name)) (told.own home within)
       ∙ calendar_in-scene (sight_of) directory state who home h.0 name h.1 (home-sound directory state home h.0 sound h.1).in_order

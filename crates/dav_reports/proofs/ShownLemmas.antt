@@ -1,5 +1,5 @@
 -- The answers to properties of an object in a report.
-use Rattle.std.proofs.Common.{Result, Ok, Err, ◌≡◌, ◌≤◌, ℕ, zero, suc, Bool, length, take, drop, subst, arith, true, false, cond, List, [], ◌∷◌, ◌++◌, Some, refl, sym, ap, ap₂, ◌∙◌}
+use Rattle.std.proofs.Common.{Result, Ok, Err, ◌≡◌, ◌≤◌, ℕ, zero, suc, Bool, length, take, drop, arith, true, false, cond, List, [], ◌∷◌, ◌++◌, Some, refl, sym, ap, ap₂, ◌∙◌}
 use Rattle.std.specs.Prelude.{IfOk, ◌&&◌, not, bytes_eq}
 use Rattle.std.proofs.lemmas.Bool.{false≢true}
 use Rattle.std.proofs.Math.Seq.{take-append_seam, drop-append_seam}
@@ -8,10 +8,9 @@ use Rattle.std.proofs.lemmas.Slice.Eq.{bytes_eq-Decides}
 use Rattle.cal_model.specs.declared.path.Path.{Path}
 use Rattle.cal_model.specs.declared.property.PropName.{PropName}
 use Rattle.cal_model.specs.Access.Privileges.{same_name, has_all, read}
-use Rattle.cal_model.specs.Properties.PropertyTable.{Answer, answer, properties, without_value}
-use Rattle.cal_model.specs.Replies.XmlText.{xml_text}
+use Rattle.cal_model.specs.Properties.PropertyTable.{answer, properties, without_value}
 use Rattle.cal_model.specs.Serving.SeenResources.{seen_answer, answer_at, calendar_data}
-use Rattle.cal_model.specs.Sight.Resources.{Resource, root, principal, home, calendar, object, Asker, is_object, held_of}
+use Rattle.cal_model.specs.Sight.Resources.{Resource, root, principal, home, calendar, object, is_object, held_of}
 use Rattle.cal_model.specs.Sight.Views.{Sight}
 use Rattle.cal_model.specs.State.ServerState.{Directory, ServerState}
 use Rattle.multistatus.specs.ReplyPieces.{with_text}

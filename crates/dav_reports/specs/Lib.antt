@@ -2,6 +2,7 @@ pub mod AskedProperties
 pub mod CalendarObjects
 pub mod FreeBusyLines
 pub mod Lengths
+pub mod MetObjects
 pub mod ObjectTimes
 pub mod PieceRows
 pub mod RangeDates

@@ -3,7 +3,7 @@ use Rattle.std.specs.Prelude.{◌≡◌, ℕ, true, List, [], ◌∷◌, Some}
 use Rattle.cal_model.specs.declared.path.Path.{Path}
 use Rattle.cal_model.specs.Access.Privileges.{has_all, read}
 use Rattle.cal_model.specs.Serving.SeenResources.{resources_seen}
-use Rattle.cal_model.specs.Sight.Resources.{Resource, Asker, held_of, is_object, path_of_resource, object}
+use Rattle.cal_model.specs.Sight.Resources.{Resource, Asker, held_of, is_object, object}
 use Rattle.cal_model.specs.State.ServerState.{Directory, ServerState}
 
 -- who asks, where a report shows something of each object

@@ -10,10 +10,12 @@ mod busy;
 mod dates;
 mod free_busy;
 mod margin;
+mod multiget;
 mod names;
 mod query;
 mod ranges;
 mod refusals;
+mod report;
 mod rows;
 mod runs;
 mod shown_response;
@@ -21,4 +23,5 @@ mod text;
 mod windows;
 mod zones;
 
+pub use report::run_report;
 pub use runs::calendar_runs;

@@ -192,7 +192,7 @@ fn push_sought<V: View, A: PropAnswers, P: Pieces, L: Ledger>(
 }
 
 /// The octets of an answer (RFC 4791, 7.8: a server may refuse one that is too long).
-const ANSWER_LIMIT: usize = 67_108_864;
+pub(crate) const ANSWER_LIMIT: usize = 67_108_864;
 
 /// Appends the responses of the objects of a calendar that match a filter, by name; ends as soon as they
 /// are longer than an answer may be, and then gives false.

@@ -25,10 +25,11 @@ use Rattle.cal_model.specs.Serving.ReadingReplies.{get_reply}
 use Rattle.cal_model.specs.Sight.Scenes.{Scene as Sighted, held_in, object_in}
 use Rattle.cal_model.specs.Sight.Views.{Sight}
 use Rattle.request_checks.specs.declared.refusals.SharedRefusal.{SharedRefusal}
+use Rattle.request_checks.specs.declared.refusals.SharedRefusal.TheVariants.{NotFound, NeedPrivileges, Refused, PreconditionFailed, NotModified}
 use Rattle.request_checks.specs.declared.scenes.Scene.{Scene}
 use Rattle.request_checks.specs.Sightings.{names_home, held_of, held_on_sight}
 use Rattle.request_checks.specs.Scenes.{IsFoundAt, IsScene, sight_held, least_of}
-use Rattle.request_checks.specs.SharedReplies.{unmet_set, condition_rows, takes_room}
+use Rattle.request_checks.specs.SharedReplies.{unmet_set, condition_rows, takes_room, IsFaultOf, IsFaultless}
 
 -- 404
 
@@ -215,3 +216,12 @@ get-least shown scene is = ap (λ (object : Option (List ℕ)). get_reply (recor
 
 pub status-least : (shown : Scene) (scene : Sighted) (method : Method) → IsScene shown scene → accepted_status (least_of shown) method ≡ accepted_status scene method
 status-least shown scene method is = ap (λ (object : Option (List ℕ)). accepted_status (record (least_of shown) { object = object }) method) is.object
+
+-- nor is a fault of a content told where only conditions fail
+pub faultless_fault : (content : Content) (o : Option SharedRefusal) → IfSome o IsFaultless → IfSome o (IsFaultOf content)
+faultless_fault content None faultless = tt
+faultless_fault content (Some NotFound) faultless = tt
+faultless_fault content (Some (NeedPrivileges set)) faultless = tt
+faultless_fault content (Some (Refused refusal)) faultless = absurd faultless
+faultless_fault content (Some PreconditionFailed) faultless = tt
+faultless_fault content (Some (NotModified etag)) faultless = tt

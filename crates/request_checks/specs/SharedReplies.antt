@@ -2,9 +2,12 @@
 use Rattle.std.specs.Prelude.{◌≡◌, ◌≤◌, ℕ, Bool, true, false, not, ◌&&◌, ◌||◌, bytes_eq, if◌then◌else◌, List, [], ◌∷◌, Option, Some, None}
 use Rattle.cal_base.specs.Lists.Reserved.{Reserved}
 use Rattle.cal_model.specs.declared.path.Path.{Path}
+use Rattle.cal_model.specs.declared.reply.Cond.TheVariants.{None as NoCondition}
 use Rattle.cal_model.specs.declared.reply.Media.TheVariants.{Calendar as CalendarMedia}
 use Rattle.cal_model.specs.declared.reply.Etag.{Etag}
 use Rattle.cal_model.specs.declared.reply.Reply.{Reply}
+use Rattle.cal_model.specs.declared.request.Content.{Content}
+use Rattle.cal_model.specs.declared.request.Content.TheVariants.{Bad}
 use Rattle.cal_model.specs.declared.request.Request.{Request}
 use Rattle.cal_model.specs.Access.Privileges.{has_all}
 use Rattle.cal_model.specs.Sight.Scenes.{Scene, held_in}
@@ -36,6 +39,16 @@ abbrev pub takes_room : SharedRefusal → Bool
 takes_room (NeedPrivileges set) = true
 takes_room other = false
 
+-- what was found wrong with a content is told as it was found
+abbrev pub IsFaultOf : Content → SharedRefusal → Type 0
+IsFaultOf content (Refused refusal) = content ≡ Bad refusal.now
+IsFaultOf content other = Unit {0}
+
+-- it tells no fault of a content
+abbrev pub IsFaultless : SharedRefusal → Type 0
+IsFaultless (Refused refusal) = ⊥
+IsFaultless other = Unit {0}
+
 pub record IsRoomFor (path : Path) (room : Reserved ℕ) : Type 0 where
   pub names : HasShortNames path
   pub empty : room.items ≡ []
@@ -44,9 +57,9 @@ abbrev pub FitsRoom : Path → SharedRefusal → Reserved ℕ → Type 0
 FitsRoom path (NeedPrivileges set) room = IsRoomFor path room
 FitsRoom path other room = Unit {0}
 
--- those that are answered without memory, where there is so much room
+-- those that are answered without memory, where there is so much room: all but those that name a condition of their own
 abbrev pub NeedsNoMemory : SharedRefusal → ℕ → Type 0
-NeedsNoMemory (Refused refusal) room = ⊥
+NeedsNoMemory (Refused refusal) room = refusal.now.cond ≡ NoCondition
 NeedsNoMemory (NeedPrivileges set) room = 4096 ≤ room
 NeedsNoMemory other room = Unit {0}
 

@@ -7,7 +7,7 @@ ghost use Rattle.cal_model.specs.Replies.Etags.{etag_of};
 ghost use Rattle.cal_model.specs.Replies.BareReplies.{bare_reply};
 ghost use Rattle.request_checks.specs.Scenes.{least_of};
 ghost use Rattle.request_checks.specs.Sightings.{octets_lent};
-ghost use Rattle.request_checks.specs.SharedReplies.{condition_rows, fits_etag, shared_reply, takes_room};
+ghost use Rattle.request_checks.specs.SharedReplies.{condition_rows, fits_etag, shared_reply, takes_room, IsFaultless};
 
 use crate::needs::is_of_object;
 use crate::refusals::SharedRefusal;
@@ -74,6 +74,7 @@ fn if_none_match_fails(tags: &Option<Tags>, object: Option<(&Arc<Stored>, u64)>)
 /// What refuses a GET or a HEAD of what its caller has, and another method by If-None-Match.
 fn unchanged<'a>(scene: &Scene<'_>, method: Method) -> SharedRefusal<'a>
     ensures roomless { takes_room result ≡ false }
+    ensures faultless { IsFaultless result }
     ensures reply { shared_reply scene.now.path.now result ≡ if spec.is_get method then spec.not_modified (octets_lent scene.now.object) else bare_reply 412 }
 {
     if !matches!(method, Method::Get | Method::Head) {
@@ -97,6 +98,7 @@ pub(crate) fn failed_condition<'a>(
     request: &Request,
 ) -> Option<SharedRefusal<'a>>
     ensures roomless { IfSome result (λ refusal. takes_room refusal ≡ false) }
+    ensures faultless { IfSome result IsFaultless }
     ensures rows { option_map (shared_reply scene.now.path.now) result ≡ first_there (condition_rows (least_of scene.now) request.now) }
 {
     if !is_conditional(scene, request.method) {

@@ -4,7 +4,7 @@ ghost use Rattle.cal_model.specs.Objects.ObjectReading.{first_there};
 ghost use Rattle.cal_model.specs.Refusals.SharedRefusals as spec;
 ghost use Rattle.cal_model.specs.Sight.Scenes.{Scene as Sighted};
 ghost use Rattle.request_checks.specs.Scenes.{IsFoundAt, IsScene, least_of};
-ghost use Rattle.request_checks.specs.SharedReplies.{shared_reply, takes_room};
+ghost use Rattle.request_checks.specs.SharedReplies.{shared_reply, takes_room, IsFaultOf};
 
 use crate::conditions::failed_condition;
 use crate::needs::{is_missing, is_object_missing, need_at, unmet};
@@ -31,6 +31,7 @@ pub enum SharedRefusal<'a> {
 pub fn shared_refusal<'a>(scene: &Scene<'_>, request: &'a Request) -> Option<SharedRefusal<'a>>
     ensures row { (sighted : Sighted) → IsScene scene.now sighted → option_map (shared_reply sighted.path) result ≡ first_there (spec.shared_rows sighted request.now) }
     ensures found { IfSome result (λ refusal. takes_room refusal ≡ true → IsFoundAt scene.now scene.now.path.now) }
+    ensures fault { IfSome result (IsFaultOf request.now.content) }
 {
     first_refusal(scene, request)
 }
@@ -38,6 +39,7 @@ pub fn shared_refusal<'a>(scene: &Scene<'_>, request: &'a Request) -> Option<Sha
 fn first_refusal<'a>(scene: &Scene<'_>, request: &'a Request) -> Option<SharedRefusal<'a>>
     ensures row { option_map (shared_reply scene.now.path.now) result ≡ first_there (spec.shared_rows (least_of scene.now) request.now) }
     ensures found { IfSome result (λ refusal. takes_room refusal ≡ true → IsFoundAt scene.now scene.now.path.now) }
+    ensures fault { IfSome result (IsFaultOf request.now.content) }
 {
     if is_missing(scene, request.method) {
         return Some(SharedRefusal::NotFound);

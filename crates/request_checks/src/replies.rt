@@ -1,5 +1,5 @@
 //! Replies to what is refused, and to GET, HEAD and OPTIONS.
-ghost use Rattle.std.specs.Prelude.{◌≡◌, ◌≤◌, false, IfOk, IsOk, OnErr};
+ghost use Rattle.std.specs.Prelude.{◌≡◌, ◌≤◌, [], false, IfOk, IsOk, OnErr};
 ghost use Rattle.cal_model.specs.Refusals.RefusalReplies as refused;
 ghost use Rattle.cal_model.specs.Replies.BareReplies as bare;
 ghost use Rattle.cal_model.specs.Replies.ReplyForms as forms;
@@ -55,10 +55,15 @@ fn media_of(refusal: &Refusal) -> Media
     }
 }
 
-/// The reply of a refusal (RFC 4918, 16).
+/// The reply of a refusal (RFC 4918, 16). One without a condition is a status alone, and takes no
+/// memory.
 pub fn refusal_reply(alloc: Global, refusal: &Refusal) -> Result<Reply, NoMemory>
-    ensures { IfOk result (λ reply. reply ≡ refused.refusal_reply refusal.now) }
+    ensures reply { IfOk result (λ reply. reply ≡ refused.refusal_reply refusal.now) }
+    ensures succeeds { refusal.now.cond ≡ Cond.None → IsOk result }
 {
+    if matches!(refusal.cond, Cond::None) {
+        return Ok(bare_reply(alloc, refusal.status));
+    }
     let body = error_body(alloc, refusal)?;
     Ok(Reply {
         status: refusal.status,
@@ -79,6 +84,7 @@ fn need_privileges_reply(
     requires { IsRoomFor path.now room.old }
     ensures reply { IfOk result (λ reply. reply ≡ refused.refusal_reply (refused.need_privileges path.now set.0)) }
     ensures succeeds { 4096 ≤ room.old.room → IsOk result }
+    ensures empty { room.new.items ≡ [] }
     ensures err { OnErr result (room.new ≡ room.old) }
 {
     room.reserve(ERROR_ROOM)?;
@@ -105,7 +111,7 @@ fn not_modified(alloc: Global, etag: Option<Etag>) -> Reply
     }
 }
 
-/// The reply to a request for a path that is refused. Only what was found wrong with a body or a field
+/// The reply to a request for a path that is refused. Only what names a condition of a body or a field
 /// takes memory, and the want of a privilege where there is no room of 4096 octets; the latter uses up
 /// the room, and all else keeps it. Without memory the room stays as it was.
 pub fn refuse(
@@ -118,6 +124,7 @@ pub fn refuse(
     ensures reply { IfOk result (λ reply. reply ≡ shared_reply path.now refusal.now) }
     ensures succeeds { NeedsNoMemory refusal.now room.old.room → IsOk result }
     ensures kept { takes_room refusal.now ≡ false → room.new ≡ room.old }
+    ensures empty { room.old.items ≡ [] → room.new.items ≡ [] }
     ensures err { OnErr result (room.new ≡ room.old) }
 {
     match refusal {

@@ -5,7 +5,7 @@ ghost use Rattle.cal_model.specs.Sight.Scenes as sight;
 ghost use Rattle.cal_model.specs.Sight.Views.{view_by};
 ghost use Rattle.dav_write.specs.ShortPaths.{HasShortNames};
 ghost use Rattle.request_checks.specs.Scenes.{IsFoundAt, IsScene};
-ghost use Rattle.request_checks.specs.Sightings.{AreShort, eyes_of, IsDataAt, IsOriginAt};
+ghost use Rattle.request_checks.specs.Sightings.{AreShort, eyes_of, IsDataAt, IsOriginAt, IsSoundAt};
 
 use crate::looks::Look;
 use crate::sightings::{calendar_at, home_at, object_at, user_at};
@@ -38,6 +38,7 @@ pub fn scene_at<'a, V: View>(seen: &Seen<'a, V>, path: &'a Path, look: Look) -> 
     ensures known { result.home ≡ true → IsSome result.user }
     ensures names { AreShort (V.directory seen.now.view.now) → IsTrue (is_path path.now) → IsFoundAt result path.now → HasShortNames path.now }
     ensures calendar { IfSome result.calendar (λ p. IsDataAt (V.state seen.now.view.now) result.user (sight.calendar_in path.now) p.1.now) }
+    ensures sound { IsSoundAt result.user (sight.calendar_in path.now) (V.directory seen.now.view.now) (V.state seen.now.view.now) }
     ensures origin { IfSome result.object (λ p. IsOriginAt (V.origins seen.now.view.now) result.user path.now p.1) }
 {
     let view: &'a V = seen.view;

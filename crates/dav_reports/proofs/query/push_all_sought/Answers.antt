@@ -1,17 +1,16 @@
-use Rattle.std.proofs.Common.{◌≡◌, ℕ, List, ◌++◌, [], ◌∷◌, ◌<◌, refl, sym, ap, ◌∙◌, arith, length, map, subst, append-nil}
+use Rattle.std.proofs.Common.{◌≡◌, ℕ, List, ◌++◌, [], ◌∷◌, ◌<◌, sym, ap, ◌∙◌, arith, length, map, subst, append-nil}
 use Rattle.cal_model.specs.declared.property.Props.TheVariants.{None as NoProps}
 use Rattle.cal_model.specs.declared.report.ReportRequest.TheVariants.{Query}
 use Rattle.std.specs.Prelude.{None, Some}
 use Rattle.cal_base.specs.Lists.NameMap.{value_at}
 use Rattle.cal_model.specs.declared.stored.Stored.{Stored}
-use Rattle.cal_model.specs.State.ServerState.{Calendar}
 use Rattle.cal_model.specs.State.NameWalks.{objects_above}
 use Rattle.cal_model.proofs.State.NameWalkLaws.{objects_above-end, objects_above-first, objects_above-next}
 use Rattle.rrule_sets.proofs.AskedLemmas.{sum-cons}
 use Rattle.cal_model.specs.Refusals.RequestLimits.{answer_limit}
-use Rattle.dav_reports.specs.CalendarObjects.{entry_cost, objects_at, sought_responses}
+use Rattle.dav_reports.specs.CalendarObjects.{entry_cost, sought_responses}
 use Rattle.dav_reports.specs.PieceRows.{AreRowsOf, IsKept}
-use Rattle.dav_reports.specs.SeenCalendars.{MayRead, reported_of}
+use Rattle.dav_reports.specs.SeenCalendars.{reported_of}
 use Rattle.dav_reports.proofs.CalendarWalks.{all_served, entry_cost-known}
 use Rattle.dav_reports.proofs.KeptObjects.{IsKept-stored}
 use Rattle.dav_reports.proofs.QueryWalks.{entries_found, objects_are, sought_cost, sought_next, too_long}

@@ -1,4 +1,4 @@
-use Rattle.std.proofs.Common.{◌≡◌, ℕ, ◌+◌, ◌≤◌, ◌++◌, List, Some, length}
+use Rattle.std.proofs.Common.{◌≡◌, ◌+◌, ◌≤◌, ◌++◌, Some, length}
 use Rattle.std.specs.List.{AllByRecursion}
 use Rattle.cal_model.specs.State.NameWalks.{objects_above}
 use Rattle.cal_model.specs.State.ServerState.{Calendar, calendar_at}

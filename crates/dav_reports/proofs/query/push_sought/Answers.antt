@@ -1,4 +1,4 @@
-use Rattle.std.proofs.Common.{◌≡◌, ◌++◌, sym, ap, ◌∙◌}
+use Rattle.std.proofs.Common.{◌≡◌, ◌++◌, ◌∙◌}
 use Rattle.std.specs.Prelude.{flat_map}
 use Rattle.cal_model.specs.Instances.Rows.{in_order, rows_in, undated_rows}
 use Rattle.dav_reports.proofs.ToldRows.{query_rows}

@@ -1,5 +1,4 @@
 use Rattle.std.proofs.Common.{◌≡◌, [], ◌∷◌, sym, ◌∙◌, ap, rules, FitsSigned, w32, to_z-of_z}
-use Rattle.std.specs.Option.{option_copied}
 use Rattle.dav_reports.proofs.LookedRows.{lent_rows, none_in}
 use Rattle.dav_reports.proofs.rows.lent_rows.Goals as goal
 

@@ -1,4 +1,4 @@
-use Rattle.std.proofs.Common.{◌≡◌, ◌++◌, Some, sym, rules, FitsSigned, w32, to_z-of_z}
+use Rattle.std.proofs.Common.{◌≡◌, Some, sym, rules, FitsSigned, w32, to_z-of_z}
 use Rattle.cal_model.specs.Instances.Rows.{rows_in}
 use Rattle.dav_reports.proofs.rows.put_window.Goals as goal
 

@@ -1,4 +1,4 @@
-use Rattle.std.proofs.Common.{◌≡◌, ◌≤◌, ◌++◌, length, take, sym, subst}
+use Rattle.std.proofs.Common.{◌≡◌, take}
 use Rattle.dav_reports.proofs.SaidLemmas.{answer-name}
 use Rattle.cal_model.specs.Properties.PropertyTable.{answer}
 use Rattle.dav_reports.specs.ShownObjects.{asker_of}

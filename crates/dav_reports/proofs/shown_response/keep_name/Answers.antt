@@ -1,8 +1,8 @@
-use Rattle.std.proofs.Common.{◌≡◌, ◌≤◌, ◌++◌, ℕ, List, length, map, take, drop, true, refl, sym, ◌∙◌, arith, ap}
+use Rattle.std.proofs.Common.{◌≡◌, true, refl, sym, ◌∙◌, arith, ap}
 use Rattle.std.specs.Prelude.{◌==◌}
 use Rattle.std.proofs.lemmas.Bool.Decides.{nat_tests}
 use Rattle.cal_model.specs.Properties.PropertyReplies.{property_element}
-use Rattle.cal_model.specs.Properties.PropertyTable.{Answer, without_value}
+use Rattle.cal_model.specs.Properties.PropertyTable.{without_value}
 use Rattle.dav_reports.proofs.ShownLemmas.{front_kept}
 use Rattle.dav_reports.proofs.shown_response.keep_name.Goals as goal
 

@@ -1,4 +1,4 @@
-use Rattle.std.proofs.Common.{◌≡◌, ◌++◌, sym, ap, ◌∙◌, None}
+use Rattle.std.proofs.Common.{◌++◌, sym, ap, ◌∙◌, None}
 use Rattle.std.specs.Prelude.{Some}
 use Rattle.cal_model.specs.Properties.PropertyTable.{Answer}
 use Rattle.cal_model.specs.Properties.PropertyReplies.{property_element}

@@ -1,4 +1,4 @@
-use Rattle.std.proofs.Common.{◌≡◌, ◌≤◌, ◌<◌, List, ◌++◌, length, take, sym, ap, subst, arith}
+use Rattle.std.proofs.Common.{◌≤◌, ◌<◌, length, take, arith}
 use Rattle.std.specs.Prelude.{flat_map}
 use Rattle.std.proofs.lemmas.List.{take_all}
 use Rattle.dav_reports.proofs.SaidLemmas.{said_more}

@@ -1,4 +1,4 @@
-use Rattle.std.proofs.Common.{◌≡◌, ℕ, List, take}
+use Rattle.std.proofs.Common.{ℕ, List, take}
 use Rattle.std.specs.Prelude.{flat_map}
 use Rattle.cal_model.specs.Sight.Resources.{Resource}
 use Rattle.multistatus.specs.Answered.{IsAnswered}

@@ -1,12 +1,12 @@
-use Rattle.std.proofs.Common.{◌≡◌, ◌++◌, sym, ap, ◌∙◌, subst}
-use Rattle.std.specs.Prelude.{flat_map, OnOk}
+use Rattle.std.proofs.Common.{◌++◌, sym, ap, ◌∙◌}
+use Rattle.std.specs.Prelude.{flat_map}
 use Rattle.dav_write.proofs.Appending.{on_ok_then}
 use Rattle.cal_model.specs.Properties.PropertyReplies.{propstats}
 use Rattle.cal_model.specs.Replies.Hrefs.{href}
 use Rattle.cal_model.specs.Replies.XmlText.{response}
 use Rattle.cal_model.specs.Sight.Resources.{path_of_resource}
 use Rattle.dav_reports.proofs.SaidLemmas.{response_said}
-use Rattle.dav_reports.specs.AskedProperties.{said_of, names_asked}
+use Rattle.dav_reports.specs.AskedProperties.{said_of}
 use Rattle.dav_reports.specs.ShownObjects.{asker_of}
 use Rattle.dav_reports.proofs.shown_response.push_object.Goals as goal
 

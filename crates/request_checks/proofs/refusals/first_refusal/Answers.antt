@@ -1,7 +1,7 @@
 use Rattle.std.proofs.Common.{sym, ap, ◌∙◌}
 use Rattle.request_checks.specs.Scenes.{least_of}
 use Rattle.request_checks.specs.SharedReplies.{unmet_set}
-use Rattle.request_checks.proofs.LeastScenes.{first-missing, first-lacked, first-absent, first-bad, first-condition, found, no_room}
+use Rattle.request_checks.proofs.LeastScenes.{first-missing, first-lacked, first-absent, first-bad, first-condition, found, no_room, faultless_fault}
 use Rattle.request_checks.proofs.refusals.first_refusal.Goals as goal
 
 pub returns-then-is_missing-clause-row : goal.returns-then-is_missing-clause-row
@@ -36,3 +36,6 @@ returns-in-Some-clause-found c = λ takes. found c.args.request.now.method c.arg
 
 pub returns-clause-found : goal.returns-clause-found
 returns-clause-found c = no_room _ c.failed_condition.result c.failed_condition.ensures.roomless
+
+pub returns-clause-fault : goal.returns-clause-fault
+returns-clause-fault c = faultless_fault c.args.request.now.content c.failed_condition.result c.failed_condition.ensures.faultless
