@@ -1,5 +1,5 @@
 -- What is kept when the newest piece comes and the oldest goes.
-use Rattle.std.proofs.Common.{◌≡◌, ℕ, ◌+◌, ◌-◌, ◌<◌, ◌≤◌, Bool, true, false, ◌&&◌, ◌||◌, ◌==◌, if◌then◌else◌, List, [], ◌∷◌, ◌++◌, length, length-append, filter, set, replicate, length-set, None, refl, sym, ap, ◌∙◌, subst, inl, inr, lit≤, arith, negsuc}
+use Rattle.std.proofs.Common.{◌≡◌, ℕ, ◌+◌, ◌-◌, ◌<◌, ◌≤◌, Bool, true, false, ◌&&◌, ◌||◌, ◌==◌, if◌then◌else◌, List, [], ◌∷◌, ◌++◌, length, length-append, filter, set, replicate, None, refl, sym, ap, ◌∙◌, subst, inl, inr, lit≤, arith, negsuc}
 use Rattle.std.specs.Prelude.{ℤ, pos, not, nat_le, ◌+ℤ◌, is_some, OnOk, Result, Ok, Err}
 use Rattle.std.specs.List.{list_any, AllByRecursion}
 use Rattle.std.proofs.lemmas.Bool.Decides.{Decides-int_eq, Decides-eqb, nat_tests}
@@ -15,24 +15,25 @@ use Rattle.number_set.proofs.TreeLemmas.{cases_le}
 use Rattle.piece_claims.specs.Boards.{is_open_if, gone_for, pair_at, rows_limit}
 use Rattle.piece_claims.specs.Counts.{count_at, rows_if, size_at, sizes_to, AreCounts, HasMoreIn, HasMoreOf}
 use Rattle.piece_claims.specs.Kept.{IsStored, AreOfLive}
-use Rattle.piece_claims.specs.Lanes.{AreLanes, AreAsWide, AreOpen, IsRefreshed, lane_at}
-use Rattle.piece_claims.proofs.KeptLemmas.{KeepsOthers, far_pair, has_grown, refreshed}
+use Rattle.piece_claims.specs.Lanes.{AreLanes, AreAsWide, AreOpen, IsRefreshedAt}
+use Rattle.piece_claims.proofs.KeptLemmas.{has_grown}
+use Rattle.piece_claims.proofs.PairLemmas.{KeepsOtherPairs, refreshed_at, same_pair-flip}
 use Rattle.piece_claims.proofs.CountLemmas.{sizes_all, window_le, without_object, window_snoc}
 
 -- Pairs of other objects
 
-pub head_others : (live : List Bool) (p : Piece) (ps : List Piece) (out : List Pair) → KeepsOthers p.origin live (p ∷ ps) out live ps out
-head_others live p ps out n w far =
-    sym (ap (λ b. has live n && not (b || list_any (λ piece. same_pair (pair_of piece) (pair_at n w)) ps) && not (list_any (same_pair (pair_at n w)) out)) (far_pair p.origin n p.window w (λ e. far (sym e))))
+pub head_pairs : (live : List Bool) (p : Piece) (ps : List Piece) (out : List Pair) → KeepsOtherPairs p.origin p.window live (p ∷ ps) out ps out
+head_pairs live p ps out n w far =
+    sym (ap (λ b. has live n && not (b || list_any (λ piece. same_pair (pair_of piece) (pair_at n w)) ps) && not (list_any (same_pair (pair_at n w)) out)) (same_pair-flip (pair_of p) (pair_at n w) ∙ far))
 
 any_snoc : (q : Piece → Bool) (ps : List Piece) (p : Piece) → q p ≡ false → list_any q (ps ++ p ∷ []) ≡ list_any q ps
 any_snoc q [] p none = ap (λ b. b || false) none
 any_snoc q (x ∷ ps) p none = ap (λ b. q x || b) (any_snoc q ps p none)
 
-pub snoc_others : (live : List Bool) (p : Piece) (ps : List Piece) (out : List Pair) → KeepsOthers p.origin live ps out live (ps ++ p ∷ []) out
-snoc_others live p ps out n w far =
+pub snoc_pairs : (live : List Bool) (p : Piece) (ps : List Piece) (out : List Pair) → KeepsOtherPairs p.origin p.window live ps out (ps ++ p ∷ []) out
+snoc_pairs live p ps out n w far =
     ap (λ b. has live n && not b && not (list_any (same_pair (pair_at n w)) out))
-    (any_snoc (λ piece. same_pair (pair_of piece) (pair_at n w)) ps p (far_pair p.origin n p.window w (λ e. far (sym e))))
+    (any_snoc (λ piece. same_pair (pair_of piece) (pair_at n w)) ps p (same_pair-flip (pair_of p) (pair_at n w) ∙ far))
 
 -- Counts
 
@@ -47,10 +48,6 @@ rows_there counts from p ps was k below at =
     (let a = was k below in let b : rows_if (from +ℤ pos k) p.window (length p.rows) ≡ length p.rows = ap (λ t. if t then length p.rows else 0) ((Decides-int_eq p.window (from +ℤ pos k)).1 at) in omega (arith, a, b))
 
 -- Room in the sets
-
-pub as_wide : (lanes new : List (List Bool)) (from : ℤ) (origin : ℕ) (test : ℤ → Bool) → IsRefreshed lanes new from origin test → AreAsWide lanes new
-as_wide lanes new from origin test fresh =
-    record { count = fresh.count; sizes = λ k small. ap length (fresh.lanes k small) ∙ length-set (lane_at lanes k) origin (test (from +ℤ pos k)) }
 
 pub as_wide_same : (lanes : List (List Bool)) → AreAsWide lanes lanes
 as_wide_same lanes = record { count = refl; sizes = λ k small. refl }
@@ -152,19 +149,19 @@ stored_kept index index' first live counts counts' p s live_is none is counted =
 
 -- What is open after the oldest piece went, and after a newest came
 
-pub open_without : (lanes new : List (List Bool)) (from : ℤ) (live : List Bool) (p : Piece) (old ps : List Piece) (out : List Pair) (alive : Bool) → old ≡ p ∷ ps → ((n : ℕ) → has live n ≡ true → AreLanes lanes (n + 1)) → AreOfLive live old → AreOpen lanes from live old out → alive ≡ has live p.origin → IsRefreshed lanes new from p.origin (λ window. is_open_if alive ps out (pair_at p.origin window)) → AreOpen new from live ps out
+pub open_without : (lanes new : List (List Bool)) (from : ℤ) (live : List Bool) (p : Piece) (old ps : List Piece) (out : List Pair) (alive : Bool) → old ≡ p ∷ ps → ((n : ℕ) → has live n ≡ true → AreLanes lanes (n + 1)) → AreOfLive live old → AreOpen lanes from live old out → alive ≡ has live p.origin → IsRefreshedAt lanes new from p.origin p.window (is_open_if alive ps out (pair_at p.origin p.window)) → AreOpen new from live ps out
 open_without lanes new from live p old ps out alive was wide all open_was alive_is fresh =
-    refreshed lanes new from live live (p ∷ ps) ps out out p.origin
+    refreshed_at lanes new from live (p ∷ ps) ps out out p.origin p.window
     (wide p.origin (subst (AreOfLive live) was all).0)
     (subst (λ (qs : List Piece). AreOpen lanes from live qs out) was open_was)
-    (subst (λ (b : Bool). IsRefreshed lanes new from p.origin (λ window. is_open_if b ps out (pair_at p.origin window))) alive_is fresh)
-    (head_others live p ps out)
+    (subst (λ (b : Bool). IsRefreshedAt lanes new from p.origin p.window (is_open_if b ps out (pair_at p.origin p.window))) alive_is fresh)
+    (head_pairs live p ps out)
 
-pub open_with : (lanes new : List (List Bool)) (from : ℤ) (live : List Bool) (p : Piece) (ps : List Piece) (out : List Pair) → has live p.origin ≡ true → AreLanes lanes (p.origin + 1) → AreOpen lanes from live ps out → IsRefreshed lanes new from p.origin (λ window. is_open_if true (ps ++ p ∷ []) out (pair_at p.origin window)) → AreOpen new from live (ps ++ p ∷ []) out
+pub open_with : (lanes new : List (List Bool)) (from : ℤ) (live : List Bool) (p : Piece) (ps : List Piece) (out : List Pair) → has live p.origin ≡ true → AreLanes lanes (p.origin + 1) → AreOpen lanes from live ps out → IsRefreshedAt lanes new from p.origin p.window (is_open_if true (ps ++ p ∷ []) out (pair_at p.origin p.window)) → AreOpen new from live (ps ++ p ∷ []) out
 open_with lanes new from live p ps out alive wide open_was fresh =
-    refreshed lanes new from live live ps (ps ++ p ∷ []) out out p.origin wide open_was
-    (subst (λ (b : Bool). IsRefreshed lanes new from p.origin (λ window. is_open_if b (ps ++ p ∷ []) out (pair_at p.origin window))) (sym alive) fresh)
-    (snoc_others live p ps out)
+    refreshed_at lanes new from live ps (ps ++ p ∷ []) out out p.origin p.window wide open_was
+    (subst (λ (b : Bool). IsRefreshedAt lanes new from p.origin p.window (is_open_if b (ps ++ p ∷ []) out (pair_at p.origin p.window))) (sym alive) fresh)
+    (snoc_pairs live p ps out)
 
 pub size_within : (index : KeptPieces) (first : ℤ) (live : List Bool) (counts : List ℕ) (n : ℕ) → IsStored index first live counts → (k : ℕ) → k < 13 → size_at n (first +ℤ pos k) index.pieces ≤ count_at counts k
 size_within index first live counts n s k below = (let a = s.counted k below in let b = without_object n (first +ℤ pos k) index.pieces s.apart in omega (arith, a, b))

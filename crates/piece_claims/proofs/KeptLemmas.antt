@@ -2,11 +2,11 @@
 use Rattle.std.proofs.Common.{◌≡◌, ◌≢◌, ℕ, ◌+◌, ◌<◌, ◌≤◌, Bool, true, false, ◌&&◌, ◌||◌, ◌==◌, if◌then◌else◌, List, [], ◌∷◌, ◌++◌, length, length-append, filter, set, take, length-take, replicate, lit≤, zero, suc, to_z, of_z, w32, FitsSigned, negsuc, ◌≤ℤ◌, ◌^◌, rules, refl, sym, ap, ◌∙◌, subst, inl, inr, arith}
 use Rattle.std.specs.Prelude.{ℤ, pos, not, ◌+ℤ◌}
 use Rattle.std.specs.List.{list_any}
+use Rattle.std.specs.Ordering.{int_eq}
 use Rattle.std.proofs.lemmas.Int.{to_z-of_z, ints}
-use Rattle.std.proofs.lemmas.Bool.Decides.{Decides-eqb, nat_tests}
+use Rattle.std.proofs.lemmas.Bool.Decides.{Decides-eqb}
 use Rattle.std.proofs.lemmas.List.{get_or-set_same, get_or-set_other, length-set, get_or-replicate, map-append, take-append-le}
 use Rattle.std.proofs.lemmas.List.Sums.{length-filter, count_by-le-length}
-use Rattle.cal_model.specs.Words.Integers.{same_int}
 use Rattle.cal_model.specs.History.Claims.{Pair, pair_of, same_pair, without_claim}
 use Rattle.cal_model.specs.declared.piece.Piece.{Piece}
 use Rattle.cal_model.specs.Pieces.PieceLists.{is_other_piece}
@@ -16,7 +16,8 @@ use Rattle.piece_claims.specs.Boards.{is_open_if, pair_at}
 use Rattle.piece_claims.specs.Kept.{IsKept, first_of as first_window_of}
 use Rattle.piece_claims.specs.Out.{pairs_out, is_pair}
 use Rattle.piece_claims.proofs.OutLemmas.{without_out}
-use Rattle.piece_claims.specs.Lanes.{AreLanes, AreSameLanes, AreSwept, AreOpen, AreAsWide, IsRefreshed, lane_at}
+use Rattle.piece_claims.proofs.PairLemmas.{KeepsOtherPairs, claim_pairs, end_pairs, far_pair, refreshed_at}
+use Rattle.piece_claims.specs.Lanes.{AreLanes, AreSameLanes, AreSwept, AreOpen, AreAsWide, IsRefreshed, IsRefreshedAt, lane_at}
 
 abbrev pub KeepsOthers : ℕ → List Bool → List Piece → List Pair → List Bool → List Piece → List Pair → Type 0
 KeepsOthers origin live pieces out live' pieces' out' =
@@ -32,46 +33,10 @@ refreshed lanes new from live live' pieces pieces' out out' origin wide open_was
       | inr far ↦ get_or-set_other (lane_at lanes k) origin n _ false far ∙ open_was k n small ∙ sym (others n (from +ℤ pos k) far)
     ]
 
-far_eqb : (a b : ℕ) → a ≢ b → (a == b) ≡ false
-far_eqb a b far = grind (arith, nat_tests)
-
 -- an entry's flag
 pub flag_others : (origin : ℕ) (live : List Bool) (v : Bool) (pieces : List Piece) (out : List Pair) → KeepsOthers origin live pieces out (set live origin v) pieces out
 flag_others origin live v pieces out n w far =
     ap (λ b. is_open_if b pieces out (pair_at n w)) (get_or-set_other live origin n v false far)
-
--- a pair more that is out
-
-pub far_pair : (n o : ℕ) (w z : ℤ) → n ≢ o → same_pair (pair_at n w) (pair_at o z) ≡ false
-far_pair n o w z far = ap (λ b. b && same_int w z) (far_eqb n o far)
-
-any_snoc : (p : Pair → Bool) (xs : List Pair) (x : Pair) → p x ≡ false → list_any p (xs ++ x ∷ []) ≡ list_any p xs
-any_snoc p [] x none = ap (λ b. b || false) none
-any_snoc p (y ∷ xs) x none = ap (λ b. p y || b) (any_snoc p xs x none)
-
-pub claim_others : (origin : ℕ) (window : ℤ) (live : List Bool) (pieces : List Piece) (out : List Pair) → KeepsOthers origin live pieces out live pieces (out ++ pair_at origin window ∷ [])
-claim_others origin window live pieces out n w far =
-    ap (λ b. has live n && not (list_any (λ piece. same_pair (pair_of piece) (pair_at n w)) pieces) && not b)
-    (any_snoc (same_pair (pair_at n w)) out (pair_at origin window) (far_pair n origin w window far))
-
--- a pair less that is out
-
-first_true : (a b : Bool) → (a && b) ≡ true → a ≡ true
-first_true true b both = refl
-first_true false b both = both
-
-any_without : (n o : ℕ) (w z : ℤ) (out : List Pair) → n ≢ o → list_any (same_pair (pair_at n w)) (without_claim (pair_at o z) out) ≡ list_any (same_pair (pair_at n w)) out
-any_without n o w z [] far = refl
-any_without n o w z (x ∷ out) far = by_test (same_pair (pair_at o z) x) refl (any_without n o w z out far)
-  where
-    by_test : (b : Bool) → same_pair (pair_at o z) x ≡ b → list_any (same_pair (pair_at n w)) (without_claim (pair_at o z) out) ≡ list_any (same_pair (pair_at n w)) out → list_any (same_pair (pair_at n w)) (if not b then x ∷ without_claim (pair_at o z) out else without_claim (pair_at o z) out) ≡ (same_pair (pair_at n w) x || list_any (same_pair (pair_at n w)) out)
-    by_test false is rest = ap (λ b. same_pair (pair_at n w) x || b) rest
-    by_test true is rest = rest ∙ ap (λ b. b || list_any (same_pair (pair_at n w)) out) (sym (ap (λ b. b && same_int w x.window) (far_eqb n x.origin (λ e. far (e ∙ sym ((Decides-eqb o x.origin).0 (first_true (o == x.origin) (same_int z x.window) is)))))))
-
-pub end_others : (origin : ℕ) (window : ℤ) (live : List Bool) (pieces : List Piece) (out : List Pair) → KeepsOthers origin live pieces out live pieces (without_claim (pair_at origin window) out)
-end_others origin window live pieces out n w far =
-    ap (λ b. has live n && not (list_any (λ piece. same_pair (pair_of piece) (pair_at n w)) pieces) && not b)
-    (any_without n origin w window out far)
 
 -- the pieces of an object that is gone
 
@@ -119,12 +84,38 @@ module _ (pieces pieces' : List Piece) (out out' : List (ℕ × ℤ)) (cap cap' 
       room_enough : AreLanes lanes (origin + 1)
       room_enough = record { count = k.lanes_wide.count; wide = λ j small. (let room = k.lanes_wide.wide j small in let fits = k.fits in omega arith) }
 
+-- What is kept after one pair of an object was found out anew
+
+-- the sets have as much room as before
+pub as_wide_at : (lanes new : List (List Bool)) (from : ℤ) (origin : ℕ) (window : ℤ) (flag : Bool) → IsRefreshedAt lanes new from origin window flag → AreAsWide lanes new
+as_wide_at lanes new from origin window flag fresh =
+    record { count = fresh.count; sizes = λ k small. ap length (fresh.lanes k small) ∙ by_test (int_eq window (from +ℤ pos k)) (lane_at lanes k) }
+  where
+    by_test : (b : Bool) (flags : List Bool) → length (if b then set flags origin flag else flags) ≡ length flags
+    by_test true flags = length-set flags origin flag
+    by_test false flags = refl
+
+pub kept_pair : (pieces pieces' : List Piece) (out out' : List (ℕ × ℤ)) (cap cap' : ℕ) (latest first : ℤ) (live : List Bool) (entries limit : ℕ) (lanes lanes' : List (List Bool)) (origin : ℕ) (window : ℤ) → IsKept pieces out cap latest first live entries limit lanes → origin < entries → IsRefreshedAt lanes lanes' first origin window (is_open_if (has live origin) pieces' (pairs_out out') (pair_at origin window)) → KeepsOtherPairs origin window live pieces (pairs_out out) pieces' (pairs_out out') → length out' ≤ 64 → 64 ≤ cap' → IsKept pieces' out' cap' latest first live entries limit lanes'
+kept_pair pieces pieces' out out' cap cap' latest first live entries limit lanes lanes' origin window k known fresh others claims claims_fit =
+    record {
+      lanes_wide = record { count = fresh.count ∙ k.lanes_wide.count; wide = λ j small. (let room = k.lanes_wide.wide j small in let size = (as_wide_at lanes lanes' first origin window (is_open_if (has live origin) pieces' (pairs_out out') (pair_at origin window)) fresh).sizes j small in omega (arith, room, size)) };
+      live_wide = k.live_wide;
+      fits = k.fits;
+      unknown = k.unknown;
+      claims = claims;
+      claims_fit = claims_fit;
+      horizon = k.horizon;
+      low = k.low;
+      high = k.high;
+      are_open = refreshed_at lanes lanes' first live pieces pieces' (pairs_out out) (pairs_out out') origin window (record { count = k.lanes_wide.count; wide = λ j small. (let room = k.lanes_wide.wide j small in let fits = k.fits in omega arith) }) k.are_open fresh others;
+    }
+
 -- a claim of an entry's object ends
-pub kept_end : (pieces : List Piece) (out out' : List (ℕ × ℤ)) (cap cap' : ℕ) (latest first : ℤ) (live : List Bool) (entries limit : ℕ) (lanes lanes' : List (List Bool)) (origin : ℕ) (window : ℤ) → IsKept pieces out cap latest first live entries limit lanes → origin < entries → out' ≡ filter (λ p. not (is_pair origin window p)) out → cap' ≡ cap → IsRefreshed lanes lanes' first origin (λ z. is_open_if (has live origin) pieces (pairs_out out') (pair_at origin z)) → IsKept pieces out' cap' latest first live entries limit lanes'
+pub kept_end : (pieces : List Piece) (out out' : List (ℕ × ℤ)) (cap cap' : ℕ) (latest first : ℤ) (live : List Bool) (entries limit : ℕ) (lanes lanes' : List (List Bool)) (origin : ℕ) (window : ℤ) → IsKept pieces out cap latest first live entries limit lanes → origin < entries → out' ≡ filter (λ p. not (is_pair origin window p)) out → cap' ≡ cap → IsRefreshedAt lanes lanes' first origin window (is_open_if (has live origin) pieces (pairs_out out') (pair_at origin window)) → IsKept pieces out' cap' latest first live entries limit lanes'
 kept_end pieces out out' cap cap' latest first live entries limit lanes lanes' origin window k known is same_room fresh =
-    kept pieces pieces out out' cap cap' latest first live live entries limit lanes lanes' origin k known fresh
-    (λ n w far. ap (λ o. is_open_if (has live n) pieces o (pair_at n w)) (ap pairs_out is ∙ without_out origin window out) ∙ end_others origin window live pieces (pairs_out out) n w far)
-    refl k.unknown (let e = ap length is in let less = length-filter-le (λ p. not (is_pair origin window p)) out in let claims = k.claims in omega arith) (let fit = k.claims_fit in omega arith)
+    kept_pair pieces pieces out out' cap cap' latest first live entries limit lanes lanes' origin window k known fresh
+    (λ n w far. ap (λ o. is_open_if (has live n) pieces o (pair_at n w)) (ap pairs_out is ∙ without_out origin window out) ∙ end_pairs origin window live pieces (pairs_out out) n w far)
+    (let e = ap length is in let less = length-filter-le (λ p. not (is_pair origin window p)) out in let claims = k.claims in omega arith) (let fit = k.claims_fit in omega arith)
 
 -- a claim of what is no object ends
 pub kept_end_unknown : (pieces : List Piece) (out out' : List (ℕ × ℤ)) (cap cap' : ℕ) (latest first : ℤ) (live : List Bool) (entries limit : ℕ) (lanes : List (List Bool)) (origin : ℕ) (window : ℤ) → IsKept pieces out cap latest first live entries limit lanes → entries ≤ origin → out' ≡ filter (λ p. not (is_pair origin window p)) out → cap' ≡ cap → IsKept pieces out' cap' latest first live entries limit lanes
@@ -146,7 +137,7 @@ kept_end_unknown pieces out out' cap cap' latest first live entries limit lanes 
     others n w =
         ap (λ o. is_open_if (has live n) pieces o (pair_at n w)) (ap pairs_out is ∙ without_out origin window out)
         ∙ elim (same_or_not n origin) [
-          | inr far ↦ end_others origin window live pieces (pairs_out out) n w far
+          | inr far ↦ end_pairs origin window live pieces (pairs_out out) n w (far_pair n origin w window far)
           | inl same ↦ (let dead : has live n ≡ false = k.unknown n (omega arith) in
               ap (λ b. is_open_if b pieces (without_claim (pair_at origin window) (pairs_out out)) (pair_at n w)) dead ∙ sym (ap (λ b. is_open_if b pieces (pairs_out out) (pair_at n w)) dead))
         ]
@@ -293,12 +284,12 @@ kept_added pieces out cap latest first live live' entries limit lanes lanes' v k
     now = ap (λ l. has l entries) is ∙ get_or-set_same live entries v false (let wide = k.live_wide in omega arith)
 
 -- a pair of a live object is out
-pub kept_claimed : (pieces : List Piece) (out out' : List (ℕ × ℤ)) (cap cap' : ℕ) (latest first : ℤ) (live : List Bool) (entries limit : ℕ) (lanes lanes' : List (List Bool)) (origin : ℕ) (window : ℤ) → IsKept pieces out cap latest first live entries limit lanes → has live origin ≡ true → length out < 64 → out' ≡ out ++ (origin, window) ∷ [] → cap' ≡ cap → IsRefreshed lanes lanes' first origin (λ z. is_open_if true pieces (pairs_out out') (pair_at origin z)) → IsKept pieces out' cap' latest first live entries limit lanes'
+pub kept_claimed : (pieces : List Piece) (out out' : List (ℕ × ℤ)) (cap cap' : ℕ) (latest first : ℤ) (live : List Bool) (entries limit : ℕ) (lanes lanes' : List (List Bool)) (origin : ℕ) (window : ℤ) → IsKept pieces out cap latest first live entries limit lanes → has live origin ≡ true → length out < 64 → out' ≡ out ++ (origin, window) ∷ [] → cap' ≡ cap → IsRefreshedAt lanes lanes' first origin window (is_open_if true pieces (pairs_out out') (pair_at origin window)) → IsKept pieces out' cap' latest first live entries limit lanes'
 kept_claimed pieces out out' cap cap' latest first live entries limit lanes lanes' origin window k alive few is same_room fresh =
-    kept pieces pieces out out' cap cap' latest first live live entries limit lanes lanes' origin k (entry_if_live live entries origin k.unknown alive)
-    (subst (λ b. IsRefreshed lanes lanes' first origin (λ z. is_open_if b pieces (pairs_out out') (pair_at origin z))) (sym alive) fresh)
-    (λ n w far. ap (λ o. is_open_if (has live n) pieces o (pair_at n w)) (ap pairs_out is ∙ map-append (λ (p : ℕ × ℤ). pair_at p.0 p.1) out ((origin, window) ∷ [])) ∙ claim_others origin window live pieces (pairs_out out) n w far)
-    refl k.unknown (omega (arith, ap length is, length-append out ((origin, window) ∷ []))) (let fit = k.claims_fit in omega arith)
+    kept_pair pieces pieces out out' cap cap' latest first live entries limit lanes lanes' origin window k (entry_if_live live entries origin k.unknown alive)
+    (subst (λ b. IsRefreshedAt lanes lanes' first origin window (is_open_if b pieces (pairs_out out') (pair_at origin window))) (sym alive) fresh)
+    (λ n w far. ap (λ o. is_open_if (has live n) pieces o (pair_at n w)) (ap pairs_out is ∙ map-append (λ (p : ℕ × ℤ). pair_at p.0 p.1) out ((origin, window) ∷ [])) ∙ claim_pairs origin window live pieces (pairs_out out) n w far)
+    (omega (arith, ap length is, length-append out ((origin, window) ∷ []))) (let fit = k.claims_fit in omega arith)
 
 -- the greatest moment is another, in the same window
 pub kept_at : (pieces : List Piece) (out : List (ℕ × ℤ)) (cap : ℕ) (latest latest' first : ℤ) (live : List Bool) (entries limit : ℕ) (lanes : List (List Bool)) → IsKept pieces out cap latest first live entries limit lanes → first ≡ first_window_of latest' → IsKept pieces out cap latest' first live entries limit lanes

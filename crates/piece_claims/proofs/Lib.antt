@@ -1,6 +1,7 @@
 pub mod LawLemmas
 pub mod OutLemmas
 pub mod LaneLemmas
+pub mod PairLemmas
 pub mod CountLemmas
 pub mod KeptLemmas
 pub mod AgingLemmas

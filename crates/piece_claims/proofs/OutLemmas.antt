@@ -18,7 +18,7 @@ same_int-refl : (x : ℤ) → same_int x x ≡ true
 same_int-refl (pos a) = (Decides-eqb a a).1 refl
 same_int-refl (negsuc a) = (Decides-eqb a a).1 refl
 
-same_int-is : (x y : ℤ) → same_int x y ≡ true → x ≡ y
+pub same_int-is : (x y : ℤ) → same_int x y ≡ true → x ≡ y
 same_int-is (pos a) (pos b) is = ap pos ((Decides-eqb a b).0 is)
 same_int-is (pos a) (negsuc b) is = absurd (cc)
 same_int-is (negsuc a) (pos b) is = absurd (cc)
@@ -39,7 +39,7 @@ same_int-flip x y =
     same_bool (int_eq x y) (same_int x y) (λ is. ap (λ z. same_int z y) ((Decides-int_eq x y).0 is) ∙ same_int-refl y)
     (λ is. (Decides-int_eq x y).1 (same_int-is x y is))
 
-eqb_flip : (a b : ℕ) → (a == b) ≡ (b == a)
+pub eqb_flip : (a b : ℕ) → (a == b) ≡ (b == a)
 eqb_flip a b = same_bool (a == b) (b == a) (λ is. (Decides-eqb b a).1 (sym ((Decides-eqb a b).0 is))) (λ is. (Decides-eqb a b).1 (sym ((Decides-eqb b a).0 is)))
 
 is_pair-same : (o : ℕ) (w : ℤ) (p : ℕ × ℤ) → same_pair (pair_at o w) (pair_at p.0 p.1) ≡ is_pair o w p

@@ -1,5 +1,6 @@
 -- The open pairs as one set of origins for each window of the horizon, in the order of the windows.
-use Rattle.std.specs.Prelude.{◌≡◌, ℕ, ◌<◌, ◌≤◌, Bool, false, List, [], length, slice_index_or, slice_set, ℤ, pos, ◌+ℤ◌}
+use Rattle.std.specs.Prelude.{◌≡◌, ℕ, ◌<◌, ◌≤◌, Bool, false, List, [], length, slice_index_or, slice_set, if◌then◌else◌, ℤ, pos, ◌+ℤ◌}
+use Rattle.std.specs.Ordering.{int_eq}
 use Rattle.cal_model.specs.History.Claims.{Pair}
 use Rattle.cal_model.specs.declared.piece.Piece.{Piece}
 use Rattle.number_set.specs.Sets.{has, IsLeast}
@@ -31,6 +32,11 @@ AreOpen lanes from live pieces out = (k n : ℕ) → k < windows → has (lane_a
 pub record IsRefreshed (old new : List (List Bool)) (from : ℤ) (origin : ℕ) (test : ℤ → Bool) : Type 0 where
   pub count : length new ≡ length old
   pub lanes : (k : ℕ) → k < windows → lane_at new k ≡ slice_set (lane_at old k) origin (test (from +ℤ pos k))
+
+-- the flag of one origin in one window is as given, where the window is one of them, and no other changes
+pub record IsRefreshedAt (old new : List (List Bool)) (from : ℤ) (origin : ℕ) (window : ℤ) (flag : Bool) : Type 0 where
+  pub count : length new ≡ length old
+  pub lanes : (k : ℕ) → k < windows → lane_at new k ≡ (if int_eq window (from +ℤ pos k) then slice_set (lane_at old k) origin flag else lane_at old k)
 
 -- the flags of the first so many origins are those of open pairs, and no others changed
 pub record AreSwept (old new : List (List Bool)) (from : ℤ) (live : List Bool) (pieces : List Piece) (out : List Pair) (entries : ℕ) : Type 0 where

@@ -62,7 +62,7 @@ fn drop_oldest(
     };
     counts.take(first, piece.window, piece.rows.len() as u64);
     let alive = live.contains(piece.origin);
-    lanes.refresh(first, alive, index, out, piece.origin);
+    lanes.refresh_at(first, alive, index, out, piece.origin, piece.window);
 }
 
 /// Drops the oldest pieces until no more rows are left than the pieces may have, with one step for

@@ -229,7 +229,7 @@ impl Claims {
     {
         self.out.push_reserved((origin, window));
         self.lanes
-            .refresh(self.first, true, &self.index, &self.out, origin);
+            .refresh_at(self.first, true, &self.index, &self.out, origin, window);
     }
 
     /// Claims the next pair, as `next` gives it: it is out from now on. Where there is none, nothing
@@ -262,7 +262,7 @@ impl Claims {
         end(&mut self.out, origin, window);
         let alive = self.live.contains(origin);
         self.lanes
-            .refresh(self.first, alive, &self.index, &self.out, origin);
+            .refresh_at(self.first, alive, &self.index, &self.out, origin, window);
     }
 
     /// A claim ends, and nothing else changes: where its object is still there, and the window in the
@@ -294,7 +294,7 @@ impl Claims {
         put_in(&mut self.index, piece)?;
         self.counts.add(self.first, window, rows);
         self.lanes
-            .refresh(self.first, true, &self.index, &self.out, origin);
+            .refresh_at(self.first, true, &self.index, &self.out, origin, window);
         make_room(
             &mut self.index,
             &mut self.counts,

@@ -1,9 +1,9 @@
 //! How many rows the pieces have in each window of the horizon.
-ghost use Rattle.std.specs.Prelude.{◌≡◌, ◌≢◌, ℕ, ◌+◌, ◌<◌, ◌≤◌, ◌^◌, sum, length, replicate, MatchOption, pos, negsuc, ◌+ℤ◌, ◌≤ℤ◌};
+ghost use Rattle.std.specs.Prelude.{◌≡◌, ℕ, ◌+◌, ◌<◌, ◌≤◌, ◌^◌, sum, length, replicate, pos, negsuc, ◌+ℤ◌, ◌≤ℤ◌};
 ghost use Rattle.cal_model.specs.Pieces.PieceLists.{rows_in, ArePairsApart};
 ghost use Rattle.piece_claims.specs.Counts.{count_at, size_at, sizes_to, HasMoreIn, HasMoreOf};
 
-use crate::lanes::WINDOWS;
+use crate::lanes::{WINDOWS, place_in};
 use piece_index::Index;
 use std::marker::Model;
 
@@ -19,17 +19,6 @@ impl Model for Counts {
     ghost Value = { List ℕ };
 
     ghost view = { λ c. c.counts };
-}
-
-/// The place of a window in the horizon, where it lies there.
-fn place_in(first: i32, window: i32) -> Option<usize>
-    ensures { MatchOption result ((k : ℕ) → k < 13 → window ≢ (first +ℤ pos k)) (λ place. (place < 13) × (window ≡ (first +ℤ pos place))) }
-{
-    let place = i64::from(window) - i64::from(first);
-    if place < 0 || place >= 13 {
-        return None;
-    }
-    Some(place as usize)
 }
 
 /// How many rows the piece of an object in a window has.

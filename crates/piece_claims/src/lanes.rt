@@ -1,7 +1,7 @@
 //! The open origins of each window of the horizon.
-ghost use Rattle.std.specs.Prelude.{◌≡◌, ℕ, ◌+◌, ◌<◌, ◌≤◌, ◌^◌, length, replicate, false, [], ◌∷◌, OnOk, IfOk, MatchOption, pos, negsuc, ◌+ℤ◌, ◌≤ℤ◌};
+ghost use Rattle.std.specs.Prelude.{◌≡◌, ◌≢◌, ℕ, ◌+◌, ◌<◌, ◌≤◌, ◌^◌, length, replicate, false, [], ◌∷◌, OnOk, IfOk, MatchOption, pos, negsuc, ◌+ℤ◌, ◌≤ℤ◌};
 ghost use Rattle.piece_claims.specs.Boards.{is_open_if, pair_at};
-ghost use Rattle.piece_claims.specs.Lanes.{AreLanes, AreEmptyTo, AreSameLanes, AreSwept, IsNext, IsRefreshed};
+ghost use Rattle.piece_claims.specs.Lanes.{AreLanes, AreEmptyTo, AreSameLanes, AreSwept, IsNext, IsRefreshed, IsRefreshedAt};
 ghost use Rattle.piece_claims.specs.Out.{pairs_out};
 
 use crate::claimed::is_out;
@@ -13,6 +13,17 @@ use std::marker::Model;
 
 /// How many windows the horizon has.
 pub(crate) const WINDOWS: usize = 13;
+
+/// The place of a window in the horizon, where it lies there.
+pub(crate) fn place_in(first: i32, window: i32) -> Option<usize>
+    ensures { MatchOption result ((k : ℕ) → k < 13 → window ≢ (first +ℤ pos k)) (λ place. (place < 13) × (window ≡ (first +ℤ pos place))) }
+{
+    let place = i64::from(window) - i64::from(first);
+    if place < 0 || place >= WINDOWS as i64 {
+        return None;
+    }
+    Some(place as usize)
+}
 
 /// Whether the pair of an object that is alive, or is not, is open.
 pub(crate) fn is_open_at(
@@ -135,6 +146,26 @@ impl Lanes {
         ensures lanes { IsRefreshed self.old self.new first origin (λ window. is_open_if alive index.now.pieces (pairs_out out.now) (pair_at origin window)) }
     {
         refresh(&mut self.sets, first, alive, index, out, origin);
+    }
+
+    /// Finds out anew whether an object is open in a window. Takes no memory.
+    pub(crate) fn refresh_at(
+        &mut self,
+        first: i32,
+        alive: bool,
+        index: &Index,
+        out: &[(u64, i32)],
+        origin: u64,
+        window: i32,
+    )
+        requires { AreLanes self.old (origin + 1) }
+        ensures { IsRefreshedAt self.old self.new first origin window (is_open_if alive index.now.pieces (pairs_out out.now) (pair_at origin window)) }
+    {
+        let Some(place) = place_in(first, window) else {
+            return;
+        };
+        let open = is_open_at(alive, index, out, origin, window);
+        self.sets[place].put(origin, open);
     }
 
     /// The first open pair: the least origin of the first window that has one.

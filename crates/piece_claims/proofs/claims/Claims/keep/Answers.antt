@@ -9,10 +9,10 @@ use Rattle.number_set.specs.Sets.{has}
 use Rattle.piece_claims.specs.Boards.{Board, is_open_if, pair_at, rows_limit}
 use Rattle.piece_claims.specs.Counts.{AreCounts, HasMoreIn}
 use Rattle.piece_claims.specs.Kept.{AreOfLive}
-use Rattle.piece_claims.specs.Lanes.{AreOpen, IsRefreshed}
+use Rattle.piece_claims.specs.Lanes.{AreOpen, IsRefreshedAt}
 use Rattle.piece_claims.specs.Out.{pairs_out}
-use Rattle.piece_claims.proofs.AgingLemmas.{as_wide, as_wide_both, count_within, counted_snoc, open_with, stored_kept}
-use Rattle.piece_claims.proofs.KeptLemmas.{first_passed, kept_aged, wide_of_live}
+use Rattle.piece_claims.proofs.AgingLemmas.{as_wide_both, count_within, counted_snoc, open_with, stored_kept}
+use Rattle.piece_claims.proofs.KeptLemmas.{as_wide_at, first_passed, kept_aged, wide_of_live}
 use Rattle.piece_claims.proofs.NextLemmas.{shown_same}
 use Rattle.piece_claims.proofs.claims.Claims.keep.Goals as goal
 
@@ -20,8 +20,8 @@ pub add-requires : goal.add-requires
 add-requires g c =
     record { fits = λ k below. (let few = count_within c.self.inside.index c.self.inside.first c.self.inside.live c.self.inside.counts c.self.invariant.1 k below in let rows = c.len-rows.ensures in let small = c.requires.few in omega (arith, few, rows, small)) }
 
-pub refresh-requires-clause-lanes : goal.refresh-requires-clause-lanes
-refresh-requires-clause-lanes g c =
+pub refresh_at-requires : goal.refresh_at-requires
+refresh_at-requires g c =
     let k = c.self.invariant.0 in
     wide_of_live _ _ _ _ _ _ _ _ _ k c.args.piece.origin
     (sym (shown_same c.self.inside.entries c.self.inside.live k.unknown c.args.piece.origin) ∙ ap (λ (b : Board). has b.live c.args.piece.origin) c.self.view_is ∙ c.requires.live)
@@ -36,17 +36,19 @@ make_room-requires-clause-live g c =
 pub make_room-requires-clause-open : goal.make_room-requires-clause-open
 make_room-requires-clause-open g c =
     let k = c.self.invariant.0 in
+    let whole : to_z w32 (of_z w32 c.args.piece.window) ≡ c.args.piece.window = to_z-of_z w32 c.args.piece.window (search rules) in
     let first_is = first_passed c.self.inside.first k.low k.high in
     let alive : has c.self.inside.live c.args.piece.origin ≡ true =
     sym (shown_same c.self.inside.entries c.self.inside.live k.unknown c.args.piece.origin) ∙ ap (λ (b : Board). has b.live c.args.piece.origin) c.self.view_is ∙ c.requires.live in
-    subst (λ (f : ℤ). AreOpen c.refresh.new.self f c.self.inside.live c.put_in.new.index.pieces (pairs_out c.deref-2.result.now)) (sym first_is)
-    (subst (λ (o : List (ℕ × ℤ)). AreOpen c.refresh.new.self c.self.inside.first c.self.inside.live c.put_in.new.index.pieces (pairs_out o)) (sym c.deref-2.ensures.value)
-    (subst (λ (i : KeptPieces). AreOpen c.refresh.new.self c.self.inside.first c.self.inside.live i.pieces (pairs_out c.self.inside.out.items)) (sym c.in_ok-put_in.ensures.ok)
-    (open_with c.self.inside.lanes c.refresh.new.self c.self.inside.first c.self.inside.live c.args.piece c.self.inside.index.pieces (pairs_out c.self.inside.out.items) alive
+    subst (λ (f : ℤ). AreOpen c.refresh_at.new.self f c.self.inside.live c.put_in.new.index.pieces (pairs_out c.deref-2.result.now)) (sym first_is)
+    (subst (λ (o : List (ℕ × ℤ)). AreOpen c.refresh_at.new.self c.self.inside.first c.self.inside.live c.put_in.new.index.pieces (pairs_out o)) (sym c.deref-2.ensures.value)
+    (subst (λ (i : KeptPieces). AreOpen c.refresh_at.new.self c.self.inside.first c.self.inside.live i.pieces (pairs_out c.self.inside.out.items)) (sym c.in_ok-put_in.ensures.ok)
+    (open_with c.self.inside.lanes c.refresh_at.new.self c.self.inside.first c.self.inside.live c.args.piece c.self.inside.index.pieces (pairs_out c.self.inside.out.items) alive
     (wide_of_live _ _ _ _ _ _ _ _ _ k c.args.piece.origin alive) k.are_open
-    (subst (λ (i : KeptPieces). IsRefreshed c.self.inside.lanes c.refresh.new.self c.self.inside.first c.args.piece.origin (λ z. is_open_if true i.pieces (pairs_out c.self.inside.out.items) (pair_at c.args.piece.origin z))) c.in_ok-put_in.ensures.ok
-    (subst (λ (o : List (ℕ × ℤ)). IsRefreshed c.self.inside.lanes c.refresh.new.self c.self.inside.first c.args.piece.origin (λ z. is_open_if true c.put_in.new.index.pieces (pairs_out o) (pair_at c.args.piece.origin z))) c.deref.ensures.value
-    (subst (λ (f : ℤ). IsRefreshed c.self.inside.lanes c.refresh.new.self f c.args.piece.origin (λ z. is_open_if true c.put_in.new.index.pieces (pairs_out c.deref.result.now) (pair_at c.args.piece.origin z))) first_is c.refresh.ensures.lanes))))))
+    (subst (λ (i : KeptPieces). IsRefreshedAt c.self.inside.lanes c.refresh_at.new.self c.self.inside.first c.args.piece.origin c.args.piece.window (is_open_if true i.pieces (pairs_out c.self.inside.out.items) (pair_at c.args.piece.origin c.args.piece.window))) c.in_ok-put_in.ensures.ok
+    (subst (λ (o : List (ℕ × ℤ)). IsRefreshedAt c.self.inside.lanes c.refresh_at.new.self c.self.inside.first c.args.piece.origin c.args.piece.window (is_open_if true c.put_in.new.index.pieces (pairs_out o) (pair_at c.args.piece.origin c.args.piece.window))) c.deref.ensures.value
+    (subst (λ (f : ℤ). IsRefreshedAt c.self.inside.lanes c.refresh_at.new.self f c.args.piece.origin c.args.piece.window (is_open_if true c.put_in.new.index.pieces (pairs_out c.deref.result.now) (pair_at c.args.piece.origin c.args.piece.window))) first_is
+    (subst (λ (w : ℤ). IsRefreshedAt c.self.inside.lanes c.refresh_at.new.self (to_z w32 (of_z w32 c.self.inside.first)) c.args.piece.origin w (is_open_if true c.put_in.new.index.pieces (pairs_out c.deref.result.now) (pair_at c.args.piece.origin w))) whole c.refresh_at.ensures)))))))
 
 pub make_room-requires-clause-counted : goal.make_room-requires-clause-counted
 make_room-requires-clause-counted g c =
@@ -69,7 +71,7 @@ invariant_of-self-2 g c =
     let pieces_are : c.make_room.new.index ≡ record c.self.inside.index { pieces = newest_within rows_limit (c.self.inside.index.pieces ++ c.args.piece ∷ []) } =
     c.make_room.ensures.pieces ∙ ap (λ (i : KeptPieces). record i { pieces = newest_within rows_limit i.pieces }) c.in_ok-put_in.ensures.ok in (
       kept_aged c.self.inside.index.pieces c.make_room.new.index.pieces c.self.inside.out.items _ c.self.inside.latest c.self.inside.first c.self.inside.live c.self.inside.entries c.self.inside.limit c.self.inside.lanes c.make_room.new.lanes k
-          (as_wide_both c.self.inside.lanes c.refresh.new.self c.make_room.new.lanes (as_wide c.self.inside.lanes c.refresh.new.self _ _ _ c.refresh.ensures.lanes) c.make_room.ensures.wide)
+          (as_wide_both c.self.inside.lanes c.refresh_at.new.self c.make_room.new.lanes (as_wide_at c.self.inside.lanes c.refresh_at.new.self _ _ _ _ c.refresh_at.ensures) c.make_room.ensures.wide)
           (subst (λ (o : List (ℕ × ℤ)). AreOpen c.make_room.new.lanes c.self.inside.first c.self.inside.live c.make_room.new.index.pieces (pairs_out o)) c.deref-2.ensures.value
           (subst (λ (f : ℤ). AreOpen c.make_room.new.lanes f c.self.inside.live c.make_room.new.index.pieces (pairs_out c.deref-2.result.now)) first_is c.make_room.ensures.open)),
       stored_kept c.self.inside.index c.make_room.new.index c.self.inside.first c.self.inside.live c.self.inside.counts c.make_room.new.counts c.args.piece c.self.invariant.1 alive

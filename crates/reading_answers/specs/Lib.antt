@@ -1,0 +1,2 @@
+pub mod OwnReplies
+pub mod ReadingCost
