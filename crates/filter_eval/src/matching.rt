@@ -12,6 +12,7 @@ ghost use Rattle.filter_eval.specs.Passing.{passes_itself, passes_whole};
 ghost use Rattle.filter_eval.specs.Tests.{comp_filter_of};
 
 use crate::components::{has_node, is_named, node_is_named};
+use crate::dates::Dates;
 use crate::place::Place;
 use crate::prepared::{CompTester, Prepared};
 use crate::props::all_props_hold;
@@ -120,14 +121,32 @@ fn outermost_holds(alloc: Global, subject: &Subject, tester: &CompTester) -> Res
     passes(alloc, subject, tester, &spot)
 }
 
+/// The same, with the reading of the dates of the object at hand.
+fn dated_holds<'a>(
+    alloc: Global,
+    subject: &Subject<'a>,
+    dates: &'a Dates<'a>,
+    tester: &CompTester,
+) -> Result<bool, NoMemory>
+    requires ready { IsReady subject.now }
+    requires dates { dates.now ≡ spec.date_reading (matched_of subject.now) }
+    ensures { IfOk result (λ holds. holds ≡ spec.comp_filter_holds (matched_of subject.now) (comp_filter_of tester.now) (whole_site subject.now.object.now ∷ [])) }
+{
+    let subject = Subject {
+        dates: Some(dates),
+        ..*subject
+    };
+    outermost_holds(alloc, &subject, tester)
+}
+
 impl<'f> Prepared<'f> {
     /// Whether an object matches the filter, as far as the given rows tell.
-    fn matches_rows(
+    fn matches_rows<'a>(
         &self,
         alloc: Global,
-        object: &Object,
-        rows: &List<Row>,
-        zone: &ZoneTable,
+        object: &'a Object,
+        rows: &'a List<Row>,
+        zone: &'a ZoneTable,
     ) -> Result<bool, NoMemory>
         requires zone { IsTable zone.now }
         requires zones { All IsTable object.now.zones }
@@ -138,8 +157,13 @@ impl<'f> Prepared<'f> {
             object,
             rows: rows.as_slice(),
             zone,
+            dates: None,
         };
-        outermost_holds(alloc, &subject, &self.top)
+        if !self.dated {
+            return outermost_holds(alloc, &subject, &self.top);
+        }
+        let dates = Dates::of(alloc, &object.zones, zone)?;
+        dated_holds(alloc, &subject, &dates, &self.top)
     }
 
     /// Whether an object matches the filter, as far as the given rows tell.

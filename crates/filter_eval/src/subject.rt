@@ -1,5 +1,6 @@
 //! What is matched, and where in its tree a component stands.
 
+use crate::dates::Dates;
 use crate::place::Place;
 use cal_base::Node;
 use cal_model::{Object, Row, ZoneTable};
@@ -10,6 +11,8 @@ pub struct Subject<'a> {
     pub object: &'a Object,
     pub rows: &'a [Row],
     pub zone: &'a ZoneTable,
+    /// How its dates are read, where that was made ready for all tests of it.
+    pub dates: Option<&'a Dates<'a>>,
 }
 
 /// A component of the tree.
