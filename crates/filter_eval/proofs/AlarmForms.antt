@@ -8,7 +8,7 @@ use Rattle.cal_model.specs.declared.object.Object.{Object}
 use Rattle.cal_model.specs.declared.row.Fixed.{Fixed}
 use Rattle.cal_model.specs.declared.row.Range.{Range}
 use Rattle.cal_model.specs.declared.row.Row.{Row}
-use Rattle.cal_model.specs.Filters.ComponentRanges.{Matched, Site, alarm_passes, valarm_passes, range_passes, component_passes, component_at, component_at_path, holder_of}
+use Rattle.cal_model.specs.Filters.ComponentRanges.{Matched, Site, alarm_passes, valarm_passes, range_passes, component_passes, component_at, component_at_path, holder_of, alarms_before}
 use Rattle.cal_model.specs.Instances.Rows.{Numbered, numbered_from}
 use Rattle.cal_model.specs.Objects.ComponentReading.{is_alarm}
 use Rattle.cal_model.specs.Ranges.Overlap.{alarm_overlaps, dated_fixed}
@@ -34,18 +34,20 @@ pub found_first : (object : Object) (child number : ℕ) (component : Component)
 found_first object child number component behind all at is =
     ap (λ (b : Bool). cond b (record { number = number; component = component } ∷ filter (λ (n : Numbered). n.component.child == child) (numbered_from (number + 1) behind)) (filter (λ (n : Numbered). n.component.child == child) (numbered_from (number + 1) behind))) (sym at) ∙ is
 
-path_within : (path : List ℕ) (child place : ℕ) → place_of path ≡ Within child place → path ≡ place ∷ child ∷ []
-path_within [] child place is = absurd cc
-path_within (a ∷ []) child place is = absurd cc
-path_within (a ∷ b ∷ []) child place is =
+-- the place of an alarm that stands directly in a component of the outermost one, and the alarms before it
+path_within : (object : Object) (path : List ℕ) (child alarms : ℕ) → place_of object path ≡ Within child alarms → (place : ℕ) × (path ≡ place ∷ child ∷ []) × (alarms ≡ alarms_before object place child)
+path_within object [] child alarms is = absurd cc
+path_within object (a ∷ []) child alarms is = absurd cc
+path_within object (a ∷ b ∷ []) child alarms is =
     let outer : b ≡ child = cc in
-    let inner : a ≡ place = cc in
-    λ i. inner i ∷ outer i ∷ []
-path_within (a ∷ b ∷ d ∷ path) child place is = absurd cc
+    let before : alarms_before object a b ≡ alarms = cc in
+    (a, (λ i. a ∷ outer i ∷ []), sym before ∙ ap (alarms_before object a) outer)
+path_within object (a ∷ b ∷ d ∷ path) child alarms is = absurd cc
 
-pub range_within : (matched : Matched) (range : Range) (site : Site) (child place : ℕ) (b : Bool) → is_alarm site.node ≡ true → place_of site.path ≡ Within child place →
-    b ≡ valarm_passes matched range (record site { path = place ∷ child ∷ [] }) (component_at matched.object child) → b ≡ range_passes matched range site
-range_within matched range site child place b alarm at is =
-    is
-    ∙ (ap (λ (p : List ℕ). valarm_passes matched range (record site { path = p }) (holder_of matched.object p)) (sym (path_within site.path child place at))
+pub range_within : (matched : Matched) (range : Range) (site : Site) (child alarms : ℕ) (b : Bool) → is_alarm site.node ≡ true → place_of matched.object site.path ≡ Within child alarms →
+    ((place : ℕ) → alarms ≡ alarms_before matched.object place child → b ≡ valarm_passes matched range (record site { path = place ∷ child ∷ [] }) (component_at matched.object child)) → b ≡ range_passes matched range site
+range_within matched range site child alarms b alarm at is =
+    let there = path_within matched.object site.path child alarms at in
+    is there.0 there.2
+    ∙ (ap (λ (p : List ℕ). valarm_passes matched range (record site { path = p }) (holder_of matched.object p)) (sym there.1)
     ∙ ap (λ (t : Bool). cond t (valarm_passes matched range site (holder_of matched.object site.path)) (list_any (component_passes matched range) (component_at_path matched.object site.path))) (sym alarm))

@@ -5,5 +5,6 @@ mod FoundTexts
 mod LeastInstants
 mod MatchSteps
 mod ReadStamps
+mod SeenPlaces
 mod UnreadTexts
 mod UtcClock

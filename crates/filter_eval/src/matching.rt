@@ -1,16 +1,19 @@
 //! Filters by their structure (RFC 4791, 9.7.1).
 
-ghost use Rattle.std.specs.Prelude.{◌≡◌, ◌∷◌, [], ◌||◌, IfOk, All, codes};
+ghost use Rattle.std.specs.Prelude.{◌≡◌, ◌∷◌, [], ◌||◌, IfOk, All, Some, codes};
+ghost use Rattle.std.specs.List.{slice_get};
 ghost use Rattle.cal_model.specs.Filters.ComponentRanges.{Site, sites_in, whole_site};
 ghost use Rattle.cal_model.specs.Filters.Matching as spec;
-ghost use Rattle.cal_model.specs.Objects.ComponentLines.{is_named};
+ghost use Rattle.cal_model.specs.Objects.ComponentLines.{children_of, is_named};
+ghost use Rattle.cal_model.specs.declared.object.Object.{Object as Whole};
 ghost use Rattle.cal_model.specs.TimeZones.TableBounds.{IsTable};
 ghost use Rattle.overlap_rules.specs.Bounds.{IsNearRow};
 ghost use Rattle.filter_eval.specs.EnoughRows.{AreEnough};
-ghost use Rattle.filter_eval.specs.Places.{IsAt, IsReady, matched_of};
+ghost use Rattle.filter_eval.specs.Places.{IsAt, IsReady, alarms_in, matched_of};
 ghost use Rattle.filter_eval.specs.Passing.{passes_itself, passes_whole};
 ghost use Rattle.filter_eval.specs.Tests.{comp_filter_of};
 
+use crate::alarms::has_trigger;
 use crate::components::{has_node, is_named, node_is_named};
 use crate::dates::Dates;
 use crate::place::Place;
@@ -22,13 +25,13 @@ use cal_base::{List, NoMemory, Node};
 use cal_model::{Filter, Object, Row, ZoneTable};
 use std::alloc::Global;
 
-/// A component in a component.
-fn inner_spot<'a>(spot: &Spot<'a>, place: usize, node: &'a Node) -> Spot<'a>
-    ensures { (site : Site) → IsAt spot.now site → IsAt result (record { path = place ∷ site.path; in_timezone = site.in_timezone || is_named (codes "VTIMEZONE") node.now; node = node.now }) }
+/// A component in a component, at a place and behind so many alarms with a TRIGGER.
+fn inner_spot<'a>(spot: &Spot<'a>, place: usize, alarms: usize, node: &'a Node) -> Spot<'a>
+    ensures { (object : Whole) (site : Site) → IsAt object spot.now site → slice_get (children_of spot.now.node.now) place ≡ Some node.now → alarms ≡ alarms_in spot.now.node.now place → IsAt object result (record { path = place ∷ site.path; in_timezone = site.in_timezone || is_named (codes "VTIMEZONE") node.now; node = node.now }) }
 {
     Spot {
         node,
-        place: spot.place.inner(place),
+        place: spot.place.inner(place, alarms),
         in_timezone: spot.in_timezone || is_named(&node.name, b"VTIMEZONE"),
     }
 }
@@ -42,7 +45,7 @@ fn own_tests_pass(
     spot: &Spot,
 ) -> Result<bool, NoMemory>
     requires { IsReady subject.now }
-    ensures { IfOk result (λ pass. (site : Site) → IsAt spot.now site → pass ≡ passes_itself (matched_of subject.now) (comp_filter_of tester.now) site) }
+    ensures { IfOk result (λ pass. (site : Site) → IsAt subject.now.object.now spot.now site → pass ≡ passes_itself (matched_of subject.now) (comp_filter_of tester.now) site) }
 {
     if !node_is_named(spot.node, tester.name) {
         return Ok(false);
@@ -62,7 +65,7 @@ fn passes(
     spot: &Spot,
 ) -> Result<bool, NoMemory>
     requires { IsReady subject.now }
-    ensures { IfOk result (λ passes. (site : Site) → IsAt spot.now site → passes ≡ passes_whole (matched_of subject.now) (comp_filter_of tester.now) site) }
+    ensures { IfOk result (λ passes. (site : Site) → IsAt subject.now.object.now spot.now site → passes ≡ passes_whole (matched_of subject.now) (comp_filter_of tester.now) site) }
 {
     let passed = own_tests_pass(alloc, subject, tester, spot)?;
     if !passed {
@@ -87,17 +90,22 @@ fn some_inner_passes(
     spot: &Spot,
 ) -> Result<bool, NoMemory>
     requires { IsReady subject.now }
-    ensures { IfOk result (λ holds. (site : Site) → IsAt spot.now site → holds ≡ spec.comp_filter_holds (matched_of subject.now) (comp_filter_of tester.now) (sites_in site)) }
+    ensures { IfOk result (λ holds. (site : Site) → IsAt subject.now.object.now spot.now site → holds ≡ spec.comp_filter_holds (matched_of subject.now) (comp_filter_of tester.now) (sites_in site)) }
 {
     let mut rest = spot.node.children.as_slice();
     if tester.absent {
         return Ok(!has_node(rest, tester.name));
     }
     let mut place = 0;
+    let mut alarms = 0;
     'children: while let Some((child, behind)) = rest.split_first() {
-        let passed = passes(alloc, subject, tester, &inner_spot(spot, place, child))?;
+        let inner = inner_spot(spot, place, alarms, child);
+        let passed = passes(alloc, subject, tester, &inner)?;
         if passed {
             return Ok(true);
+        }
+        if has_trigger(child) {
+            alarms += 1;
         }
         place += 1;
         rest = behind;
