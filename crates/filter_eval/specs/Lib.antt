@@ -1,5 +1,6 @@
 pub mod EnoughRows
 pub mod Instants
+pub mod Links
 pub mod Passing
 pub mod Places
 pub mod Tests

@@ -10,6 +10,7 @@ mod components;
 mod dated;
 mod dates;
 mod ends;
+mod links;
 mod matching;
 mod params;
 mod place;
