@@ -6,5 +6,6 @@ mod LeastInstants
 mod MatchSteps
 mod ReadStamps
 mod SeenPlaces
+mod SkippedItems
 mod UnreadTexts
 mod UtcClock

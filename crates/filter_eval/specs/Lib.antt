@@ -4,3 +4,4 @@ pub mod Links
 pub mod Passing
 pub mod Places
 pub mod Tests
+pub mod Walks

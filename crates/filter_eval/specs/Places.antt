@@ -1,17 +1,20 @@
 -- Where a component stands in the tree of an object, as ranges ask.
-use Rattle.std.specs.Prelude.{◌≡◌, ℕ, List, [], ◌∷◌, take, count_by, All, IfSome, Option, Some, option_and_then}
+use Rattle.std.specs.Prelude.{◌≡◌, ℕ, List, [], ◌∷◌, take, map, count_by, All, IfSome, Option, Some, option_and_then}
 use Rattle.std.specs.List.{slice_get}
 use Rattle.cal_base.specs.declared.line.Node.{Node}
 use Rattle.filter_eval.specs.declared.place.Place.{Place}
 use Rattle.filter_eval.specs.declared.place.Place.TheVariants.{Outermost, Child, Within, Deeper}
 use Rattle.filter_eval.specs.declared.subject.Spot.{Spot}
 use Rattle.filter_eval.specs.declared.subject.Subject.{Subject}
+use Rattle.cal_model.specs.declared.object.Component.{Component}
 use Rattle.cal_model.specs.declared.object.Object.{Object}
+use Rattle.cal_model.specs.declared.row.Row.{Row}
 use Rattle.cal_model.specs.Filters.ComponentRanges.{Matched, Site, alarms_before, has_trigger}
 use Rattle.cal_model.specs.Filters.Matching.{date_reading}
 use Rattle.cal_model.specs.Objects.ComponentLines.{children_of}
 use Rattle.cal_model.specs.TimeZones.TableBounds.{IsTable}
 use Rattle.overlap_rules.specs.Bounds.{IsNearRow}
+use Rattle.filter_eval.specs.Links.{AreLinks}
 
 -- the component that a path of places leads to in a tree, the innermost first
 abbrev pub node_at : Node → List ℕ → Option Node
@@ -40,9 +43,18 @@ pub record IsAt (object : Object) (spot : Spot) (site : Site) : Type 0 where
 abbrev pub matched_of : Subject → Matched
 matched_of subject = record { object = subject.object.now; rows = subject.rows.now; zone = subject.zone.now }
 
--- zones with offsets below a day, rows within some three million years, and dates that are read by these zones
+-- the number of the component of each row, and the child that each component is
+abbrev pub row_keys : List Row → List ℕ
+row_keys rows = map (λ (row : Row). row.component) rows
+
+abbrev pub component_keys : List Component → List ℕ
+component_keys components = map (λ (component : Component). component.child) components
+
+-- zones with offsets below a day, rows within some three million years, links by these numbers and children, and dates that are read by these zones
 pub record IsReady (subject : Subject) : Type 0 where
   pub zone : IsTable subject.zone.now
   pub zones : All IsTable subject.object.now.zones
   pub rows : All IsNearRow subject.rows.now
+  pub row_links : AreLinks subject.row_links.now (row_keys subject.rows.now)
+  pub component_links : AreLinks subject.component_links.now (component_keys subject.object.now.components)
   pub dates : IfSome subject.dates (λ dates. dates.now ≡ date_reading (matched_of subject))

@@ -20,6 +20,7 @@ mod ranges;
 mod stamps;
 mod subject;
 mod texts;
+mod walks;
 
 pub use matching::matches;
 pub use prepared::Prepared;

@@ -21,6 +21,7 @@ use crate::prepared::{CompTester, Prepared};
 use crate::props::all_props_hold;
 use crate::ranges::time_passes;
 use crate::subject::{Spot, Subject};
+use crate::walks::{component_links, row_links};
 use cal_base::{List, NoMemory, Node};
 use cal_model::{Filter, Object, Row, ZoneTable};
 use std::alloc::Global;
@@ -130,10 +131,10 @@ fn outermost_holds(alloc: Global, subject: &Subject, tester: &CompTester) -> Res
 }
 
 /// The same, with the reading of the dates of the object at hand.
-fn dated_holds<'a>(
+fn dated_holds<'a, 'd>(
     alloc: Global,
-    subject: &Subject<'a>,
-    dates: &'a Dates<'a>,
+    subject: &Subject<'a, '_, '_>,
+    dates: &'d Dates<'a>,
     tester: &CompTester,
 ) -> Result<bool, NoMemory>
     requires ready { IsReady subject.now }
@@ -145,6 +146,18 @@ fn dated_holds<'a>(
         ..*subject
     };
     outermost_holds(alloc, &subject, tester)
+}
+
+/// The same, with the reading of the dates made where it is wanted.
+fn prepared_holds(alloc: Global, subject: &Subject, prepared: &Prepared) -> Result<bool, NoMemory>
+    requires { IsReady subject.now }
+    ensures { IfOk result (λ holds. holds ≡ spec.comp_filter_holds (matched_of subject.now) prepared.now.top (whole_site subject.now.object.now ∷ [])) }
+{
+    if !prepared.dated {
+        return outermost_holds(alloc, subject, &prepared.top);
+    }
+    let dates = Dates::of(alloc, &subject.object.zones, subject.zone)?;
+    dated_holds(alloc, subject, &dates, &prepared.top)
 }
 
 impl<'f> Prepared<'f> {
@@ -161,24 +174,26 @@ impl<'f> Prepared<'f> {
         requires rows { All IsNearRow rows.now }
         ensures { IfOk result (λ matches. matches ≡ spec.matches self.now object.now rows.now zone.now) }
     {
+        let rows = rows.as_slice();
+        let row_links = row_links(alloc, object, rows)?;
+        let component_links = component_links(alloc, object)?;
         let subject = Subject {
             object,
-            rows: rows.as_slice(),
+            rows,
             zone,
+            row_links: &row_links,
+            component_links: &component_links,
             dates: None,
         };
-        if !self.dated {
-            return outermost_holds(alloc, &subject, &self.top);
-        }
-        let dates = Dates::of(alloc, &object.zones, zone)?;
-        dated_holds(alloc, &subject, &dates, &self.top)
+        prepared_holds(alloc, &subject, self)
     }
 
     /// Whether an object matches the filter, as far as the given rows tell.
     ///
     /// Floating times are read in the given zone. Where the rows are rows of the object, and among
     /// them are all that meet a range of the filter, they tell as much as all rows of the object.
-    /// Memory may be wanting only where the filter looks at a text or a date.
+    /// Memory may be wanting only where the filter looks at a text or a date, or the object has more
+    /// than four components.
     pub fn matches(
         &self,
         alloc: Global,

@@ -16,6 +16,7 @@ ghost use Rattle.filter_eval.specs.Places.{IsAt, IsReady, matched_of};
 use crate::alarms::{alarm_of, has_trigger, is_alarm};
 use crate::place::Place;
 use crate::subject::{Spot, Subject};
+use crate::walks::{first_component, first_row, next_component, next_row};
 use cal_base::Node;
 use cal_model::{Alarm, Component, Fixed, Range, Row, RowKind, ZoneTable};
 use overlap_rules::{alarm_overlaps, fixed, lone_alarm_overlaps, row_overlaps};
@@ -40,12 +41,12 @@ fn component_passes(subject: &Subject, range: Range, number: usize, component: &
     requires { IsReady subject.now }
     ensures { result ≡ spec.component_passes (matched_of subject.now) range (record { number = number; component = component.now }) }
 {
-    let mut rest = subject.rows;
-    'rows: while let Some((row, behind)) = rest.split_first() {
+    let mut place = first_row(subject, number);
+    'rows: while let Some(row) = subject.rows.get(place) {
         if row_passes(subject, range, number, component, row) {
             return true;
         }
-        rest = behind;
+        place = next_row(subject, number, place, row);
     }
     false
 }
@@ -69,14 +70,13 @@ fn child_passes(subject: &Subject, range: Range, child: usize) -> bool
     requires { IsReady subject.now }
     ensures { result ≡ list_any (spec.component_passes (matched_of subject.now) range) (spec.component_at subject.now.object.now child) }
 {
-    let mut rest = subject.object.components.as_slice();
-    let mut number = 0;
-    'components: while let Some((component, behind)) = rest.split_first() {
+    let components = subject.object.components.as_slice();
+    let mut number = first_component(subject, child);
+    'components: while let Some(component) = components.get(number) {
         if placed_passes(subject, range, child, number, component) {
             return true;
         }
-        number += 1;
-        rest = behind;
+        number = next_component(subject, child, number, component);
     }
     false
 }
@@ -120,14 +120,14 @@ fn alarm_passes_by_rows(
     alarm: &Alarm,
 ) -> bool
     requires { IsReady subject.now }
-    ensures { result ≡ list_any (λ (row : Instance). (row.component == number) && overlap.alarm_overlaps alarm.now component.now (overlap.dated_fixed row subject.now.zone.now) range) subject.now.rows.now }
+    ensures { result ≡ list_any (λ (row : Instance). overlap.alarm_overlaps alarm.now component.now (overlap.dated_fixed row subject.now.zone.now) range) (spec.rows_of_number (matched_of subject.now) number) }
 {
-    let mut rest = subject.rows;
-    'rows: while let Some((row, behind)) = rest.split_first() {
+    let mut place = first_row(subject, number);
+    'rows: while let Some(row) = subject.rows.get(place) {
         if alarm_passes_by_row(subject, range, number, component, alarm, row) {
             return true;
         }
-        rest = behind;
+        place = next_row(subject, number, place, row);
     }
     false
 }
@@ -180,14 +180,13 @@ fn inner_alarm_passes(
     requires { IsReady subject.now }
     ensures { (site : Site) (place : ℕ) → site.node ≡ node.now → before ≡ spec.alarms_before subject.now.object.now place child → result ≡ spec.valarm_passes (matched_of subject.now) range (record site { path = place ∷ child ∷ [] }) (spec.component_at subject.now.object.now child) }
 {
-    let mut rest = subject.object.components.as_slice();
-    let mut number = 0;
-    'components: while let Some((component, behind)) = rest.split_first() {
+    let components = subject.object.components.as_slice();
+    let mut number = first_component(subject, child);
+    'components: while let Some(component) = components.get(number) {
         if component.child as usize == child {
             return held_alarm_passes(subject, range, node, number, component, before);
         }
-        number += 1;
-        rest = behind;
+        number = next_component(subject, child, number, component);
     }
     lone_alarm_passes(range, node)
 }
