@@ -1,5 +1,5 @@
 -- Lists that are walked by the places of the items with one key: what is skipped, what is met and what is left.
-use Rattle.std.proofs.Common.{◌≡◌, ℕ, ◌+◌, ◌<◌, ◌≤◌, zero, suc, Bool, true, false, ◌&&◌, ◌||◌, cond, List, [], ◌∷◌, length, drop, get_or, map, refl, sym, ap, ◌∙◌, subst, arith, Some, None}
+use Rattle.std.proofs.Common.{◌≡◌, ℕ, ◌+◌, ◌<◌, zero, suc, Bool, true, false, ◌&&◌, ◌||◌, cond, List, [], ◌∷◌, length, drop, get_or, map, refl, sym, ap, ◌∙◌, subst, arith, Some, None}
 use Rattle.std.specs.Prelude.{◌==◌, filter}
 use Rattle.std.specs.List.{list_any, slice_get}
 use Rattle.std.proofs.lemmas.Bool.{ne_eqb}
@@ -83,7 +83,7 @@ kept_none p q xs place all none is = ap (λ (ys : List _). list_any p (filter q 
 
 -- the key of an item
 
-pub key_at : {X : Type 0} (key_of : X → ℕ) (xs : List X) (place : ℕ) (x : X) → slice_get xs place ≡ Some x → get_or (map key_of xs) place 0 ≡ key_of x
+key_at : {X : Type 0} (key_of : X → ℕ) (xs : List X) (place : ℕ) (x : X) → slice_get xs place ≡ Some x → get_or (map key_of xs) place 0 ≡ key_of x
 key_at key_of [] place x is = absurd cc
 key_at key_of (y ∷ ys) zero x is =
     let same : y ≡ x = cc in

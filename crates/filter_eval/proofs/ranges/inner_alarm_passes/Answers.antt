@@ -1,4 +1,4 @@
-use Rattle.std.proofs.Common.{◌≡◌, ◌==◌, ◌+◌, ◌∷◌, [], ℕ, Bool, List, length, Some, None, refl, drop, ap, sym, ◌∙◌, arith, eq-eqb}
+use Rattle.std.proofs.Common.{◌==◌, ◌+◌, ◌∷◌, [], ℕ, List, length, refl, drop, ap, sym, ◌∙◌, arith, eq-eqb}
 use Rattle.std.specs.Prelude.{filter, option_to_list}
 use Rattle.std.specs.List.{list_any, slice_get}
 use Rattle.std.proofs.lemmas.Bool.{ne_eqb}

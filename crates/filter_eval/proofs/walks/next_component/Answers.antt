@@ -1,7 +1,6 @@
-use Rattle.std.proofs.Common.{◌≡◌, ℕ, ◌+◌, ◌<◌, List, length, map, get_or, Some, subst, sym, arith}
-use Rattle.std.specs.List.{slice_get}
+use Rattle.std.proofs.Common.{ℕ, ◌+◌, List, subst, sym, arith}
 use Rattle.cal_model.specs.declared.object.Component.{Component}
-use Rattle.cal_model.specs.Instances.Rows.{Numbered, numbered, numbered_from}
+use Rattle.cal_model.specs.Instances.Rows.{Numbered, numbered}
 use Rattle.filter_eval.specs.Links.{IsNext}
 use Rattle.filter_eval.specs.Places.{component_keys}
 use Rattle.filter_eval.proofs.SkippedItems.{kept_from, next_of_item, numbered_keys}
@@ -11,7 +10,7 @@ pub returns-then-component-child-clause-components : goal.returns-then-component
 returns-then-component-child-clause-components c =
     let object = c.args.subject.now.object.now in
     let next = next_of_item (λ (component : Component). component.child) object.components c.args.child c.args.number c.next.result c.args.component.now c.requires.component c.if-component-child.true
-        (c.next.ensures (component_keys object.components) c.requires.ready.component_links) in
+    (c.next.ensures (component_keys object.components) c.requires.ready.component_links) in
     kept_from (λ (n : Numbered). n.component.child) (numbered object) c.args.child (c.args.number + 1) c.next.result
     (subst (λ (keys : List ℕ). IsNext keys c.args.child (c.args.number + 1) c.next.result) (sym (numbered_keys 0 object.components)) next)
 
@@ -19,5 +18,5 @@ pub returns-then-component-child-clause-ahead : goal.returns-then-component-chil
 returns-then-component-child-clause-ahead c =
     let object = c.args.subject.now.object.now in
     let next = next_of_item (λ (component : Component). component.child) object.components c.args.child c.args.number c.next.result c.args.component.now c.requires.component c.if-component-child.true
-        (c.next.ensures (component_keys object.components) c.requires.ready.component_links) in
+    (c.next.ensures (component_keys object.components) c.requires.ready.component_links) in
     omega (arith, next.ahead)

@@ -1,6 +1,5 @@
 use Rattle.std.proofs.Common.{◌+◌, arith}
 use Rattle.cal_model.specs.declared.row.Row.{Row}
-use Rattle.filter_eval.specs.Links.{IsNext}
 use Rattle.filter_eval.specs.Places.{row_keys}
 use Rattle.filter_eval.proofs.SkippedItems.{kept_from, next_of_item}
 use Rattle.filter_eval.proofs.walks.next_row.Goals as goal
