@@ -1,5 +1,5 @@
 -- A list that is walked by places: what begins at a place, and the alarms that stand before it.
-use Rattle.std.proofs.Common.{◌≡◌, ℕ, ◌+◌, ◌<◌, zero, suc, List, [], ◌∷◌, length, drop, get_or, refl, ap, ◌∙◌, arith, true, false, Some}
+use Rattle.std.proofs.Common.{◌≡◌, ℕ, ◌+◌, ◌<◌, zero, suc, List, [], ◌∷◌, length, drop, get_or, refl, ap, sym, ◌∙◌, arith, add-zero, Bool, true, false, cond, Some}
 use Rattle.std.specs.List.{slice_get}
 use Rattle.std.proofs.lemmas.List.Sums.{count_by_more_yes, count_by_more_no}
 use Rattle.cal_base.specs.declared.line.Node.{Node}
@@ -29,12 +29,12 @@ at_front (y ∷ ys) (suc place) x behind is =
 
 -- the alarms before the next place
 
-pub one_alarm_more : (node : Node) (place : ℕ) (child : Node) (behind : List Node) → drop place (children_of node) ≡ child ∷ behind → has_trigger child ≡ true → alarms_in node (place + 1) ≡ alarms_in node place + 1
-one_alarm_more node place child behind is has =
-    let here = at_front (children_of node) place child behind is in
-    count_by_more_yes has_trigger (children_of node) place child here.within (ap has_trigger here.read ∙ has)
+pub alarms_more : (node : Node) (place : ℕ) (child : Node) (behind : List Node) → drop place (children_of node) ≡ child ∷ behind → alarms_in node (place + 1) ≡ alarms_in node place + cond (has_trigger child) 1 0
+alarms_more node place child behind is = by_test (has_trigger child) refl
+  where
+    here : StandsAt (children_of node) place child behind
+    here = at_front (children_of node) place child behind is
 
-pub no_alarm_more : (node : Node) (place : ℕ) (child : Node) (behind : List Node) → drop place (children_of node) ≡ child ∷ behind → has_trigger child ≡ false → alarms_in node (place + 1) ≡ alarms_in node place
-no_alarm_more node place child behind is lacks =
-    let here = at_front (children_of node) place child behind is in
-    count_by_more_no has_trigger (children_of node) place child here.within (ap has_trigger here.read ∙ lacks)
+    by_test : (test : Bool) → has_trigger child ≡ test → alarms_in node (place + 1) ≡ alarms_in node place + cond test 1 0
+    by_test true has = count_by_more_yes has_trigger (children_of node) place child here.within (ap has_trigger here.read ∙ has)
+    by_test false lacks = count_by_more_no has_trigger (children_of node) place child here.within (ap has_trigger here.read ∙ lacks) ∙ sym (add-zero (alarms_in node place))

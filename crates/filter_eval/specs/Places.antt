@@ -1,5 +1,5 @@
 -- Where a component stands in the tree of an object, as ranges ask.
-use Rattle.std.specs.Prelude.{◌≡◌, ℕ, List, [], ◌∷◌, take, map, count_by, All, IfSome, Option, Some, option_and_then}
+use Rattle.std.specs.Prelude.{◌≡◌, ℕ, Bool, true, false, List, [], ◌∷◌, take, map, count_by, All, IfSome, Option, Some, option_and_then}
 use Rattle.std.specs.List.{slice_get}
 use Rattle.cal_base.specs.declared.line.Node.{Node}
 use Rattle.filter_eval.specs.declared.place.Place.{Place}
@@ -32,6 +32,13 @@ place_of object (child ∷ []) = Child child
 place_of object (place ∷ child ∷ []) = Within child (alarms_before object place child)
 place_of object (a ∷ b ∷ c ∷ path) = Deeper
 
+-- it is that of a child of the outermost component, in which alarms are numbered
+abbrev pub is_child : Place → Bool
+is_child (Child child) = true
+is_child Outermost = false
+is_child (Within child alarms) = false
+is_child Deeper = false
+
 -- a spot stands where a site of the definitions does, in the tree of an object
 pub record IsAt (object : Object) (spot : Spot) (site : Site) : Type 0 where
   pub node : site.node ≡ spot.node.now
@@ -55,6 +62,6 @@ pub record IsReady (subject : Subject) : Type 0 where
   pub zone : IsTable subject.zone.now
   pub zones : All IsTable subject.object.now.zones
   pub rows : All IsNearRow subject.rows.now
-  pub row_links : AreLinks subject.row_links.now (row_keys subject.rows.now)
-  pub component_links : AreLinks subject.component_links.now (component_keys subject.object.now.components)
+  pub row_links : IfSome subject.row_links (λ links. AreLinks links.now (row_keys subject.rows.now))
+  pub component_links : IfSome subject.component_links (λ links. AreLinks links.now (component_keys subject.object.now.components))
   pub dates : IfSome subject.dates (λ dates. dates.now ≡ date_reading (matched_of subject))

@@ -6,8 +6,8 @@ ghost use Rattle.filter_eval.specs.Links.{AreLinked, AreLinks, IsNext};
 use cal_base::NoMemory;
 use std::alloc::Global;
 
-/// From the front of a list to the first item of each key, and from each item to the next one of its
-/// key. Where nothing was made ready, an item leads to the one behind it, whatever its key.
+/// From the front of a list to the first item of each key that is looked for, and from each item to
+/// the next one of its key.
 #[derive(Drop)]
 pub struct Links {
     /// The place of the first item of each key, or the end of the list.
@@ -17,16 +17,6 @@ pub struct Links {
 }
 
 impl Links {
-    /// Nothing made ready, which takes no memory.
-    pub fn none(alloc: Global) -> Links
-        ensures { (keys : List ℕ) → AreLinks result keys }
-    {
-        Links {
-            firsts: Vec::new(alloc),
-            nexts: Vec::new(alloc),
-        }
-    }
-
     /// The links of the items with these keys, of which those below a bound are looked for.
     pub fn of(alloc: Global, keys: &[u32], bound: usize) -> Result<Links, NoMemory>
         ensures { IfOk result (λ links. AreLinks links keys.now) }

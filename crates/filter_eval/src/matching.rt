@@ -1,7 +1,8 @@
 //! Filters by their structure (RFC 4791, 9.7.1).
 
-ghost use Rattle.std.specs.Prelude.{◌≡◌, ◌∷◌, [], ◌||◌, IfOk, All, Some, codes};
+ghost use Rattle.std.specs.Prelude.{◌≡◌, ◌∷◌, [], ◌+◌, ◌^◌, ◌<◌, ◌≤◌, ◌||◌, true, cond, IfOk, All, Some, codes};
 ghost use Rattle.std.specs.List.{slice_get};
+ghost use Rattle.cal_model.specs.Filters.ComponentRanges as ranges;
 ghost use Rattle.cal_model.specs.Filters.ComponentRanges.{Site, sites_in, whole_site};
 ghost use Rattle.cal_model.specs.Filters.Matching as spec;
 ghost use Rattle.cal_model.specs.Objects.ComponentLines.{children_of, is_named};
@@ -9,13 +10,15 @@ ghost use Rattle.cal_model.specs.declared.object.Object.{Object as Whole};
 ghost use Rattle.cal_model.specs.TimeZones.TableBounds.{IsTable};
 ghost use Rattle.overlap_rules.specs.Bounds.{IsNearRow};
 ghost use Rattle.filter_eval.specs.EnoughRows.{AreEnough};
-ghost use Rattle.filter_eval.specs.Places.{IsAt, IsReady, alarms_in, matched_of};
+ghost use Rattle.filter_eval.specs.Links.{AreLinks};
+ghost use Rattle.filter_eval.specs.Places.{IsAt, IsReady, alarms_in, component_keys, is_child, matched_of, row_keys};
 ghost use Rattle.filter_eval.specs.Passing.{passes_itself, passes_whole};
 ghost use Rattle.filter_eval.specs.Tests.{comp_filter_of};
 
 use crate::alarms::has_trigger;
 use crate::components::{has_node, is_named, node_is_named};
 use crate::dates::Dates;
+use crate::links::Links;
 use crate::place::Place;
 use crate::prepared::{CompTester, Prepared};
 use crate::props::all_props_hold;
@@ -26,14 +29,30 @@ use cal_base::{List, NoMemory, Node};
 use cal_model::{Filter, Object, Row, ZoneTable};
 use std::alloc::Global;
 
+/// The most components of an object for which nothing is made ready.
+const FEW: usize = 4;
+
 /// A component in a component, at a place and behind so many alarms with a TRIGGER.
 fn inner_spot<'a>(spot: &Spot<'a>, place: usize, alarms: usize, node: &'a Node) -> Spot<'a>
-    ensures { (object : Whole) (site : Site) → IsAt object spot.now site → slice_get (children_of spot.now.node.now) place ≡ Some node.now → alarms ≡ alarms_in spot.now.node.now place → IsAt object result (record { path = place ∷ site.path; in_timezone = site.in_timezone || is_named (codes "VTIMEZONE") node.now; node = node.now }) }
+    ensures { (object : Whole) (site : Site) → IsAt object spot.now site → slice_get (children_of spot.now.node.now) place ≡ Some node.now → (is_child spot.now.place ≡ true → alarms ≡ alarms_in spot.now.node.now place) → IsAt object result (record { path = place ∷ site.path; in_timezone = site.in_timezone || is_named (codes "VTIMEZONE") node.now; node = node.now }) }
 {
     Spot {
         node,
         place: spot.place.inner(place, alarms),
         in_timezone: spot.in_timezone || is_named(&node.name, b"VTIMEZONE"),
+    }
+}
+
+/// A count of alarms with a TRIGGER, where it is wanted, with one component more.
+fn count_with(counts: bool, alarms: usize, node: &Node) -> usize
+    requires { alarms < 2 ^ 63 }
+    ensures more { counts ≡ true → result ≡ alarms + cond (ranges.has_trigger node.now) 1 0 }
+    ensures few { result ≤ alarms + 1 }
+{
+    if counts && has_trigger(node) {
+        alarms + 1
+    } else {
+        alarms
     }
 }
 
@@ -97,6 +116,7 @@ fn some_inner_passes(
     if tester.absent {
         return Ok(!has_node(rest, tester.name));
     }
+    let counts = spot.place.is_child();
     let mut place = 0;
     let mut alarms = 0;
     'children: while let Some((child, behind)) = rest.split_first() {
@@ -105,9 +125,7 @@ fn some_inner_passes(
         if passed {
             return Ok(true);
         }
-        if has_trigger(child) {
-            alarms += 1;
-        }
+        alarms = count_with(counts, alarms, child);
         place += 1;
         rest = behind;
     }
@@ -160,6 +178,27 @@ fn prepared_holds(alloc: Global, subject: &Subject, prepared: &Prepared) -> Resu
     dated_holds(alloc, subject, &dates, &prepared.top)
 }
 
+/// The same, with what leads to the rows and the components at hand.
+fn linked_holds<'a, 'l>(
+    alloc: Global,
+    subject: &Subject<'a, '_, '_>,
+    row_links: &'l Links,
+    component_links: &'l Links,
+    prepared: &Prepared,
+) -> Result<bool, NoMemory>
+    requires ready { IsReady subject.now }
+    requires rows { AreLinks row_links.now (row_keys subject.now.rows.now) }
+    requires components { AreLinks component_links.now (component_keys subject.now.object.now.components) }
+    ensures { IfOk result (λ holds. holds ≡ spec.comp_filter_holds (matched_of subject.now) prepared.now.top (whole_site subject.now.object.now ∷ [])) }
+{
+    let subject = Subject {
+        row_links: Some(row_links),
+        component_links: Some(component_links),
+        ..*subject
+    };
+    prepared_holds(alloc, &subject, prepared)
+}
+
 impl<'f> Prepared<'f> {
     /// Whether an object matches the filter, as far as the given rows tell.
     fn matches_rows<'a>(
@@ -174,18 +213,20 @@ impl<'f> Prepared<'f> {
         requires rows { All IsNearRow rows.now }
         ensures { IfOk result (λ matches. matches ≡ spec.matches self.now object.now rows.now zone.now) }
     {
-        let rows = rows.as_slice();
-        let row_links = row_links(alloc, object, rows)?;
-        let component_links = component_links(alloc, object)?;
         let subject = Subject {
             object,
-            rows,
+            rows: rows.as_slice(),
             zone,
-            row_links: &row_links,
-            component_links: &component_links,
+            row_links: None,
+            component_links: None,
             dates: None,
         };
-        prepared_holds(alloc, &subject, self)
+        if object.components.len() <= FEW {
+            return prepared_holds(alloc, &subject, self);
+        }
+        let row_links = row_links(alloc, rows.as_slice(), object.components.len())?;
+        let component_links = component_links(alloc, object)?;
+        linked_holds(alloc, &subject, &row_links, &component_links, self)
     }
 
     /// Whether an object matches the filter, as far as the given rows tell.

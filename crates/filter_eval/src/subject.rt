@@ -12,10 +12,10 @@ pub struct Subject<'a, 'l, 'd> {
     pub object: &'a Object,
     pub rows: &'a [Row],
     pub zone: &'a ZoneTable,
-    /// From each row to the next one of its component.
-    pub row_links: &'l Links,
-    /// From each component to the next one that is the same child of the outermost one.
-    pub component_links: &'l Links,
+    /// From each row to the next one of its component, where that was made ready.
+    pub row_links: Option<&'l Links>,
+    /// From each component to the next one that is the same child of the outermost one, likewise.
+    pub component_links: Option<&'l Links>,
     /// How its dates are read, where that was made ready for all tests of it.
     pub dates: Option<&'d Dates<'a>>,
 }

@@ -14,9 +14,6 @@ use cal_base::{List, NoMemory};
 use cal_model::{Component, Object, Row};
 use std::alloc::Global;
 
-/// The most components of an object for which nothing is made ready.
-const FEW: usize = 4;
-
 /// The number of the component of each row.
 fn keys_of_rows(alloc: Global, rows: &[Row]) -> Result<List<u32>, NoMemory>
     ensures { IfOk result (λ keys. keys ≡ row_keys rows.now) }
@@ -41,14 +38,10 @@ fn keys_of_components(alloc: Global, components: &[Component]) -> Result<List<u3
     Ok(keys)
 }
 
-/// From each row of an object to the next one of its component.
-pub fn row_links(alloc: Global, object: &Object, rows: &[Row]) -> Result<Links, NoMemory>
+/// From each row to the next one of its component, of so many.
+pub fn row_links(alloc: Global, rows: &[Row], components: usize) -> Result<Links, NoMemory>
     ensures { IfOk result (λ links. AreLinks links (row_keys rows.now)) }
 {
-    let components = object.components.len();
-    if components <= FEW {
-        return Ok(Links::none(alloc));
-    }
     let keys = keys_of_rows(alloc, rows)?;
     Links::of(alloc, keys.as_slice(), components)
 }
@@ -57,11 +50,7 @@ pub fn row_links(alloc: Global, object: &Object, rows: &[Row]) -> Result<Links, 
 pub fn component_links(alloc: Global, object: &Object) -> Result<Links, NoMemory>
     ensures { IfOk result (λ links. AreLinks links (component_keys object.now.components)) }
 {
-    let components = object.components.as_slice();
-    if components.len() <= FEW {
-        return Ok(Links::none(alloc));
-    }
-    let keys = keys_of_components(alloc, components)?;
+    let keys = keys_of_components(alloc, object.components.as_slice())?;
     Links::of(alloc, keys.as_slice(), object.tree.children.len())
 }
 
@@ -70,7 +59,10 @@ pub fn first_row(subject: &Subject, number: usize) -> usize
     requires { IsReady subject.now }
     ensures { rows_from subject.now number result ≡ spec.rows_of_number (matched_of subject.now) number }
 {
-    subject.row_links.first(number)
+    match subject.row_links {
+        Some(links) => links.first(number),
+        None => 0,
+    }
 }
 
 /// The place behind a row at which those of a component go on.
@@ -80,10 +72,9 @@ pub fn next_row(subject: &Subject, number: usize, place: usize, row: &Row) -> us
     ensures rows { rows_from subject.now number result ≡ rows_from subject.now number (place + 1) }
     ensures ahead { place < result }
 {
-    if row.component as usize == number {
-        subject.row_links.next(place)
-    } else {
-        place + 1
+    match subject.row_links {
+        Some(links) if row.component as usize == number => links.next(place),
+        _ => place + 1,
     }
 }
 
@@ -92,7 +83,10 @@ pub fn first_component(subject: &Subject, child: usize) -> usize
     requires { IsReady subject.now }
     ensures { components_from subject.now child result ≡ spec.component_at subject.now.object.now child }
 {
-    subject.component_links.first(child)
+    match subject.component_links {
+        Some(links) => links.first(child),
+        None => 0,
+    }
 }
 
 /// The number behind a component from which on others are a child.
@@ -108,9 +102,8 @@ pub fn next_component(
     ensures components { components_from subject.now child result ≡ components_from subject.now child (number + 1) }
     ensures ahead { number < result }
 {
-    if component.child as usize == child {
-        subject.component_links.next(number)
-    } else {
-        number + 1
+    match subject.component_links {
+        Some(links) if component.child as usize == child => links.next(number),
+        _ => number + 1,
     }
 }

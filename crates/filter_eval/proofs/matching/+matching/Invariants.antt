@@ -17,7 +17,7 @@ abbrev pub invariant-some_inner_passes-children : goal.invariant-some_inner_pass
 invariant-some_inner_passes-children l = record {
   numbers : l.place + length l.rest ≡ length l.initial.rest;
   front : drop l.place (children_of l.spot.node.now) ≡ l.rest;
-  before : l.alarms ≡ alarms_in l.spot.node.now l.place;
+  before : l.counts ≡ true → l.alarms ≡ alarms_in l.spot.node.now l.place;
   few : l.alarms ≤ l.place;
   same : (site : Site) → IsAt l.subject.object.now l.spot site →
       list_any (passes_whole (matched_of l.subject) (comp_filter_of l.tester)) (map (site_in site) (enumerate_from l.place l.rest))
