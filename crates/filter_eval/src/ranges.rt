@@ -46,7 +46,10 @@ fn component_passes(subject: &Subject, range: Range, number: usize, component: &
         if row_passes(subject, range, number, component, row) {
             return true;
         }
-        place = next_row(subject, number, place, row);
+        place = match subject.row_links {
+            Some(links) => next_row(subject, links, number, place, row),
+            None => place + 1,
+        };
     }
     false
 }
@@ -127,7 +130,10 @@ fn alarm_passes_by_rows(
         if alarm_passes_by_row(subject, range, number, component, alarm, row) {
             return true;
         }
-        place = next_row(subject, number, place, row);
+        place = match subject.row_links {
+            Some(links) => next_row(subject, links, number, place, row),
+            None => place + 1,
+        };
     }
     false
 }

@@ -65,16 +65,17 @@ pub fn first_row(subject: &Subject, number: usize) -> usize
     }
 }
 
-/// The place behind a row at which those of a component go on.
-pub fn next_row(subject: &Subject, number: usize, place: usize, row: &Row) -> usize
-    requires ready { IsReady subject.now }
+/// The place behind a row at which those of a component go on, by what was made ready.
+pub fn next_row(subject: &Subject, links: &Links, number: usize, place: usize, row: &Row) -> usize
+    requires links { AreLinks links.now (row_keys subject.now.rows.now) }
     requires row { slice_get subject.now.rows.now place ≡ Some row.now }
     ensures rows { rows_from subject.now number result ≡ rows_from subject.now number (place + 1) }
     ensures ahead { place < result }
 {
-    match subject.row_links {
-        Some(links) if row.component as usize == number => links.next(place),
-        _ => place + 1,
+    if row.component as usize == number {
+        links.next(place)
+    } else {
+        place + 1
     }
 }
 
