@@ -417,6 +417,12 @@ def filters():
                 best[label, answer] = min(int(nanos), best.get((label, answer), int(nanos)))
         for (label, answer), nanos in best.items():
             print(f"{label:34} {count:8d} {nanos:8d}  {answer}")
+    print(f"{'filter of small parts':34} {'octets':>8} {'tests':>6} {'us':>9} {'us a test':>10}")
+    for octets, width, rounds in ((65536, 1, 60), (131072, 1, 60), (262144, 1, 60), (262144, 100, 3), (262144, 1000, 1)):
+        output = run(FILTERS, ["1", str(rounds), str(width), str(octets)], b"")[2].decode()
+        for label, nanos in re.findall(r"(.* over .*): (\d+) ns an object", output):
+            micros = int(nanos) / 1000
+            print(f"{label:34} {octets:8d} {width:6d} {micros:9.1f} {micros / width:10.2f}")
 
 
 def busy():

@@ -1,6 +1,6 @@
 -- What is told of a request that changes something, in the words of outcomes (RFC 9110, 9.3 and 15.3; RFC 4791, 5.3; RFC 4918, 9; RFC 3744, 8.1).
 -- Given: the users, a state, an event and an answer.
-use Rattle.std.specs.Prelude.{◌≡◌, ℕ, true, false, List, Some, IsSome}
+use Rattle.std.specs.Prelude.{◌≡◌, ◌≢◌, ℕ, true, false, List, Some, IsSome}
 use Rattle.cal_model.specs.declared.change.Change.{Change as KeptChange}
 use Rattle.cal_model.specs.declared.path.Path.{Path}
 use Rattle.cal_model.specs.declared.path.Path.TheVariants as path
@@ -65,3 +65,10 @@ IsDecided other = Unit {0}
 abbrev pub IfUndecided : ChangeCheck → Type 0 → Type 0
 IfUndecided NoMemory holds = holds
 IfUndecided other holds = Unit {0}
+
+-- Room
+
+-- a refusal for want of a privilege, which has status 403, may use up the room; all else keeps it
+abbrev pub KeepsRoom : ChangeCheck → Type 0
+KeepsRoom (Refused reply) = reply.status ≢ 403
+KeepsRoom other = Unit {0}

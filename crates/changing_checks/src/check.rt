@@ -4,7 +4,7 @@ ghost use Rattle.cal_model.specs.Serving.Outcomes.{is_reading};
 ghost use Rattle.request_checks.specs.Sightings.{AreShort};
 ghost use Rattle.request_checks.specs.SharedReplies.{shared_reply, takes_room, FitsRoom, NeedsNoMemory};
 ghost use Rattle.book_view.specs.ShownStates.{shown_directory, shown_state};
-ghost use Rattle.changing_checks.specs.Checks.{IsAskedOf, IsChecked, IsDecided, IfUndecided};
+ghost use Rattle.changing_checks.specs.Checks.{IsAskedOf, IsChecked, IsDecided, IfUndecided, KeepsRoom};
 ghost use Rattle.changing_checks.specs.Passed.{IsPassed, sighted};
 ghost use Rattle.changing_checks.specs.OwnChecks.{IsOwnChecked, IsRefusal};
 
@@ -49,6 +49,7 @@ pub fn check_change(
     ensures checked { IsChecked (shown_directory seen.now.view.now) (shown_state seen.now.view.now) event.now result }
     ensures no_want { event.now.request.method ≡ Method.Delete → 4096 ≤ room.old.room → IsDecided result }
     ensures empty { room.new.items ≡ [] }
+    ensures kept { KeepsRoom result → room.new ≡ room.old }
     ensures err { IfUndecided result (room.new ≡ room.old) }
 {
     let request = &event.request;
@@ -70,6 +71,7 @@ fn refused(
     ensures reply { IsRefusal (shared_reply path.now refusal.now) result }
     ensures succeeds { NeedsNoMemory refusal.now room.old.room → IsDecided result }
     ensures empty { room.old.items ≡ [] → room.new.items ≡ [] }
+    ensures kept { KeepsRoom result → room.new ≡ room.old }
     ensures err { IfUndecided result (room.new ≡ room.old) }
 {
     match refuse(alloc, path, refusal, room) {

@@ -35,7 +35,7 @@ pub fn utc(alloc: Global) -> ZoneTable
 }
 
 /// A line without parameters.
-fn line(alloc: Global, name: &[u8], value: &[u8]) -> Result<Line, NoMemory> {
+pub fn line(alloc: Global, name: &[u8], value: &[u8]) -> Result<Line, NoMemory> {
     Ok(Line {
         name: Name::of(alloc, name)?,
         params: List::new(alloc),
@@ -76,7 +76,7 @@ fn event_lines(alloc: Global, number: u32) -> Result<List<Line>, NoMemory> {
 }
 
 /// A component of a tree.
-fn node(
+pub fn node(
     alloc: Global,
     name: &[u8],
     lines: List<Line>,
@@ -90,7 +90,7 @@ fn node(
 }
 
 /// An event that starts at a moment.
-fn component(alloc: Global, start: u32) -> Component {
+pub fn component(alloc: Global, start: u32) -> Component {
     Component {
         kind: Kind::Event,
         child: 0,
@@ -112,16 +112,15 @@ fn component(alloc: Global, start: u32) -> Component {
     }
 }
 
-/// The object of a number.
-fn object(alloc: Global, number: u32, start: u32) -> Result<Object, NoMemory>
+/// An object of these children and components.
+pub fn object_of(
+    alloc: Global,
+    children: List<Node>,
+    components: List<Component>,
+) -> Result<Object, NoMemory>
     ensures { IfOk result (λ object. object.zones ≡ []) }
 {
-    let lines = event_lines(alloc, number)?;
-    let mut children = List::new(alloc);
-    children.push(node(alloc, b"VEVENT", lines, List::new(alloc))?)?;
     let tree = node(alloc, b"VCALENDAR", List::new(alloc), children)?;
-    let mut components = List::new(alloc);
-    components.push(component(alloc, start))?;
     Ok(Object {
         kind: Kind::Event,
         uid: Octets::new(alloc),
@@ -131,8 +130,20 @@ fn object(alloc: Global, number: u32, start: u32) -> Result<Object, NoMemory>
     })
 }
 
-/// The row of a meeting.
-fn row(start: u32) -> Row
+/// The object of a number.
+fn object(alloc: Global, number: u32, start: u32) -> Result<Object, NoMemory>
+    ensures { IfOk result (λ object. object.zones ≡ []) }
+{
+    let lines = event_lines(alloc, number)?;
+    let mut children = List::new(alloc);
+    children.push(node(alloc, b"VEVENT", lines, List::new(alloc))?)?;
+    let mut components = List::new(alloc);
+    components.push(component(alloc, start))?;
+    object_of(alloc, children, components)
+}
+
+/// The row of a meeting, of the component of a number.
+pub fn row_of(component: u32, start: u32) -> Row
     ensures { IsNearRow result }
 {
     let start = i64::from(start);
@@ -140,20 +151,20 @@ fn row(start: u32) -> Row
         id: start,
         start,
         end: start + MEETING,
-        component: 0,
+        component,
         id_kind: RowKind::Instant,
         kind: RowKind::Instant,
     }
 }
 
 /// The rows of eight weeks.
-fn rows(alloc: Global, start: u32) -> Result<List<Row>, NoMemory>
+pub fn rows(alloc: Global, start: u32) -> Result<List<Row>, NoMemory>
     requires { start ≤ 100_000_000 }
     ensures { IfOk result (All IsNearRow) }
 {
     let mut rows = List::new(alloc);
     'weeks: for week in 0u32..8 {
-        rows.push(row(start + week * WEEK))?;
+        rows.push(row_of(0, start + week * WEEK))?;
     }
     Ok(rows)
 }

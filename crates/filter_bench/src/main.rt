@@ -3,7 +3,8 @@
 //! Given: two words, how many objects there are, else 60, and how often they are asked, else once.
 //! Gives: for a filter of a range of a month, of a text in a short property and of one in a long
 //! property, how many objects match, and with the second word the nanoseconds of an object in the
-//! round that took least.
+//! round that took least. With a third word, of what width filters are, and a fourth, how many octets
+//! one object has: the same of objects that consist of thousands of small parts.
 #![tactic(auto)]
 
 ghost use Rattle.std.specs.Prelude.{All, IfOk};
@@ -12,12 +13,16 @@ ghost use Rattle.filter_bench.specs.Entries.{IsEntry};
 
 mod entry;
 mod filters;
+mod hostile;
 
 use cal_base::{List, NoMemory};
 use cal_model::{Filter, ZoneTable};
 use entry::{Entry, entry_of, utc};
 use filter_eval::Prepared;
 use filters::{month, text_in};
+use hostile::{
+    alarms_of_one, event_with_alarms, event_with_lines, events, ranges, ranges_of_alarms, texts,
+};
 use std::alloc::Global;
 use std::time::Instant;
 use std::{env, io};
@@ -114,6 +119,45 @@ fn measure(
     Ok(())
 }
 
+/// The same of one object.
+fn measure_one(
+    rt: &HostRuntime,
+    name: &str,
+    filter: Result<Filter, NoMemory>,
+    entry: Result<Entry, NoMemory>,
+    rounds: u32,
+) -> io::Result<()>
+    requires { IfOk entry IsEntry }
+{
+    let Ok(entry) = entry else {
+        return println!(rt; "{name}: no memory");
+    };
+    let entries = [entry];
+    measure(rt, name, filter, &entries, rounds)
+}
+
+/// Asks objects of so many octets, which consist of small parts, with filters of a width.
+fn measure_hostile(rt: &HostRuntime, width: u32, octets: u32, rounds: u32) -> io::Result<()> {
+    let alloc = rt.alloc();
+    let (overrides, alarmed) = (octets / 65, octets / 105);
+    let (alarms, lines) = (octets / 40, octets / 52);
+    let filter = ranges(alloc, width, overrides);
+    let entry = events(alloc, overrides, 0);
+    measure_one(rt, "ranges over overrides", filter, entry, rounds)?;
+    let filter = ranges_of_alarms(alloc, width, alarmed);
+    let entry = events(alloc, alarmed, 1);
+    measure_one(rt, "ranges of alarms over overrides", filter, entry, rounds)?;
+    let filter = alarms_of_one(alloc, width, alarms);
+    let entry = event_with_alarms(alloc, alarms);
+    measure_one(rt, "ranges over alarms of an event", filter, entry, rounds)?;
+    let filter = texts(alloc, width);
+    let entry = event_with_lines(alloc, lines);
+    measure_one(rt, "texts over lines of an event", filter, entry, rounds)?;
+    let filter = ranges(alloc, width, 1);
+    let entry = event_with_lines(alloc, lines);
+    measure_one(rt, "ranges over an event of lines", filter, entry, rounds)
+}
+
 /// The number that a word says.
 fn number(word: &str, other: u32) -> u32 {
     word.parse::<u32>().ok().unwrap_or(other)
@@ -130,6 +174,14 @@ fn main(rt: HostRuntime) -> io::Result<()> {
         Some(word) => number(word.as_str(), 0),
         None => 0,
     };
+    let width = match words.next() {
+        Some(word) => number(word.as_str(), 0),
+        None => 0,
+    };
+    let octets = match words.next() {
+        Some(word) => number(word.as_str(), 262_144),
+        None => 262_144,
+    };
     let Ok(entries) = entries(alloc, objects) else {
         return println!(rt; "no memory");
     };
@@ -138,5 +190,9 @@ fn main(rt: HostRuntime) -> io::Result<()> {
     let short = text_in(alloc, b"SUMMARY", b"OBJECT 7");
     measure(&rt, "a short text", short, entries, rounds)?;
     let long = text_in(alloc, b"DESCRIPTION", b"not there");
-    measure(&rt, "a long text", long, entries, rounds)
+    measure(&rt, "a long text", long, entries, rounds)?;
+    if width > 0 {
+        measure_hostile(&rt, width, octets, rounds)?;
+    }
+    Ok(())
 }

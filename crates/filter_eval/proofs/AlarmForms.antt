@@ -1,51 +1,57 @@
 -- How an alarm and a component pass a range, in the forms in which they are looked at.
-use Rattle.std.proofs.Common.{◌≡◌, ℕ, ◌+◌, Bool, true, false, ◌&&◌, ◌||◌, cond, List, [], ◌∷◌, sym, ap, ◌∙◌, Option, None}
+use Rattle.std.proofs.Common.{◌≡◌, ℕ, ◌+◌, Bool, true, false, ◌||◌, cond, List, [], ◌∷◌, sym, ap, ◌∙◌, arith, drop, Option, None, Some}
 use Rattle.std.specs.Prelude.{◌==◌, filter}
-use Rattle.std.specs.List.{list_any}
+use Rattle.std.specs.List.{list_any, slice_get}
 use Rattle.cal_model.specs.declared.object.Alarm.{Alarm}
 use Rattle.cal_model.specs.declared.object.Component.{Component}
 use Rattle.cal_model.specs.declared.object.Object.{Object}
 use Rattle.cal_model.specs.declared.row.Fixed.{Fixed}
 use Rattle.cal_model.specs.declared.row.Range.{Range}
 use Rattle.cal_model.specs.declared.row.Row.{Row}
-use Rattle.cal_model.specs.Filters.ComponentRanges.{Matched, Site, alarm_passes, valarm_passes, range_passes, component_passes, component_at, component_at_path, holder_of}
-use Rattle.cal_model.specs.Instances.Rows.{Numbered, numbered_from}
+use Rattle.cal_model.specs.Filters.ComponentRanges.{Matched, Site, alarm_passes, valarm_passes, range_passes, component_passes, component_at, component_at_path, holder_of, alarms_before, rows_of_number}
+use Rattle.cal_model.specs.Instances.Rows.{Numbered, numbered}
 use Rattle.cal_model.specs.Objects.ComponentReading.{is_alarm}
 use Rattle.cal_model.specs.Ranges.Overlap.{alarm_overlaps, dated_fixed}
+use Rattle.cal_model.proofs.Words.ListTests.{any_map}
 use Rattle.filter_eval.specs.declared.place.Place.TheVariants.{Within}
 use Rattle.filter_eval.specs.Places.{place_of}
-use Rattle.filter_eval.proofs.FilteredTests.{any_map_filter}
+use Rattle.filter_eval.proofs.SkippedItems.{begins, numbered_at}
 
 -- by no row, or by some row of the component
 pub alarm_passes_by_rows : (matched : Matched) (range : Range) (number : ℕ) (component : Component) (alarm : Alarm) →
     alarm_passes matched range (record { number = number; component = component }) alarm
-    ≡ (alarm_overlaps alarm component None range || list_any (λ (row : Row). (row.component == number) && alarm_overlaps alarm component (dated_fixed row matched.zone) range) matched.rows)
+    ≡ (alarm_overlaps alarm component None range || list_any (λ (row : Row). alarm_overlaps alarm component (dated_fixed row matched.zone) range) (rows_of_number matched number))
 alarm_passes_by_rows matched range number component alarm =
     ap (λ t. alarm_overlaps alarm component None range || t)
-    (any_map_filter (λ (at : Option Fixed). alarm_overlaps alarm component at range) (λ (row : Row). dated_fixed row matched.zone) (λ (row : Row). row.component == number) matched.rows)
+    (any_map (λ (at : Option Fixed). alarm_overlaps alarm component at range) (λ (row : Row). dated_fixed row matched.zone) (rows_of_number matched number))
 
 pub no_row_needed : (a b c : Bool) → a ≡ false → c ≡ (a || b) → b ≡ c
 no_row_needed a b c none is = ap (λ (t : Bool). t || b) (sym none) ∙ sym is
 
 -- the component that is found first is the first of those at the place
-pub found_first : (object : Object) (child number : ℕ) (component : Component) (behind : List Component) (all : List Numbered) → (component.child == child) ≡ true →
-    filter (λ (n : Numbered). n.component.child == child) (numbered_from number (component ∷ behind)) ≡ all →
-    record { number = number; component = component } ∷ filter (λ (n : Numbered). n.component.child == child) (numbered_from (number + 1) behind) ≡ all
-found_first object child number component behind all at is =
-    ap (λ (b : Bool). cond b (record { number = number; component = component } ∷ filter (λ (n : Numbered). n.component.child == child) (numbered_from (number + 1) behind)) (filter (λ (n : Numbered). n.component.child == child) (numbered_from (number + 1) behind))) (sym at) ∙ is
+pub found_first : (object : Object) (child number : ℕ) (component : Component) → (component.child == child) ≡ true → slice_get object.components number ≡ Some component →
+    filter (λ (n : Numbered). n.component.child == child) (drop number (numbered object)) ≡ component_at object child →
+    record { number = number; component = component } ∷ filter (λ (n : Numbered). n.component.child == child) (drop (number + 1) (numbered object)) ≡ component_at object child
+found_first object child number component at here is =
+    let q : Numbered → Bool = λ n. n.component.child == child in
+    let n : Numbered = record { number = number; component = component } in
+    ap (λ (b : Bool). cond b (n ∷ filter q (drop (number + 1) (numbered object))) (filter q (drop (number + 1) (numbered object)))) (sym at)
+    ∙ (ap (filter q) (sym (begins (numbered object) number n (numbered_at 0 number object.components number component here (omega arith)))) ∙ is)
 
-path_within : (path : List ℕ) (child place : ℕ) → place_of path ≡ Within child place → path ≡ place ∷ child ∷ []
-path_within [] child place is = absurd cc
-path_within (a ∷ []) child place is = absurd cc
-path_within (a ∷ b ∷ []) child place is =
+-- the place of an alarm that stands directly in a component of the outermost one, and the alarms before it
+path_within : (object : Object) (path : List ℕ) (child alarms : ℕ) → place_of object path ≡ Within child alarms → (place : ℕ) × (path ≡ place ∷ child ∷ []) × (alarms ≡ alarms_before object place child)
+path_within object [] child alarms is = absurd cc
+path_within object (a ∷ []) child alarms is = absurd cc
+path_within object (a ∷ b ∷ []) child alarms is =
     let outer : b ≡ child = cc in
-    let inner : a ≡ place = cc in
-    λ i. inner i ∷ outer i ∷ []
-path_within (a ∷ b ∷ d ∷ path) child place is = absurd cc
+    let before : alarms_before object a b ≡ alarms = cc in
+    (a, (λ i. a ∷ outer i ∷ []), sym before ∙ ap (alarms_before object a) outer)
+path_within object (a ∷ b ∷ d ∷ path) child alarms is = absurd cc
 
-pub range_within : (matched : Matched) (range : Range) (site : Site) (child place : ℕ) (b : Bool) → is_alarm site.node ≡ true → place_of site.path ≡ Within child place →
-    b ≡ valarm_passes matched range (record site { path = place ∷ child ∷ [] }) (component_at matched.object child) → b ≡ range_passes matched range site
-range_within matched range site child place b alarm at is =
-    is
-    ∙ (ap (λ (p : List ℕ). valarm_passes matched range (record site { path = p }) (holder_of matched.object p)) (sym (path_within site.path child place at))
+pub range_within : (matched : Matched) (range : Range) (site : Site) (child alarms : ℕ) (b : Bool) → is_alarm site.node ≡ true → place_of matched.object site.path ≡ Within child alarms →
+    ((place : ℕ) → alarms ≡ alarms_before matched.object place child → b ≡ valarm_passes matched range (record site { path = place ∷ child ∷ [] }) (component_at matched.object child)) → b ≡ range_passes matched range site
+range_within matched range site child alarms b alarm at is =
+    let there = path_within matched.object site.path child alarms at in
+    is there.0 there.2
+    ∙ (ap (λ (p : List ℕ). valarm_passes matched range (record site { path = p }) (holder_of matched.object p)) (sym there.1)
     ∙ ap (λ (t : Bool). cond t (valarm_passes matched range site (holder_of matched.object site.path)) (list_any (component_passes matched range) (component_at_path matched.object site.path))) (sym alarm))

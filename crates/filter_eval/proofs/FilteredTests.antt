@@ -3,7 +3,7 @@ use Rattle.std.proofs.Common.{◌≡◌, ℕ, ◌+◌, ◌<◌, zero, suc, take,
 use Rattle.std.specs.Prelude.{filter, filter_map, option_to_list}
 use Rattle.std.specs.List.{list_any, list_all, enumerate_from}
 use Rattle.std.proofs.lemmas.Bool.{ne_eqb, and_parts, and_from}
-use Rattle.cal_model.proofs.Words.ListTests.{any_filter, any_map, any_filter_map}
+use Rattle.cal_model.proofs.Words.ListTests.{any_filter, any_filter_map}
 use Rattle.cal_model.specs.Words.Lists.{is_empty}
 
 -- a test that passed at the front, and one that did not
@@ -41,9 +41,6 @@ pub some_in_filter : {X : Type 0} (p : X → Bool) (xs : List X) → not (is_emp
 some_in_filter p xs = ap not (is_empty_filter p xs) ∙ not_not (list_any p xs)
 
 -- a test of what was made of the elements that a filter keeps
-pub any_map_filter : {X Y : Type 0} (p : Y → Bool) (f : X → Y) (q : X → Bool) (xs : List X) → list_any p (map f (filter q xs)) ≡ list_any (λ x. q x && p (f x)) xs
-any_map_filter p f q xs = any_map p f (filter q xs) ∙ any_filter (λ x. p (f x)) q xs
-
 pub any_filter_map_filter : {X Y : Type 0} (p : Y → Bool) (f : X → Option Y) (q : X → Bool) (xs : List X)
     → list_any p (filter_map f (filter q xs)) ≡ list_any (λ x. q x && list_any p (option_to_list (f x))) xs
 any_filter_map_filter p f q xs = any_filter_map p f (filter q xs) ∙ any_filter (λ x. list_any p (option_to_list (f x))) q xs

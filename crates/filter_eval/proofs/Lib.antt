@@ -5,5 +5,7 @@ mod FoundTexts
 mod LeastInstants
 mod MatchSteps
 mod ReadStamps
+mod SeenPlaces
+mod SkippedItems
 mod UnreadTexts
 mod UtcClock

@@ -1,7 +1,7 @@
 //! Tests of the dates of a component (RFC 4791, 9.7.2 and 9.9): those that its lines say, and the end
 //! that DTSTART and DURATION make.
 
-ghost use Rattle.std.specs.Prelude.{◌≡◌, ◌&&◌, IfOk, IfSome, map, filter_map, bytes_eq, option_to_list};
+ghost use Rattle.std.specs.Prelude.{◌≡◌, ◌&&◌, true, IfOk, IfSome, map, filter_map, bytes_eq, option_to_list};
 ghost use Rattle.std.specs.List.{list_any};
 ghost use Rattle.cal_model.specs.Filters.DateProperties as spec;
 ghost use Rattle.cal_model.specs.Filters.Matching.{date_reading};
@@ -58,12 +58,30 @@ pub fn some_date_passes(
     if !is_date_name(name) {
         return Ok(false);
     }
+    if let Some(dates) = subject.dates {
+        return some_date_read_passes(alloc, dates, name, range, params, spot);
+    }
     let dates = Dates::of(alloc, &subject.object.zones, subject.zone)?;
+    some_date_read_passes(alloc, &dates, name, range, params, spot)
+}
+
+/// The same, by the reading of the dates.
+fn some_date_read_passes(
+    alloc: Global,
+    dates: &Dates,
+    name: &Name,
+    range: Range,
+    params: &List<ParamTester>,
+    spot: &Spot,
+) -> Result<bool, NoMemory>
+    requires { spec.is_date_name name.now ≡ true }
+    ensures { IfOk result (λ passes. passes ≡ list_any (date_passes range (map param_filter_of params.now)) (spec.dates_named dates.now spot.now.in_timezone spot.now.node.now name.now)) }
+{
     let lines = spot.node.lines.as_slice();
-    if some_written_date(alloc, &dates, name, range, params, spot.in_timezone, lines)? {
+    if some_written_date(alloc, dates, name, range, params, spot.in_timezone, lines)? {
         return Ok(true);
     }
-    effective_passes(alloc, &dates, name, range, params, spot)
+    effective_passes(alloc, dates, name, range, params, spot)
 }
 
 /// Whether a line of a name is a date in a range and has all that is asked of its parameters.

@@ -10,6 +10,7 @@ mod components;
 mod dated;
 mod dates;
 mod ends;
+mod links;
 mod matching;
 mod params;
 mod place;
@@ -19,6 +20,7 @@ mod ranges;
 mod stamps;
 mod subject;
 mod texts;
+mod walks;
 
 pub use matching::matches;
 pub use prepared::Prepared;

@@ -5,7 +5,7 @@ ghost use Rattle.filter_eval.specs.Tests.{comp_filter_of};
 
 use crate::props::{PropTester, testers_of_props};
 use cal_base::{List, Name, NoMemory};
-use cal_model::{CompFilter, Filter, Range};
+use cal_model::{CompFilter, Filter, PropTest, Range};
 use std::alloc::Global;
 use std::marker::Model;
 
@@ -25,6 +25,8 @@ pub struct CompTester<'f> {
 #[derive(Drop)]
 pub struct Prepared<'f> {
     pub(crate) top: CompTester<'f>,
+    /// Whether it asks for a date of some property.
+    pub(crate) dated: bool,
 }
 
 impl<'f> Model for Prepared<'f> {
@@ -46,10 +48,30 @@ impl<'f> Prepared<'f> {
         ensures { IfOk result (λ prepared. prepared ≡ filter.now) }
     {
         match comp_tester(alloc, &filter.top) {
-            Ok(top) => Ok(Prepared { top }),
+            Ok(top) => Ok(Prepared {
+                top,
+                dated: asks_date(&filter.top),
+            }),
             Err(fault) => Err(fault),
         }
     }
+}
+
+/// Whether a comp-filter asks for a date of some property, by itself or by one in it.
+fn asks_date(filter: &CompFilter) -> bool {
+    let props = filter.props.as_slice();
+    if props
+        .iter()
+        .any(|prop| matches!(prop.test, PropTest::Time(_)))
+    {
+        return true;
+    }
+    'comps: for inner in filter.comps.as_slice() {
+        if asks_date(inner) {
+            return true;
+        }
+    }
+    false
 }
 
 /// A comp-filter made ready.

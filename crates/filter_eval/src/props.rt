@@ -52,7 +52,7 @@ impl<'f> PropTester<'f> {
     /// Whether a component holds what is asked.
     pub fn holds(&self, alloc: Global, subject: &Subject, spot: &Spot) -> Result<bool, NoMemory>
         requires { IsReady subject.now }
-        ensures { IfOk result (λ holds. (site : Site) → IsAt spot.now site → holds ≡ spec.prop_filter_holds (matched_of subject.now) site (prop_filter_of self.now)) }
+        ensures { IfOk result (λ holds. (site : Site) → IsAt subject.now.object.now spot.now site → holds ≡ spec.prop_filter_holds (matched_of subject.now) site (prop_filter_of self.now)) }
     {
         let lines = spot.node.lines.as_slice();
         match &self.question {
@@ -105,7 +105,7 @@ pub fn all_props_hold(
     spot: &Spot,
 ) -> Result<bool, NoMemory>
     requires { IsReady subject.now }
-    ensures { IfOk result (λ hold. (site : Site) → IsAt spot.now site → hold ≡ list_all (spec.prop_filter_holds (matched_of subject.now) site) (map prop_filter_of testers.now)) }
+    ensures { IfOk result (λ hold. (site : Site) → IsAt subject.now.object.now spot.now site → hold ≡ list_all (spec.prop_filter_holds (matched_of subject.now) site) (map prop_filter_of testers.now)) }
 {
     'testers: for tester in testers.as_slice() {
         let holds = tester.holds(alloc, subject, spot)?;

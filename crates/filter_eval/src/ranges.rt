@@ -1,14 +1,13 @@
 //! Whether a component passes a range by its rows, and an alarm by its triggers (RFC 4791, 9.7.1 and
 //! 9.9; RFC 5545, 3.6.6). Each test asks for itself for some row of all that are given.
 
-ghost use Rattle.std.specs.Prelude.{◌≡◌, ◌&&◌, ◌==◌, ◌∷◌, [], List, All, count_by, option_to_list};
+ghost use Rattle.std.specs.Prelude.{◌≡◌, ◌&&◌, ◌==◌, ◌∷◌, [], ℕ, List, All, option_to_list};
 ghost use Rattle.std.specs.List.{list_any};
 ghost use Rattle.cal_model.specs.Instances.Rows.{Numbered};
 ghost use Rattle.cal_model.specs.Filters.ComponentRanges as spec;
 ghost use Rattle.cal_model.specs.Filters.ComponentRanges.{Site};
 ghost use Rattle.cal_model.specs.Objects.ComponentReading as reading;
 ghost use Rattle.cal_model.specs.Ranges.Overlap as overlap;
-ghost use Rattle.cal_model.specs.declared.object.Object.{Object as Whole};
 ghost use Rattle.cal_model.specs.declared.row.Row.{Row as Instance};
 ghost use Rattle.cal_model.specs.TimeZones.TableBounds.{IsTable};
 ghost use Rattle.overlap_rules.specs.Bounds.{IsNearRow};
@@ -17,6 +16,7 @@ ghost use Rattle.filter_eval.specs.Places.{IsAt, IsReady, matched_of};
 use crate::alarms::{alarm_of, has_trigger, is_alarm};
 use crate::place::Place;
 use crate::subject::{Spot, Subject};
+use crate::walks::{first_component, first_row, next_component, next_row};
 use cal_base::Node;
 use cal_model::{Alarm, Component, Fixed, Range, Row, RowKind, ZoneTable};
 use overlap_rules::{alarm_overlaps, fixed, lone_alarm_overlaps, row_overlaps};
@@ -41,12 +41,15 @@ fn component_passes(subject: &Subject, range: Range, number: usize, component: &
     requires { IsReady subject.now }
     ensures { result ≡ spec.component_passes (matched_of subject.now) range (record { number = number; component = component.now }) }
 {
-    let mut rest = subject.rows;
-    'rows: while let Some((row, behind)) = rest.split_first() {
+    let mut place = first_row(subject, number);
+    'rows: while let Some(row) = subject.rows.get(place) {
         if row_passes(subject, range, number, component, row) {
             return true;
         }
-        rest = behind;
+        place = match subject.row_links {
+            Some(links) => next_row(subject, links, number, place, row),
+            None => place + 1,
+        };
     }
     false
 }
@@ -70,14 +73,13 @@ fn child_passes(subject: &Subject, range: Range, child: usize) -> bool
     requires { IsReady subject.now }
     ensures { result ≡ list_any (spec.component_passes (matched_of subject.now) range) (spec.component_at subject.now.object.now child) }
 {
-    let mut rest = subject.object.components.as_slice();
-    let mut number = 0;
-    'components: while let Some((component, behind)) = rest.split_first() {
+    let components = subject.object.components.as_slice();
+    let mut number = first_component(subject, child);
+    'components: while let Some(component) = components.get(number) {
         if placed_passes(subject, range, child, number, component) {
             return true;
         }
-        number += 1;
-        rest = behind;
+        number = next_component(subject, child, number, component);
     }
     false
 }
@@ -121,14 +123,17 @@ fn alarm_passes_by_rows(
     alarm: &Alarm,
 ) -> bool
     requires { IsReady subject.now }
-    ensures { result ≡ list_any (λ (row : Instance). (row.component == number) && overlap.alarm_overlaps alarm.now component.now (overlap.dated_fixed row subject.now.zone.now) range) subject.now.rows.now }
+    ensures { result ≡ list_any (λ (row : Instance). overlap.alarm_overlaps alarm.now component.now (overlap.dated_fixed row subject.now.zone.now) range) (spec.rows_of_number (matched_of subject.now) number) }
 {
-    let mut rest = subject.rows;
-    'rows: while let Some((row, behind)) = rest.split_first() {
+    let mut place = first_row(subject, number);
+    'rows: while let Some(row) = subject.rows.get(place) {
         if alarm_passes_by_row(subject, range, number, component, alarm, row) {
             return true;
         }
-        rest = behind;
+        place = match subject.row_links {
+            Some(links) => next_row(subject, links, number, place, row),
+            None => place + 1,
+        };
     }
     false
 }
@@ -148,75 +153,46 @@ fn alarm_passes(
         || alarm_passes_by_rows(subject, range, number, component, alarm)
 }
 
-/// How many of some components are alarms with a TRIGGER.
-fn count_alarms(nodes: &[Node]) -> usize
-    ensures { result ≡ count_by spec.has_trigger nodes.now }
-{
-    let mut count = 0;
-    let mut rest = nodes;
-    'nodes: while let Some((node, behind)) = rest.split_first() {
-        if has_trigger(node) {
-            count += 1;
-        }
-        rest = behind;
-    }
-    count
-}
-
-/// How many alarms with a TRIGGER stand before a place in a child of the outermost component.
-fn alarms_before(tree: &Node, child: usize, place: usize) -> usize
-    ensures { (object : Whole) → object.tree ≡ tree.now → result ≡ spec.alarms_before object place child }
-{
-    match tree.children.get(child) {
-        Some(holder) => {
-            let nodes = holder.children.as_slice();
-            count_alarms(&nodes[..place.min(nodes.len())])
-        }
-        None => 0,
-    }
-}
-
-/// Whether an alarm that stands at a place directly in a component passes a range.
+/// Whether an alarm that stands directly in a component, behind so many others, passes a range.
 fn held_alarm_passes(
     subject: &Subject,
     range: Range,
     node: &Node,
     number: usize,
     component: &Component,
-    place: usize,
+    before: usize,
 ) -> bool
     requires { IsReady subject.now }
-    ensures { (site : Site) → site.node ≡ node.now → (more : List Numbered) → result ≡ spec.valarm_passes (matched_of subject.now) range (record site { path = place ∷ component.now.child ∷ [] }) (record { number = number; component = component.now } ∷ more) }
+    ensures { (site : Site) (place : ℕ) (more : List Numbered) → site.node ≡ node.now → before ≡ spec.alarms_before subject.now.object.now place component.now.child → result ≡ spec.valarm_passes (matched_of subject.now) range (record site { path = place ∷ component.now.child ∷ [] }) (record { number = number; component = component.now } ∷ more) }
 {
     if !has_trigger(node) {
         return false;
     }
-    let before = alarms_before(&subject.object.tree, component.child as usize, place);
     match component.alarms.get(before) {
         Some(alarm) => alarm_passes(subject, range, number, component, alarm),
         None => false,
     }
 }
 
-/// Whether an alarm that stands directly in a child of the outermost component passes a range.
+/// Whether an alarm that stands directly in a child of the outermost component, behind so many
+/// others, passes a range.
 fn inner_alarm_passes(
     subject: &Subject,
     range: Range,
     node: &Node,
     child: usize,
-    place: usize,
+    before: usize,
 ) -> bool
     requires { IsReady subject.now }
-    ensures { (site : Site) → site.node ≡ node.now → result ≡ spec.valarm_passes (matched_of subject.now) range (record site { path = place ∷ child ∷ [] }) (spec.component_at subject.now.object.now child) }
+    ensures { (site : Site) (place : ℕ) → site.node ≡ node.now → before ≡ spec.alarms_before subject.now.object.now place child → result ≡ spec.valarm_passes (matched_of subject.now) range (record site { path = place ∷ child ∷ [] }) (spec.component_at subject.now.object.now child) }
 {
-    let mut rest = subject.object.components.as_slice();
-    let mut number = 0;
-    'components: while let Some((component, behind)) = rest.split_first() {
+    let components = subject.object.components.as_slice();
+    let mut number = first_component(subject, child);
+    'components: while let Some(component) = components.get(number) {
         if component.child as usize == child {
-            return held_alarm_passes(subject, range, node, number, component, place);
+            return held_alarm_passes(subject, range, node, number, component, before);
         }
-        number += 1;
-        rest = behind;
+        number = next_component(subject, child, number, component);
     }
     lone_alarm_passes(range, node)
 }
@@ -235,11 +211,11 @@ fn lone_alarm_passes(range: Range, node: &Node) -> bool
 /// and no other.
 pub fn range_passes(subject: &Subject, range: Range, spot: &Spot) -> bool
     requires { IsReady subject.now }
-    ensures { (site : Site) → IsAt spot.now site → result ≡ spec.range_passes (matched_of subject.now) range site }
+    ensures { (site : Site) → IsAt subject.now.object.now spot.now site → result ≡ spec.range_passes (matched_of subject.now) range site }
 {
     match (is_alarm(spot.node), spot.place) {
-        (true, Place::Within { child, place }) => {
-            inner_alarm_passes(subject, range, spot.node, child, place)
+        (true, Place::Within { child, alarms }) => {
+            inner_alarm_passes(subject, range, spot.node, child, alarms)
         }
         (true, _) => lone_alarm_passes(range, spot.node),
         (false, Place::Child(child)) => child_passes(subject, range, child),
@@ -250,7 +226,7 @@ pub fn range_passes(subject: &Subject, range: Range, spot: &Spot) -> bool
 /// Whether a component passes a range that may be asked of it.
 pub fn time_passes(subject: &Subject, time: Option<Range>, spot: &Spot) -> bool
     requires { IsReady subject.now }
-    ensures { (site : Site) → IsAt spot.now site → result ≡ spec.time_range_passes (matched_of subject.now) time site }
+    ensures { (site : Site) → IsAt subject.now.object.now spot.now site → result ≡ spec.time_range_passes (matched_of subject.now) time site }
 {
     match time {
         Some(range) => range_passes(subject, range, spot),

@@ -1,15 +1,23 @@
 //! What is matched, and where in its tree a component stands.
 
+use crate::dates::Dates;
+use crate::links::Links;
 use crate::place::Place;
 use cal_base::Node;
 use cal_model::{Object, Row, ZoneTable};
 
 /// An object, rows of it, and the zone in which floating times are read.
 #[derive(Clone, Copy)]
-pub struct Subject<'a> {
+pub struct Subject<'a, 'l, 'd> {
     pub object: &'a Object,
     pub rows: &'a [Row],
     pub zone: &'a ZoneTable,
+    /// From each row to the next one of its component, where that was made ready.
+    pub row_links: Option<&'l Links>,
+    /// From each component to the next one that is the same child of the outermost one, likewise.
+    pub component_links: Option<&'l Links>,
+    /// How its dates are read, where that was made ready for all tests of it.
+    pub dates: Option<&'d Dates<'a>>,
 }
 
 /// A component of the tree.

@@ -21,9 +21,6 @@ use Rattle.piece_claims.proofs.OutLemmas.{same_int-flip}
 
 -- What one piece adds
 
-rows_here : (w z : ℤ) (n : ℕ) → z ≡ w → rows_if w z n ≡ n
-rows_here w z n same = ap (λ b. if b then n else 0) ((Decides-int_eq z w).1 same)
-
 other_at : (n : ℕ) (w : ℤ) (p : Piece) (ps : List Piece) → p.origin ≢ n → size_at n w (p ∷ ps) ≡ size_at n w ps
 other_at n w p ps far = ap (λ b. size (if b && int_eq p.window w then Some p.rows else rows_at n w ps)) (off p.origin n far)
   where

@@ -10,6 +10,6 @@ returns-then-tester c = ap not c.node_is_named.ensures ∙ outer_absent (matched
 
 pub returns : goal.returns
 returns c = IfOk-weaker c.passes.result _ _
-    (λ holds is. is (whole_site c.args.subject.now.object.now) (record { node = refl; place = refl; timezone = refl })
+    (λ holds is. is (whole_site c.args.subject.now.object.now) (record { node = refl; stands = refl; place = refl; timezone = refl })
     ∙ outer_present (matched_of c.args.subject.now) c.args.tester.now (whole_site c.args.subject.now.object.now) c.if-tester.false)
     c.passes.ensures

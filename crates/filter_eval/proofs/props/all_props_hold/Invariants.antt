@@ -10,4 +10,4 @@ use Rattle.filter_eval.proofs.props.all_props_hold.Given as goal
 -- the tests so far hold
 abbrev pub invariant-testers : goal.invariant-testers
 invariant-testers l =
-    (site : Site) → IsAt l.spot site → list_all (λ (tester : PropTester). prop_filter_holds (matched_of l.subject) site (prop_filter_of tester)) (take l.tester-index l.tester-items) ≡ true
+    (site : Site) → IsAt l.subject.object.now l.spot site → list_all (λ (tester : PropTester). prop_filter_holds (matched_of l.subject) site (prop_filter_of tester)) (take l.tester-index l.tester-items) ≡ true
