@@ -25,6 +25,20 @@ const QUERY: &[u8] =
 const SHOWN: &[u8] =
     b"reply 0 154\nHTTP/1.1 201 Created\r\nDate: Mon, 10 Mar 2025 09:46:40 GMT\r\nETag: \"e2b908a58297f6090922388fbe2f52e0c09d7f6986555b4ac3424e3347f2b4e5\"\r\nContent-Length: 0\r\n\r\n\nreply 0 770\nHTTP/1.1 207 Multi-Status\r\nDate: Mon, 10 Mar 2025 09:46:40 GMT\r\nContent-Type: application/xml; charset=utf-8\r\nContent-Length: 637\r\n\r\n<?xml version=\"1.0\" encoding=\"utf-8\"?>\n<D:multistatus xmlns:D=\"DAV:\" xmlns:C=\"urn:ietf:params:xml:ns:caldav\"><D:response><D:href>/calendars/alice/calendar/one.ics</D:href><D:propstat><D:prop><D:getetag>\"e2b908a58297f6090922388fbe2f52e0c09d7f6986555b4ac3424e3347f2b4e5\"</D:getetag><C:calendar-data>BEGIN:VCALENDAR&#13;\nVERSION:2.0&#13;\nPRODID:-//a//EN&#13;\nBEGIN:VEVENT&#13;\nUID:one&#13;\nDTSTAMP:20250101T000000Z&#13;\nDTSTART:20250310T090000Z&#13;\nDTEND:20250310T100000Z&#13;\nSUMMARY:Stand-up&#13;\nEND:VEVENT&#13;\nEND:VCALENDAR&#13;\n</C:calendar-data></D:prop><D:status>HTTP/1.1 200 OK</D:status></D:propstat></D:response></D:multistatus>\n";
 
+/// A meeting at nine in the morning, one at nine in the evening of the same name, and the queries for
+/// these hours.
+const MORNING: &str =
+    "BEGIN:VCALENDAR\r\nVERSION:2.0\r\nPRODID:-//a//EN\r\nBEGIN:VEVENT\r\nUID:one\r\nDTSTAMP:20250101T000000Z\r\nDTSTART:20250310T090000Z\r\nDURATION:PT1H\r\nRRULE:FREQ=DAILY;COUNT=3\r\nEND:VEVENT\r\nEND:VCALENDAR\r\n";
+
+const NIGHT: &str =
+    "BEGIN:VCALENDAR\r\nVERSION:2.0\r\nPRODID:-//a//EN\r\nBEGIN:VEVENT\r\nUID:one\r\nDTSTAMP:20250101T000000Z\r\nDTSTART:20250310T210000Z\r\nDURATION:PT1H\r\nRRULE:FREQ=DAILY;COUNT=3\r\nEND:VEVENT\r\nEND:VCALENDAR\r\n";
+
+const MORNING_QUERY: &str =
+    "<C:calendar-query xmlns:D=\"DAV:\" xmlns:C=\"urn:ietf:params:xml:ns:caldav\"><D:prop><D:getetag/></D:prop><C:filter><C:comp-filter name=\"VCALENDAR\"><C:comp-filter name=\"VEVENT\"><C:time-range start=\"20250311T090000Z\" end=\"20250311T100000Z\"/></C:comp-filter></C:comp-filter></C:filter></C:calendar-query>";
+
+const NIGHT_QUERY: &str =
+    "<C:calendar-query xmlns:D=\"DAV:\" xmlns:C=\"urn:ietf:params:xml:ns:caldav\"><D:prop><D:getetag/></D:prop><C:filter><C:comp-filter name=\"VCALENDAR\"><C:comp-filter name=\"VEVENT\"><C:time-range start=\"20250311T210000Z\" end=\"20250311T220000Z\"/></C:comp-filter></C:comp-filter></C:filter></C:calendar-query>";
+
 /// A request without credentials, and its reply: 401 in 125 octets.
 const STRANGER: &str = "bytes 0 1741600000 31\nOPTIONS / HTTP/1.1\r\nHost: h\r\n\r\n\n";
 
@@ -65,6 +79,77 @@ fn workers_between_all_octets_change_nothing(rt: HostRuntime) -> Result<(), Fail
         }
     }
     assert!(rt; prints(rt.alloc(), input, SHOWN)?);
+    Ok(())
+}
+
+/// An object is put, and claimed; other octets are put in its place, or the same once more, and only
+/// then is the claim expanded and published: what is shown is what is stored.
+#[test]
+fn pieces_of_replaced_objects_are_not_shown(rt: HostRuntime) -> Result<(), Fail> {
+    let put = Step {
+        who: ALICE,
+        asks: "PUT /calendars/alice/calendar/one.ics",
+        fields: "Content-Type: text/calendar\r\n",
+        body: &[MORNING],
+        status: "201",
+        has: &[],
+        lacks: &[],
+    };
+    let replace = Step {
+        body: &[NIGHT],
+        status: "204",
+        ..put
+    };
+    let put_again = Step {
+        status: "204",
+        ..put
+    };
+    let morning = Step {
+        asks: "REPORT /calendars/alice/calendar/",
+        fields: "Content-Type: application/xml\r\n",
+        body: &[MORNING_QUERY],
+        status: "207",
+        lacks: &["one.ics"],
+        ..put
+    };
+    let night = Step {
+        body: &[NIGHT_QUERY],
+        has: &["one.ics"],
+        lacks: &[],
+        ..morning
+    };
+    let shown_again = Step {
+        has: &["one.ics"],
+        lacks: &[],
+        ..morning
+    };
+    let work = b"expand 0\npublish 0\nclaim 1\nexpand 1\npublish 1\n";
+    let mut input = script_of(rt.alloc(), &[put])?;
+    input.extend_from_slice(b"claim 0\n")?;
+    let replaced = script_of(rt.alloc(), &[replace])?;
+    input.extend_from_slice(replaced.as_slice())?;
+    input.extend_from_slice(work)?;
+    let asked = script_of(rt.alloc(), &[morning, night])?;
+    input.extend_from_slice(asked.as_slice())?;
+    input.extend_from_slice(b"claim 0\n")?;
+    let put_back = script_of(rt.alloc(), &[put_again, replace, put_again])?;
+    input.extend_from_slice(put_back.as_slice())?;
+    input.extend_from_slice(work)?;
+    let last = script_of(rt.alloc(), &[shown_again])?;
+    input.extend_from_slice(last.as_slice())?;
+    let steps = [
+        put,
+        replace,
+        morning,
+        night,
+        put_again,
+        replace,
+        put_again,
+        shown_again,
+    ];
+    let (end, output) = run(rt.alloc(), input)?;
+    assert!(rt; end.status == 0);
+    assert!(rt; first_wrong(&steps, output.written()) == 0);
     Ok(())
 }
 
