@@ -1,0 +1,9 @@
+pub mod StepLemmas
+pub mod LiveOctets
+pub mod HeldPieces
+pub mod HistoryLemmas
+pub mod WalkLemmas
+pub mod EventLemmas
+pub mod ChangeLemmas
+pub mod PublishLemmas
+pub mod RequestLemmas

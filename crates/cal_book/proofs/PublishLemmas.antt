@@ -1,0 +1,93 @@
+-- Claims and pieces: an object that the journal made, and whether it is still there.
+use Rattle.std.proofs.Common.{◌≡◌, ◌≢◌, ℕ, ◌+◌, ◌<◌, ◌≤◌, Bool, true, false, ◌||◌, cond, List, [], ◌∷◌, ◌++◌, length, filter, Option, Some, None, refl, sym, ap, ◌∙◌, subst, arith}
+use Rattle.std.specs.Prelude.{not, is_some, Ok, ℤ, ◌-◌}
+use Rattle.std.specs.List.{AllByRecursion}
+use Rattle.std.proofs.lemmas.Bool.Decides.{nat_tests}
+use Rattle.std.proofs.lemmas.List.Filters.{length-filter_both}
+use Rattle.cal_model.specs.declared.object.Object.{Object}
+use Rattle.cal_model.specs.declared.piece.Piece.{Piece}
+use Rattle.cal_model.specs.declared.row.Row.{Row}
+use Rattle.cal_model.specs.declared.stored.Stored.{Stored}
+use Rattle.cal_model.specs.History.Journal.{Entry}
+use Rattle.cal_model.specs.History.LiveObjects.{Placed, placed_at, is_ended, kept_unless, live_at}
+use Rattle.cal_model.specs.History.Origins.{Origins, AreLive}
+use Rattle.cal_model.specs.History.RightPieces.{IsRight}
+use Rattle.cal_model.specs.Instances.Rows.{rows, rows_in, has_fine_rule, lies_in_window}
+use Rattle.cal_model.specs.Objects.ObjectReading.{read_object}
+use Rattle.cal_model.specs.Pieces.PieceLists.{rows_at, newest_within}
+use Rattle.cal_model.specs.Refusals.Preconditions.{IsServable, has_too_many}
+use Rattle.cal_model.specs.Refusals.RequestLimits.{instances_limit}
+use Rattle.cal_model.proofs.History.ReplayLaws.{some≢none}
+use Rattle.cal_model.proofs.Pieces.FoundPieces.{All-newest_within, All-snoc}
+use Rattle.dav_reports.specs.PieceRows.{IsKept}
+use Rattle.dav_reports.proofs.KeptObjects.{IsKept-stored}
+use Rattle.piece_claims.specs.Boards.{Board, piece_at, pieces_with, published, rows_limit}
+use Rattle.cal_book.specs.ClaimsOut.{IsMadeAt, placed_of}
+use Rattle.cal_book.specs.UpToDate.{IsUpToDate}
+
+-- Objects that can be served have no more rows than are served
+
+fewer : (b c : Bool) → (b || c) ≡ false → (b ≡ false) × (c ≡ false)
+fewer true c e = absurd cc
+fewer false c e = (refl, e)
+
+pub rows-limited : (octets : List ℕ) (object : Object) → IsServable octets → read_object octets ≡ Ok object → length (rows object) ≤ instances_limit
+rows-limited octets object servable reading =
+    let same : servable.object ≡ object = cc (servable.reading, reading) in
+    let few : has_too_many object ≡ false = ap has_too_many (sym same) ∙ servable.few in
+    grind (arith, nat_tests, (fewer (has_fine_rule object) _ few).1)
+
+pub window-limited : (object : Object) (window : ℤ) → length (rows object) ≤ instances_limit → length (rows_in object window) ≤ 4_000_000
+window-limited object window few =
+    let both = length-filter_both (lies_in_window object window) (λ row. not (lies_in_window object window row)) (λ row. refl) (rows object) in
+    omega (arith, both, few)
+
+-- What was made and is still there
+
+kept-some : (test : Placed → Bool) (o : Option Placed) (placed : Placed) → kept_unless test o ≡ Some placed → o ≡ Some placed
+kept-some test None placed e = absurd (some≢none placed (sym e))
+kept-some test (Some x) placed e = one (test x) e where
+  one : (b : Bool) → elim b [ true ↦ None | false ↦ Some x ] ≡ Some placed → Some x ≡ Some placed
+  one true e = absurd (some≢none placed (sym e))
+  one false e = e
+
+module _ (journal : List Entry) (origins : Origins) (live : AreLive journal origins) (origin : ℕ) (stored : Stored) (made : IsMadeAt journal origin stored) where
+  abbrev here : Option ℕ
+  here = origins stored.path.home stored.path.calendar stored.path.object
+
+  pub live-now : here ≡ Some origin → live_at journal origin ≡ Some (placed_of stored)
+  live-now e =
+      let known = live.known stored.path.home stored.path.calendar stored.path.object origin e in
+      known.1 ∙ sym (kept-some (is_ended journal origin) (placed_at journal origin) _ known.1) ∙ made
+
+  pub stale-now : here ≢ Some origin → live_at journal origin ≡ None
+  stale-now other = by (live_at journal origin) refl where
+    by : (o : Option Placed) → live_at journal origin ≡ o → live_at journal origin ≡ None
+    by None e = e
+    by (Some placed) e =
+        let same : Some placed ≡ Some (placed_of stored) = sym (kept-some (is_ended journal origin) (placed_at journal origin) placed e) ∙ made in
+        absurd (other (live.live origin (placed_of stored) (e ∙ same)))
+
+  -- A piece of its rows is right.
+  pub piece-right : here ≡ Some origin → (window : ℤ) (found : List Row) → found ≡ rows_in stored.object window → IsRight journal (piece_at origin window found)
+  piece-right e window found is = record {
+    placed = placed_of stored;
+    live = live-now e;
+    object = stored.object;
+    reading = stored.stored.reading;
+    rows = is;
+  }
+
+-- So what is kept stays right.
+pieces-right : (journal : List Entry) (piece : Piece) (pieces : List Piece) (there : Bool) → IsRight journal piece → AllByRecursion (IsRight journal) pieces
+    → AllByRecursion (IsRight journal) (cond there pieces (newest_within (rows_limit - length piece.rows) pieces ++ piece ∷ []))
+pieces-right journal piece pieces true right all = all
+pieces-right journal piece pieces false right all =
+    All-snoc (IsRight journal) (newest_within (rows_limit - length piece.rows) pieces) piece (All-newest_within (IsRight journal) (rows_limit - length piece.rows) pieces all) right
+
+pub published-kept : (journal : List Entry) (piece : Piece) (board : Board) → IsRight journal piece → IsUpToDate journal board → IsUpToDate journal (published piece board)
+published-kept journal piece board right before = record {
+  entries = before.entries;
+  live = before.live;
+  right = pieces-right journal piece board.pieces (is_some (rows_at piece.origin piece.window board.pieces)) right before.right;
+}

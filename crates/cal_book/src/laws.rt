@@ -1,0 +1,18 @@
+//! What holds of events.
+ghost use Rattle.std.specs.Prelude.{◌++◌, List};
+ghost use Rattle.cal_model.specs.History.Journal.{Entry};
+ghost use Rattle.cal_book.specs.EventSteps.{JournalsFollow};
+ghost use Rattle.cal_book.specs.Publishing.{IsClaimIn};
+ghost use Rattle.cal_book.specs.declared.claims.Claim.{Claim};
+
+/// The journal after an event is legal, and leads to the state after the event.
+pub fn journals_follow()
+    ensures { JournalsFollow }
+{
+}
+
+/// A claim stays one of the journal's objects, whatever is entered behind it.
+pub fn claims_stay()
+    ensures { (journal more : List Entry) (claim : Claim) → IsClaimIn journal claim → IsClaimIn (journal ++ more) claim }
+{
+}

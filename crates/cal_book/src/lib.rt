@@ -1,0 +1,23 @@
+//! The book: the pure core of the server. It holds one state, and four events change it: a request,
+//! a claim of work, the publishing of what was worked out, and the giving up of a claim.
+//!
+//! Given: requests, each with who asks and when, and the rows of claimed pieces. Gives: the replies;
+//! the entries of all accepted changes; and which piece is expanded next. It knows no threads, no
+//! sockets and no clock. Used by: what serves connections, runs scripts and drives workers, each of
+//! which calls it under one lock.
+#![tactic(auto)]
+
+mod book;
+mod changing;
+mod claims;
+mod ending;
+mod expanding;
+mod laws;
+mod making;
+mod publishing;
+mod reading;
+mod sharing;
+
+pub use book::Book;
+pub use claims::{Claim, Expanded, Publish};
+pub use expanding::expand;

@@ -1,0 +1,59 @@
+//! Requests that only read.
+ghost use Rattle.std.specs.Prelude.{◌≡◌, ◌+◌, ◌≤◌, ◌≤ℤ◌, pos, true, [], None, IfOk};
+ghost use Rattle.cal_model.specs.History.Origins.{Origins, AreLive};
+ghost use Rattle.cal_model.specs.Pieces.PieceLists.{rows_at};
+ghost use Rattle.cal_model.specs.Requests.BookableRequests.{IsBookable};
+ghost use Rattle.cal_model.specs.Serving.EventReplies.{reply_to};
+ghost use Rattle.cal_model.specs.Serving.Outcomes.{is_reading};
+ghost use Rattle.reading_answers.specs.ReadingCost.{reading_cost};
+ghost use Rattle.request_checks.specs.Sightings.{AreShort};
+ghost use Rattle.state_history.specs.KeptHistories.{users_in, directory_in};
+ghost use Rattle.cal_book.specs.EventSteps.{state_behind, stepped};
+ghost use Rattle.cal_book.specs.UpToDate.{IsUpToDate, work_with};
+
+use cal_base::{NoMemory, ReservedList, Steps};
+use cal_model::{Event, Reply, Seen};
+use piece_claims::Claims;
+use reading_answers::answer_reading;
+use state_history::History;
+use std::alloc::Global;
+use std::sync::ledger::Ledger;
+
+/// Names of users are short, so a body that tells which privilege is lacking fits the room for it.
+pub(crate) fn names_are_short(history: &History)
+    ensures { AreShort (directory_in history.now) }
+{
+    let _count = history.users().len();
+}
+
+/// The reply to a request that only reads.
+pub(crate) fn read<L: Ledger>(
+    alloc: Global,
+    history: &History,
+    claims: &Claims,
+    event: &Event,
+    room: &mut ReservedList<u8>,
+    steps: &mut Steps<L>,
+) -> Result<Reply, NoMemory>
+    requires kept { IsUpToDate history.now.journal claims.now }
+    requires reading { is_reading event.now.request.method ≡ true }
+    requires bookable { IsBookable (users_in history.now) event.now.who event.now.request }
+    requires from_1970 { pos 0 ≤ℤ event.now.moment }
+    requires to_9999 { event.now.moment ≤ℤ pos 253_402_300_799 }
+    requires room { room.old.items ≡ [] }
+    ensures reply { IfOk result (λ reply. reply ≡ reply_to (directory_in history.now) (state_behind (users_in history.now) history.now.journal) event.now) }
+    ensures work { work_with history.now.journal claims.now ≡ stepped (users_in history.now) event.now (work_with history.now.journal claims.now) }
+    ensures steps { (origins : Origins) → AreLive history.now.journal origins → steps.new ≤ steps.old + reading_cost (λ origin window. rows_at origin window claims.now.pieces) origins (directory_in history.now) (state_behind (users_in history.now) history.now.journal) event.now }
+    ensures empty { room.new.items ≡ [] }
+{
+    names_are_short(history);
+    let _entries = history.entries();
+    let view = history.view();
+    let seen = Seen {
+        view: &view,
+        who: event.who,
+    };
+    let answer = answer_reading(alloc, &seen, claims, event, room, steps);
+    let Seen { view: _view, who: _who } = seen;
+    answer
+}

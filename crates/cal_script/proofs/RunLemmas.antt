@@ -1,0 +1,257 @@
+-- How far a run has come, and how it ends there.
+use Rattle.std.proofs.Common.{◌≡◌, ◌≢◌, ℕ, ◌+◌, ◌-◌, ◌^◌, ◌<◌, ◌≤◌, List, [], ◌∷◌, ◌++◌, length, take, drop, codes, refl, sym, ap, subst, ◌∙◌, arith, append_assoc, length-append, length-take, Option, Some, None, IfSome, inl, inr, Bool, true, false, ◌==◌, if◌then◌else◌}
+use Rattle.std.proofs.lemmas.Bool.{eqb-true, eqb-false}
+use Rattle.std.proofs.lemmas.Bool.Decides.{eqb_tells}
+use Rattle.std.proofs.lemmas.List.{append-nil, take-append-drop}
+use Rattle.std.proofs.lemmas.List.Elements.{All-nil}
+use Rattle.std.proofs.lemmas.Option.{same_Some}
+use Rattle.cal_base.specs.World.Outside.{Takes, Goes, Adds}
+use Rattle.cal_base.proofs.World.Taking.{Takes-more}
+use Rattle.cal_model.specs.Transcripts.ScriptFrames.{Frame, bytes, frame_text, frames_text, IsFrame, IsCutInto}
+use Rattle.cal_model.specs.Transcripts.Transcript.{Standing, Follows, IsPrinted, IsPrintedInPart, at_start}
+use Rattle.cal_model.proofs.Transcripts.GrowingScripts.{scripts_go_on}
+use Rattle.cal_model.specs.Users.UsersFile.{User}
+use Rattle.cal_script.specs.AnsweredFrames.{AnsweredWhole, AnsweredInPart, AnsweredTo, HasAnswered}
+use Rattle.cal_script.specs.declared.frames.Answering.TheVariants.{Cut, Bad}
+use Rattle.cal_script.specs.declared.running.FrameEnd.{FrameEnd}
+use Rattle.cal_script.specs.declared.running.FrameEnd.TheVariants.{Done, Frame as BadFrame}
+use Rattle.cal_script.specs.declared.script.Script.{Script}
+use Rattle.cal_script.specs.FrameHeads.{IsFrameStart}
+use Rattle.cal_script.specs.FirstFrames.{BeginsNoFrame, NeverBeginsFrame}
+use Rattle.cal_script.specs.ScriptEnds.{HasEnded, RanToEnd, MetBadFrame, StoppedReading, WroteFront}
+use Rattle.cal_script.specs.Standings.{StandsAt}
+use Rattle.cal_script.proofs.FrameLemmas.{no_frame_yet}
+use Rattle.cal_script.proofs.AnsweringLemmas.{adds_none}
+use Rattle.cal_script.proofs.AnsweredLemmas.{whole_none, whole_append, part_append, part_none, length-frame_text}
+
+-- how far a run has come: the octets that are answered, and those that were taken and are kept
+pub record HasCome (users : List User) (left written : Option (List ℕ)) (place : ℕ) (kept : List ℕ) (script : Script) (left_now written_now : Option (List ℕ)) : Type 0 where
+  pub done : List ℕ
+  pub answered : AnsweredWhole users done (at_start users) script written written_now
+  pub took : Takes left (done ++ kept) left_now
+  pub place_is : place ≡ length done
+
+-- no frame stands in no octets
+pub no_frame_in_none : BeginsNoFrame []
+no_frame_in_none frame more bounds e = omega (arith, ap length e, length-append (frame_text frame) more, length-frame_text frame)
+
+-- no octets are the start of a frame
+pub start_of_none : IsFrameStart []
+start_of_none = inl (record { lacks = All-nil (λ (c : ℕ). c ≢ 10); short = omega arith })
+
+takes_none : (left : Option (List ℕ)) → Takes left [] left
+takes_none None = tt
+takes_none (Some xs) = (xs, refl, refl)
+
+-- the start of a run
+pub come_start : (users : List User) (left written : Option (List ℕ)) (kept : List ℕ) (script : Script) → kept ≡ [] → StandsAt (at_start users) script → HasCome users left written 0 kept script left written
+come_start users left written kept script e stands =
+    subst (λ l. HasCome users left written 0 l script left written) (sym e)
+    (record { done = []; answered = whole_none users (at_start users) script written stands; took = takes_none left; place_is = refl })
+
+-- a piece was taken
+pub come_more : (users : List User) (left written : Option (List ℕ)) (place : ℕ) (kept more : List ℕ) (script : Script) (left_now written_now left_next : Option (List ℕ))
+    → HasCome users left written place kept script left_now written_now → Goes left_now left_next kept more → HasCome users left written place more script left_next written_now
+come_more users left written place kept more script left_now written_now left_next h (octets, took, e) = record {
+  done = h.done;
+  answered = h.answered;
+  took = subst (λ l. Takes left l left_next) (append_assoc h.done kept octets ∙ ap (λ l. h.done ++ l) (sym e))
+      (Takes-more left left_now left_next (h.done ++ kept) octets h.took took);
+  place_is = h.place_is;
+}
+
+-- frames in front of what is kept were answered
+come_on : (users : List User) (left written : Option (List ℕ)) (place len : ℕ) (kept : List ℕ) (script next : Script) (left_now written_now written_next : Option (List ℕ))
+    → (h : HasCome users left written place kept script left_now written_now) → AnsweredTo users len kept h.answered.after next written_now written_next
+    → HasCome users left written (place + len) (drop len kept) next left_now written_next
+come_on users left written place len kept script next left_now written_now written_next h a = record {
+  done = h.done ++ take len kept;
+  answered = whole_append users h.done (take len kept) (at_start users) script next written written_now written_next h.answered a.whole;
+  took = subst (λ l. Takes left l left_now) (ap (λ l. h.done ++ l) (sym (take-append-drop len kept)) ∙ sym (append_assoc h.done (take len kept) (drop len kept))) h.took;
+  place_is = omega (arith, h.place_is, length-append h.done (take len kept), length-take len kept, a.within);
+}
+
+-- whole frames in front of what is kept were answered, and behind them stands the start of one
+pub come_cut : (users : List User) (len : ℕ) (octets rest : List ℕ) (left written : Option (List ℕ)) (place : ℕ) (kept : List ℕ) (script next : Script) (left_now written_now written_next : Option (List ℕ))
+    → octets ≡ kept → rest ≡ drop len kept → HasCome users left written place kept script left_now written_now
+    → (own : List User) → own ≡ users → ((standing : Standing) → StandsAt standing script → HasAnswered own (Cut len) octets standing next written_now written_next)
+    → HasCome users left written (place + len) rest next left_now written_next × IsFrameStart rest × (len ≤ length kept)
+come_cut users len octets rest left written place kept script next left_now written_now written_next e f h own same answered =
+    let a = subst (λ (u : List User). HasAnswered u (Cut len) octets h.answered.after next written_now written_next) same (answered h.answered.after h.answered.stands) in
+    let to : AnsweredTo users len kept h.answered.after next written_now written_next = subst (λ l. AnsweredTo users len l h.answered.after next written_now written_next) e a.0 in
+    let start : IsFrameStart (drop len octets) = a.1 in (
+      subst (λ l. HasCome users left written (place + len) l next left_now written_next) (sym f) (come_on users left written place len kept script next left_now written_now written_next h to),
+      subst IsFrameStart (ap (drop len) e ∙ sym f) start,
+      to.within,
+    )
+
+-- octets that are answered, and a rest in which no frame stands, are cut there
+printed_for : (users : List User) (octets rest : List ℕ) (written written_now : Option (List ℕ)) (script : Script) (a : AnsweredWhole users octets (at_start users) script written written_now)
+    → BeginsNoFrame rest → IsPrinted users (octets ++ rest) rest a.printed
+printed_for users octets rest written written_now script a none = record {
+  frames = a.frames;
+  cut = record { bounds = a.bounds; spelled = ap (λ l. l ++ rest) a.spelled; ended = none };
+  follows = scripts_go_on.follows users (at_start users) a.after a.frames a.printed a.leads;
+}
+
+-- what was taken is all, where nothing is left
+all_taken : (left left_now : Option (List ℕ)) (octets : List ℕ) → Takes left octets left_now → left_now ≡ Some [] → IfSome left (λ all. all ≡ octets)
+all_taken None left_now octets took e = tt
+all_taken (Some xs) left_now octets (rest, f, h) e = h ∙ (ap (λ l. octets ++ l) (same_Some rest [] (sym f ∙ e)) ∙ append-nil octets)
+
+-- the end of the input, with nothing kept
+ran_to_end : (users : List User) (left written : Option (List ℕ)) (place : ℕ) (kept : List ℕ) (script : Script) (left_now written_now : Option (List ℕ))
+    → HasCome users left written place kept script left_now written_now → kept ≡ [] → left_now ≡ Some [] → RanToEnd users left left_now written written_now place
+ran_to_end users left written place kept script left_now written_now h none e = record {
+  all = h.done ++ [];
+  told = all_taken left left_now (h.done ++ []) (subst (λ l. Takes left (h.done ++ l) left_now) none h.took) e;
+  ended = e;
+  printed = h.answered.printed;
+  follows = printed_for users h.done [] written written_now script h.answered no_frame_in_none;
+  added = h.answered.added;
+  place_is = h.place_is ∙ ap length (sym (append-nil h.done));
+}
+
+-- the end of the input, with a rest kept
+cut_at_end : (users : List User) (left written : Option (List ℕ)) (place : ℕ) (kept : List ℕ) (script : Script) (left_now written_now : Option (List ℕ))
+    → HasCome users left written place kept script left_now written_now → BeginsNoFrame kept → kept ≢ [] → left_now ≡ Some [] → MetBadFrame users left written written_now place
+cut_at_end users left written place kept script left_now written_now h unmet some e = record {
+  all = h.done ++ kept;
+  told = all_taken left left_now (h.done ++ kept) h.took e;
+  rest = kept;
+  some = some;
+  printed = h.answered.printed;
+  follows = printed_for users h.done kept written written_now script h.answered unmet;
+  added = h.answered.added;
+  place_is = omega (arith, h.place_is, length-append h.done kept);
+}
+
+-- nothing at all
+empty : (octets : List ℕ) → length octets ≡ 0 → octets ≡ []
+empty [] e = refl
+empty (octet ∷ octets) e = absurd (omega (arith, e))
+
+-- what no frame begins with is not nothing
+never_none : ¬ NeverBeginsFrame []
+never_none h = h (frame_text (bytes 0 0 [])) (bytes 0 0 []) []
+    (record { connection_to = omega arith; moment_to = omega arith; payload_to = omega arith }) (sym (append-nil (frame_text (bytes 0 0 []))))
+
+bad_with : (users : List User) (left written : Option (List ℕ)) (place : ℕ) (kept behind : List ℕ) (script : Script) (left_now written_now : Option (List ℕ))
+    → (h : HasCome users left written place kept script left_now written_now) → NeverBeginsFrame kept → IfSome left (λ octets. octets ≡ h.done ++ (kept ++ behind))
+    → MetBadFrame users left written written_now place
+bad_with users left written place kept behind script left_now written_now h never told = record {
+  all = h.done ++ (kept ++ behind);
+  told = told;
+  rest = kept ++ behind;
+  some = λ e. never_none (subst NeverBeginsFrame (empty kept (omega (arith, ap length e, length-append kept behind))) never);
+  printed = h.answered.printed;
+  follows = printed_for users h.done (kept ++ behind) written written_now script h.answered (never behind);
+  added = h.answered.added;
+  place_is = omega (arith, h.place_is, length-append h.done (kept ++ behind));
+}
+
+-- what is kept begins with no frame, whatever follows
+met_bad_frame : (users : List User) (left written : Option (List ℕ)) (place : ℕ) (kept : List ℕ) (script : Script) (left_now written_now : Option (List ℕ))
+    → HasCome users left written place kept script left_now written_now → NeverBeginsFrame kept → MetBadFrame users left written written_now place
+met_bad_frame users None written place kept script left_now written_now h never = bad_with users None written place kept [] script left_now written_now h never tt
+met_bad_frame users (Some xs) written place kept script left_now written_now h never =
+    bad_with users (Some xs) written place kept h.took.0 script left_now written_now h never (h.took.2 ∙ append_assoc h.done kept h.took.0)
+
+-- nothing was taken any more
+pub stopped_reading : (users : List User) (left written : Option (List ℕ)) (place : ℕ) (kept : List ℕ) (script : Script) (left_now written_now left_next : Option (List ℕ))
+    → HasCome users left written place kept script left_now written_now → IsFrameStart kept → left_next ≡ left_now → StoppedReading users left left_next written written_now
+stopped_reading users left written place kept script left_now written_now left_next h start e = record {
+  taken = h.done ++ kept;
+  took = subst (λ l. Takes left (h.done ++ kept) l) (sym e) h.took;
+  rest = kept;
+  start = start;
+  printed = h.answered.printed;
+  follows = printed_for users h.done kept written written_now script h.answered (no_frame_yet kept start);
+  added = h.answered.added;
+}
+
+-- an input begins with what was taken from it
+input_of : (left left_now : Option (List ℕ)) (octets front behind : List ℕ) → Takes left octets left_now → octets ≡ front ++ behind
+    → (input : List ℕ) × IfSome left (λ all. all ≡ input) × ((rest : List ℕ) × (input ≡ front ++ rest))
+input_of None left_now octets front behind took e = (front, tt, ([], sym (append-nil front)))
+input_of (Some xs) left_now octets front behind took e =
+    (xs, refl, (behind ++ took.0, took.2 ∙ (ap (λ l. l ++ took.0) e ∙ append_assoc front behind took.0)))
+
+-- what is kept was answered in part
+pub wrote_front : (users : List User) (left written : Option (List ℕ)) (place : ℕ) (kept : List ℕ) (script : Script) (left_now written_now written_next : Option (List ℕ))
+    → (h : HasCome users left written place kept script left_now written_now) → AnsweredInPart users kept h.answered.after written_now written_next → WroteFront users left written written_next
+wrote_front users left written place kept script left_now written_now written_next h a =
+    let all = part_append users h.done kept (at_start users) script written written_now written_next h.answered a in
+    let input = input_of left left_now (h.done ++ kept) (frames_text all.frames) all.behind h.took all.spelled in
+    record {
+      input = input.0;
+      told = input.1;
+      printed = all.printed;
+      follows = record {
+        frames = all.frames;
+        bounds = all.bounds;
+        behind = input.2.0;
+        spelled = input.2.1;
+        missing = all.missing;
+        follows = scripts_go_on.follows users (at_start users) all.after all.frames (all.printed ++ all.missing) all.leads;
+      };
+      added = all.added;
+    }
+
+-- nothing of it was answered
+pub wrote_before : (users : List User) (left written : Option (List ℕ)) (place : ℕ) (kept : List ℕ) (script : Script) (left_now written_now : Option (List ℕ))
+    → HasCome users left written place kept script left_now written_now → WroteFront users left written written_now
+wrote_before users left written place kept script left_now written_now h =
+    wrote_front users left written place kept script left_now written_now written_now h (part_none users kept h.answered.after written_now)
+
+-- nothing was done at all
+pub wrote_none : (users : List User) (left written : Option (List ℕ)) → WroteFront users left written written
+wrote_none users left written =
+    let input = input_of left left [] [] [] (takes_none left) refl in
+    record {
+      input = input.0;
+      told = input.1;
+      printed = [];
+      follows = record { frames = []; bounds = All-nil IsFrame; behind = input.2.0; spelled = input.2.1; missing = []; follows = refl };
+      added = adds_none written;
+    }
+
+-- what is kept was answered in part, wherever the script stood
+pub wrote_cut : (users : List User) (octets : List ℕ) (left written : Option (List ℕ)) (place : ℕ) (kept : List ℕ) (script : Script) (left_now written_now written_next : Option (List ℕ))
+    → octets ≡ kept → HasCome users left written place kept script left_now written_now
+    → (own : List User) → own ≡ users → ((standing : Standing) → StandsAt standing script → AnsweredInPart own octets standing written_now written_next) → WroteFront users left written written_next
+wrote_cut users octets left written place kept script left_now written_now written_next e h own same answered =
+    wrote_front users left written place kept script left_now written_now written_next h
+    (subst (λ xs. AnsweredInPart users xs h.answered.after written_now written_next) e
+    (subst (λ (u : List User). AnsweredInPart u octets h.answered.after written_now written_next) same (answered h.answered.after h.answered.stands)))
+
+-- the end of the input, where a piece of no octets was taken
+pub at_end : (users : List User) (nothing_left : Bool) (ended : FrameEnd) (left written : Option (List ℕ)) (place : ℕ) (kept more : List ℕ) (script : Script) (left_now written_now left_next : Option (List ℕ))
+    → HasCome users left written place kept script left_now written_now → IsFrameStart kept → Goes left_now left_next kept more → (left_next ≡ Some []) × (more ≡ kept)
+    → nothing_left ≡ (length more == 0) → ended ≡ (if nothing_left then Done place else BadFrame place) → HasEnded users ended left left_next written written_now
+at_end users true ended left written place kept more script left_now written_now left_next h start goes e b f =
+    let come = come_more users left written place kept more script left_now written_now left_next h goes in
+    subst (λ x. HasEnded users x left left_next written written_now) (sym f)
+    (ran_to_end users left written place more script left_next written_now come (empty more (eqb-true (length more) 0 (sym b))) e.0)
+at_end users false ended left written place kept more script left_now written_now left_next h start goes e b f =
+    let come = come_more users left written place kept more script left_now written_now left_next h goes in
+    subst (λ x. HasEnded users x left left_next written written_now) (sym f)
+    (cut_at_end users left written place more script left_next written_now come (subst BeginsNoFrame (sym e.1) (no_frame_yet kept start))
+    (λ none. eqb-false (length more) 0 (sym b) (ap length none)) e.0)
+
+-- behind the whole frames of what is kept begins none, whatever follows
+pub bad_behind : (users : List User) (len : ℕ) (octets : List ℕ) (left written : Option (List ℕ)) (place : ℕ) (kept : List ℕ) (script next : Script) (left_now written_now written_next : Option (List ℕ))
+    → octets ≡ kept → HasCome users left written place kept script left_now written_now
+    → (own : List User) → own ≡ users → ((standing : Standing) → StandsAt standing script → HasAnswered own (Bad len) octets standing next written_now written_next) → MetBadFrame users left written written_next (place + len)
+bad_behind users len octets left written place kept script next left_now written_now written_next e h own same answered =
+    let a = subst (λ (u : List User). HasAnswered u (Bad len) octets h.answered.after next written_now written_next) same (answered h.answered.after h.answered.stands) in
+    let to : AnsweredTo users len kept h.answered.after next written_now written_next = subst (λ l. AnsweredTo users len l h.answered.after next written_now written_next) e a.0 in
+    let never : NeverBeginsFrame (drop len octets) = a.1 in
+    met_bad_frame users left written (place + len) (drop len kept) next left_now written_next
+    (come_on users left written place len kept script next left_now written_now written_next h to) (subst NeverBeginsFrame (ap (drop len) e) never)
+
+-- the octets that came so far are at most all that a source may give
+pub bounded_next : (place len kept more rest n allowed allowed_next : ℕ) → (0 < place + kept → place + kept + allowed ≤ 2 ^ 62) → more ≡ kept + n
+    → n + allowed_next ≤ allowed → allowed ≤ 2 ^ 62 → rest ≡ more - len → len ≤ more → 0 < place + len + rest → place + len + rest + allowed_next ≤ 2 ^ 62
+bounded_next place len kept more rest n allowed allowed_next before longer given bounded rest_is within some =
+    elim (eqb_tells (place + kept) 0) [ inl none ↦ omega (arith, none.1) | inr came ↦ omega (arith, before (omega (arith, came.1))) ]

@@ -1,0 +1,69 @@
+-- How far the frames of some octets were answered, and what was written of their replies.
+-- Given: the users, and where the script stood.
+use Rattle.std.specs.Prelude.{◌≡◌, ℕ, ◌≤◌, List, ◌++◌, length, take, drop, All, Option}
+use Rattle.cal_base.specs.World.Outside.{Adds}
+use Rattle.cal_model.specs.Transcripts.ScriptFrames.{Frame, frames_text, IsFrame}
+use Rattle.cal_model.specs.Transcripts.Transcript.{Standing, Turn}
+use Rattle.cal_model.specs.Transcripts.TranscriptLaws.{Leads}
+use Rattle.cal_model.specs.Users.UsersFile.{User}
+use Rattle.cal_script.specs.FirstFrames.{NeverBeginsFrame}
+use Rattle.cal_script.specs.FrameHeads.{IsFrameStart}
+use Rattle.cal_script.specs.Standings.{StandsAt}
+use Rattle.cal_script.specs.declared.frames.Answering.{Answering}
+use Rattle.cal_script.specs.declared.frames.Answering.TheVariants.{Cut, Bad, OutputFault, NoMemory}
+use Rattle.cal_script.specs.declared.script.Script.{Script}
+
+-- One frame
+
+-- a frame was answered: what it prints was written, and the script stands where the frame leaves it
+pub record TookTurn (users : List User) (frame : Frame) (before : Standing) (script : Script) (written now : Option (List ℕ)) : Type 0 where
+  pub printed : List ℕ
+  pub after : Standing
+  pub turn : Turn users before frame printed after
+  pub added : Adds written printed now
+  pub stands : StandsAt after script
+
+-- a beginning of what it prints was written
+pub record TookTurnInPart (users : List User) (frame : Frame) (before : Standing) (written now : Option (List ℕ)) : Type 0 where
+  pub printed : List ℕ
+  pub missing : List ℕ
+  pub after : Standing
+  pub turn : Turn users before frame (printed ++ missing) after
+  pub added : Adds written printed now
+
+-- Frames
+
+-- the octets are whole frames; what they print was written, and the script stands where they leave it
+pub record AnsweredWhole (users : List User) (octets : List ℕ) (before : Standing) (script : Script) (written now : Option (List ℕ)) : Type 0 where
+  pub frames : List Frame
+  pub bounds : All IsFrame frames
+  pub spelled : octets ≡ frames_text frames
+  pub printed : List ℕ
+  pub after : Standing
+  pub leads : Leads users before frames printed after
+  pub added : Adds written printed now
+  pub stands : StandsAt after script
+
+-- whole frames stand at the front of the octets, and a beginning of what they print was written
+pub record AnsweredInPart (users : List User) (octets : List ℕ) (before : Standing) (written now : Option (List ℕ)) : Type 0 where
+  pub frames : List Frame
+  pub bounds : All IsFrame frames
+  pub behind : List ℕ
+  pub spelled : octets ≡ frames_text frames ++ behind
+  pub printed : List ℕ
+  pub missing : List ℕ
+  pub after : Standing
+  pub leads : Leads users before frames (printed ++ missing) after
+  pub added : Adds written printed now
+
+-- so many octets in front are whole frames that were answered
+pub record AnsweredTo (users : List User) (len : ℕ) (octets : List ℕ) (before : Standing) (script : Script) (written now : Option (List ℕ)) : Type 0 where
+  pub within : len ≤ length octets
+  pub whole : AnsweredWhole users (take len octets) before script written now
+
+-- what is said of an end of answering is so
+abbrev pub HasAnswered : List User → Answering → List ℕ → Standing → Script → Option (List ℕ) → Option (List ℕ) → Type 0
+HasAnswered users (Cut len) octets before script written now = AnsweredTo users len octets before script written now × IsFrameStart (drop len octets)
+HasAnswered users (Bad len) octets before script written now = AnsweredTo users len octets before script written now × NeverBeginsFrame (drop len octets)
+HasAnswered users OutputFault octets before script written now = AnsweredInPart users octets before written now
+HasAnswered users NoMemory octets before script written now = AnsweredInPart users octets before written now

@@ -1,0 +1,9 @@
+pub mod FrameHeads
+pub mod FirstFrames
+pub mod UsersTaken
+pub mod Readings
+pub mod Answering
+pub mod SlotTurns
+pub mod Standings
+pub mod AnsweredFrames
+pub mod ScriptEnds

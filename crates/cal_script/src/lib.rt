@@ -1,0 +1,27 @@
+//! Scripts: frames of octets in, and frames of replies out.
+//!
+//! Given: the words of the command `script`, and files, an input and an output that lie outside.
+//! Gives: how the run ended. The replies to the requests that the input's frames complete on sixteen
+//! connections go to the output; the frames of workers make claims of the book, expand them and
+//! publish them. Used by: the program.
+#![tactic(auto)]
+
+mod answering;
+mod command;
+mod connections;
+mod frame;
+mod frames;
+mod head;
+mod number;
+mod reply_frame;
+mod replying;
+mod running;
+mod script;
+mod server;
+mod slots;
+mod split;
+mod users;
+mod words;
+
+pub use command::{ScriptEnd, run_script};
+pub use running::{FrameEnd, run_frames};
