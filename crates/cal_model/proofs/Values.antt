@@ -1,5 +1,5 @@
 -- Values are those that their texts spell, and the place of a bad one is the least; from fronts of numbers up to fronts of rules.
--- UtcLaws serves first_path and cal_book. ValueLaws, LengthLaws, RuleFronts (`FrontsOfRulesAreTried`) and ValuePlaces wait for ical_values, whose readers are held to the
+-- UtcLaws says when a text of a moment in UTC is one. ValueLaws, LengthLaws, RuleFronts (`FrontsOfRulesAreTried`) and ValuePlaces wait for ical_values, whose readers are held to the
 -- definitions by them; the others are steps.
 pub mod CutLemmas
 pub mod ValueLaws
