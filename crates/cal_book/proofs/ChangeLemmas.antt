@@ -1,15 +1,13 @@
 -- What a check of a change tells of the event.
-use Rattle.std.proofs.Common.{◌≡◌, ℕ, Bool, true, false, List, ◌∷◌, ◌++◌, [], Option, Some, None, refl, sym, ap, ◌∙◌, subst}
+use Rattle.std.proofs.Common.{◌≡◌, ℕ, Bool, true, false, List, Option, Some, None, refl, sym, ap, ◌∙◌, subst}
 use Rattle.std.specs.Prelude.{IsSome, option_and_then, Result, Ok, Err, OnOk, OnErr}
 use Rattle.std.proofs.lemmas.Bool.{false≢true}
 use Rattle.cal_model.specs.declared.path.Path.{Path}
 use Rattle.cal_model.specs.declared.path.Path.TheVariants as path
 use Rattle.cal_model.specs.declared.property.PropSet.{PropSet}
-use Rattle.cal_model.specs.declared.reply.Reply.{Reply}
 use Rattle.cal_model.specs.declared.request.Content.{Content}
 use Rattle.cal_model.specs.declared.request.Content.TheVariants as content
 use Rattle.cal_model.specs.declared.request.Event.{Event}
-use Rattle.cal_model.specs.declared.request.Method.{Method}
 use Rattle.cal_model.specs.declared.request.Method.TheVariants as method
 use Rattle.cal_model.specs.declared.request.Request.{Request}
 use Rattle.cal_model.specs.History.Journal.{entry_of}
@@ -18,13 +16,13 @@ use Rattle.cal_model.specs.Replies.BareReplies.{bare_reply}
 use Rattle.cal_model.specs.Requests.BookableRequests.{SizeIsTold, Suits}
 use Rattle.cal_model.specs.Serving.EventReplies.{reply_to, reply_of, reply_to_change}
 use Rattle.cal_model.specs.Serving.Outcomes.{accepted, outcome}
-use Rattle.cal_model.specs.State.Changes.{Change, put, delete_object, delete_calendar, effect, change_of, change_of_object, change_of_calendar}
+use Rattle.cal_model.specs.State.Changes.{Change, delete_object, delete_calendar, effect, change_of, change_of_object, change_of_calendar}
 use Rattle.cal_model.specs.State.ServerState.{Directory, ServerState, user_number, calendar_at, octets_at}
 use Rattle.cal_model.specs.State.SoundStates.{IsSoundChange}
 use Rattle.cal_model.proofs.History.ReplayLaws.{some≢none}
-use Rattle.changing_checks.specs.Checks.{IsDeletion, IsDeleted}
-use Rattle.state_history.specs.KeptHistories.{IsNext}
-use Rattle.state_history.proofs.AcceptedEntries.{is_next}
+use Rattle.cal_book.specs.Checking.Checks.{IsDeletion, IsDeleted}
+use Rattle.cal_book.specs.Keeping.KeptHistories.{IsNext}
+use Rattle.cal_book.proofs.Keeping.AcceptedEntries.{is_next}
 
 of_some : (a b : Change) → Some a ≡ Some b → is_deletion a ≡ is_deletion b
 of_some a b e = ap deletes e where

@@ -1,5 +1,5 @@
 -- What an event makes of the journal, by its outcome.
-use Rattle.std.proofs.Common.{◌≡◌, ◌≢◌, ℕ, arith, Bool, true, false, List, [], ◌∷◌, ◌++◌, cond, filter, Option, Some, None, refl, sym, ap, ◌∙◌, subst}
+use Rattle.std.proofs.Common.{◌≡◌, ◌≢◌, ℕ, Bool, true, false, List, [], ◌∷◌, ◌++◌, cond, Option, Some, None, refl, sym, ap, ◌∙◌, subst}
 use Rattle.std.specs.Prelude.{is_some, ◌==◌}
 use Rattle.std.specs.List.{AllByRecursion}
 use Rattle.std.proofs.lemmas.Bool.{false≢true, eqb-false}
@@ -14,12 +14,12 @@ use Rattle.cal_model.specs.declared.request.Event.{Event}
 use Rattle.cal_model.specs.declared.request.Method.{Method}
 use Rattle.cal_model.specs.declared.request.Method.TheVariants.{Options, Get, Head, Put, Delete, Propfind, Proppatch, Report, Mkcalendar, Acl}
 use Rattle.cal_model.specs.History.Claims.{Work}
-use Rattle.cal_model.specs.History.Journal.{Entry, entry_of, replay, IsLegal}
-use Rattle.cal_model.specs.History.RightPieces.{IsRight, is_live, live_pieces}
+use Rattle.cal_model.specs.History.Journal.{Entry, entry_of, IsLegal}
+use Rattle.cal_model.specs.History.RightPieces.{IsRight, live_pieces}
 use Rattle.cal_model.specs.Objects.ObjectReading.{first_there}
-use Rattle.cal_model.specs.Requests.BookableRequests.{SizeIsTold, Suits, refusals_of, own_refusals}
+use Rattle.cal_model.specs.Requests.BookableRequests.{Suits, refusals_of, own_refusals}
 use Rattle.cal_model.specs.Serving.EventReplies.{reply_to, reply_of, state_of, state_after}
-use Rattle.cal_model.specs.Serving.Outcomes.{Outcome, accepted, unchanged, outcome, outcome_where, is_reading, rows_of_change, changed, unless_refused, scene_by}
+use Rattle.cal_model.specs.Serving.Outcomes.{Outcome, accepted, unchanged, outcome, outcome_where, is_reading, rows_of_change, changed, scene_by}
 use Rattle.cal_model.specs.Serving.ServingLaws.{IsNoWant}
 use Rattle.cal_model.specs.Sight.Views.{whole_sight}
 use Rattle.cal_model.specs.State.Changes.{Change, change_of}
@@ -27,7 +27,6 @@ use Rattle.cal_model.specs.State.ServerState.{Directory, ServerState, directory_
 use Rattle.cal_model.specs.Users.UsersFile.{User}
 use Rattle.cal_model.proofs.History.EntryLaws.{accepted_keeps_legal}
 use Rattle.cal_model.proofs.History.ReplayLaws.{accepted-rows}
-use Rattle.cal_model.proofs.Sight.LookingAlikeLaws.{outcome-reading}
 use Rattle.piece_claims.specs.Boards.{Board}
 use Rattle.cal_book.specs.UpToDate.{work_with}
 use Rattle.cal_book.specs.EventSteps.{entries_by, entries_made, journal_after, state_behind, stepped, JournalsFollow}
@@ -60,7 +59,7 @@ pub stepped-unchanged : (users : List User) (event : Event) (work : Work) (reply
     → outcome (directory_of users) (state_behind users work.journal) event ≡ unchanged reply → stepped users event work ≡ work
 stepped-unchanged users event work reply right e =
     let same : journal_after users event work.journal ≡ work.journal =
-        ap (λ more. work.journal ++ more) (entries-unchanged users (state_behind users work.journal) event reply e) ∙ append-nil work.journal in
+    ap (λ more. work.journal ++ more) (entries-unchanged users (state_behind users work.journal) event reply e) ∙ append-nil work.journal in
     ap (λ journal. record work { journal = journal; pieces = live_pieces journal work.pieces }) same
     ∙ ap (λ pieces. record work { journal = work.journal; pieces = pieces }) (live_pieces-right work.journal work.pieces right)
 
@@ -71,7 +70,7 @@ pub stepped-accepted : (users : List User) (event : Event) (work new : Work) (af
     → new ≡ stepped users event work
 stepped-accepted users event work new after status change asks e journal pieces latest out =
     let same : new.journal ≡ journal_after users event work.journal =
-        journal ∙ ap (λ more. work.journal ++ more) (sym (entries-accepted users (state_behind users work.journal) after event status change asks e)) in
+    journal ∙ ap (λ more. work.journal ++ more) (sym (entries-accepted users (state_behind users work.journal) after event status change asks e)) in
     λ i. record {
       journal = same i;
       latest = latest i;

@@ -1,11 +1,11 @@
 -- What a history that is in step tells of its state.
-use Rattle.std.proofs.Common.{◌≡◌, ℕ, List, Some, sym, ap, ◌∙◌, subst}
+use Rattle.std.proofs.Common.{List, sym, ap, ◌∙◌, subst}
 use Rattle.cal_model.specs.History.Journal.{Entry}
 use Rattle.cal_model.specs.State.ServerState.{directory_of, octets_at}
 use Rattle.cal_model.specs.State.SoundStates.{IsSound}
 use Rattle.cal_model.specs.Users.UsersFile.{User}
 use Rattle.collections.specs.Kept.{Kept as KeptStore, state_of}
-use Rattle.state_history.specs.KeptHistories.{IsInStep}
+use Rattle.cal_book.specs.Keeping.KeptHistories.{IsInStep}
 use Rattle.cal_book.proofs.HeldPieces.{HasLiveOctets}
 use Rattle.cal_book.proofs.LiveOctets.{live-octets, replay-sound}
 

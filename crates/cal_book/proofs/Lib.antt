@@ -7,3 +7,7 @@ pub mod EventLemmas
 pub mod ChangeLemmas
 pub mod PublishLemmas
 pub mod RequestLemmas
+pub mod Showing
+pub mod Keeping
+pub mod Answering
+pub mod Checking

@@ -1,8 +1,8 @@
 -- In a legal journal the octets of an object that is still there are those that the state has at its place.
 use Rattle.std.proofs.Common.{◌≡◌, ◌≢◌, ℕ, ◌<◌, ◌≤◌, Bool, true, false, ◌&&◌, cond, List, [], ◌∷◌, ◌++◌, length, Option, Some, None, refl, sym, ap, ◌∙◌, subst, arith, ◌⊎◌, inl, inr}
-use Rattle.std.specs.Prelude.{All, ◌==◌, bytes_eq, slice_get, slice_set, option_map, option_and_then}
+use Rattle.std.specs.Prelude.{bytes_eq, slice_get, slice_set, option_and_then}
 use Rattle.std.specs.BTreeMap.{is_at}
-use Rattle.std.proofs.lemmas.Bool.{cases_lt, cases_eq, cases_Bool, false≢true, eqb-true, eq-eqb, and_parts, and_from}
+use Rattle.std.proofs.lemmas.Bool.{cases_lt, cases_eq, cases_Bool, false≢true, eq-eqb, and_from}
 use Rattle.std.proofs.lemmas.List.{length-append, append-nil, get_or-set_same, get_or-set_other, length-set}
 use Rattle.std.proofs.lemmas.List.Elements.{All-head, All-tail}
 use Rattle.std.proofs.lemmas.Map.Text.{is_eq-slice_cmp}
@@ -11,12 +11,11 @@ use Rattle.std.proofs.lemmas.Slice.Eq.{bytes_eq-Decides}
 use Rattle.std.proofs.Math.Seq.{append_snoc}
 use Rattle.cal_base.specs.Lists.NameMap.{Named, name_order, value_at, with_value, without}
 use Rattle.cal_base.proofs.Lists.NameMapLemmas.{value_at_with}
-use Rattle.cal_model.specs.History.Journal.{Entry, asked, replay, IsAcceptedAt, IsLegal, IsLegalFrom}
+use Rattle.cal_model.specs.History.Journal.{Entry, replay, IsAcceptedAt, IsLegal, IsLegalFrom}
 use Rattle.cal_model.specs.History.KeptChanges.{IsAcceptable}
 use Rattle.cal_model.specs.History.LiveObjects.{Placed, placed_by, ends, kept_unless, live_at}
 use Rattle.cal_model.specs.Properties.Settings.{set_on, made_by}
-use Rattle.cal_model.specs.Serving.EventReplies.{state_after}
-use Rattle.cal_model.specs.State.Changes.{Change, put, delete_object, delete_calendar, make, patch, acl, effect, with_octets, without_octets, with_grants, without_calendar, with_new_calendar}
+use Rattle.cal_model.specs.State.Changes.{Change, put, delete_object, delete_calendar, make, patch, acl, effect, with_octets, without_octets, with_grants, with_new_calendar}
 use Rattle.cal_model.specs.State.ServerState.{Directory, Calendar, Home, ServerState, opening_state, home_at, calendar_at, octets_at, with_home, with_calendar, charged}
 use Rattle.cal_model.specs.State.SoundStates.{IsSound, IsSoundChange}
 use Rattle.cal_model.specs.State.UserNames.{AreToldApart}

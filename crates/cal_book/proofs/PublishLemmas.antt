@@ -1,5 +1,5 @@
 -- Claims and pieces: an object that the journal made, and whether it is still there.
-use Rattle.std.proofs.Common.{◌≡◌, ◌≢◌, ℕ, ◌+◌, ◌<◌, ◌≤◌, Bool, true, false, ◌||◌, cond, List, [], ◌∷◌, ◌++◌, length, filter, Option, Some, None, refl, sym, ap, ◌∙◌, subst, arith}
+use Rattle.std.proofs.Common.{◌≡◌, ◌≢◌, ℕ, ◌≤◌, Bool, true, false, ◌||◌, cond, List, [], ◌∷◌, ◌++◌, length, Option, Some, None, refl, sym, ap, ◌∙◌, arith}
 use Rattle.std.specs.Prelude.{not, is_some, Ok, ℤ, ◌-◌}
 use Rattle.std.specs.List.{AllByRecursion}
 use Rattle.std.proofs.lemmas.Bool.Decides.{nat_tests}
@@ -19,9 +19,7 @@ use Rattle.cal_model.specs.Refusals.Preconditions.{IsServable, has_too_many}
 use Rattle.cal_model.specs.Refusals.RequestLimits.{instances_limit}
 use Rattle.cal_model.proofs.History.ReplayLaws.{some≢none}
 use Rattle.cal_model.proofs.Pieces.FoundPieces.{All-newest_within, All-snoc}
-use Rattle.dav_reports.specs.PieceRows.{IsKept}
-use Rattle.dav_reports.proofs.KeptObjects.{IsKept-stored}
-use Rattle.piece_claims.specs.Boards.{Board, piece_at, pieces_with, published, rows_limit}
+use Rattle.piece_claims.specs.Boards.{Board, piece_at, published, rows_limit}
 use Rattle.cal_book.specs.ClaimsOut.{IsMadeAt, placed_of}
 use Rattle.cal_book.specs.UpToDate.{IsUpToDate}
 

@@ -1,8 +1,8 @@
 -- What holds of a book as it is kept.
-use Rattle.std.specs.Prelude.{◌≡◌, ℕ, List, []}
+use Rattle.std.specs.Prelude.{◌≡◌, ℕ, []}
 use Rattle.cal_base.specs.Lists.Reserved.{Reserved}
 use Rattle.piece_claims.specs.Boards.{Board}
-use Rattle.state_history.specs.KeptHistories.{Kept, users_in}
+use Rattle.cal_book.specs.Keeping.KeptHistories.{Kept, users_in}
 use Rattle.cal_book.specs.Cores.{Core, spare_of}
 use Rattle.cal_book.specs.UpToDate.{IsUpToDate, work_with}
 

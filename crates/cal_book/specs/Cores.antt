@@ -3,7 +3,7 @@
 use Rattle.std.specs.Prelude.{ℕ, List, nat_le, min, if◌then◌else◌}
 use Rattle.std.specs.List.{AllByRecursion}
 use Rattle.cal_model.specs.History.Claims.{Work}
-use Rattle.cal_model.specs.History.Journal.{IsLegal, replay}
+use Rattle.cal_model.specs.History.Journal.{IsLegal}
 use Rattle.cal_model.specs.History.RightPieces.{IsRight}
 use Rattle.cal_model.specs.Pieces.KeptPieces.{IsWithinBudget}
 use Rattle.cal_model.specs.State.ServerState.{Directory, ServerState, directory_of}

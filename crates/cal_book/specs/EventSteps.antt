@@ -1,6 +1,6 @@
 -- What an event makes of the journal, and of what claims depend on, where it is not answered 503 (RFC 9110, 9.3 and 15.3).
 -- Given: the users, a state or what claims depend on, and an event.
-use Rattle.std.specs.Prelude.{◌≡◌, ℕ, List, [], ◌∷◌, ◌++◌, Option, Some}
+use Rattle.std.specs.Prelude.{◌≡◌, List, [], ◌∷◌, ◌++◌, Option, Some}
 use Rattle.cal_model.specs.declared.request.Event.{Event}
 use Rattle.cal_model.specs.History.Claims.{Work, latest_after}
 use Rattle.cal_model.specs.History.Journal.{Entry, entry_of, replay, IsLegal}
@@ -9,7 +9,7 @@ use Rattle.cal_model.specs.Requests.BookableRequests.{SizeIsTold}
 use Rattle.cal_model.specs.Serving.EventReplies.{reply_to, state_after}
 use Rattle.cal_model.specs.Serving.Outcomes.{Outcome, accepted, outcome}
 use Rattle.cal_model.specs.State.Changes.{Change, change_of}
-use Rattle.cal_model.specs.State.ServerState.{Directory, ServerState, directory_of}
+use Rattle.cal_model.specs.State.ServerState.{ServerState, directory_of}
 use Rattle.cal_model.specs.Users.UsersFile.{User}
 
 -- the entry of an accepted change

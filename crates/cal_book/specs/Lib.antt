@@ -7,3 +7,7 @@ pub mod EndedObjects
 pub mod Cores
 pub mod Books
 pub mod Publishing
+pub mod Showing
+pub mod Keeping
+pub mod Answering
+pub mod Checking

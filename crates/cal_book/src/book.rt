@@ -13,22 +13,22 @@ ghost use Rattle.cal_model.specs.Serving.Outcomes.{is_reading as reads};
 ghost use Rattle.cal_model.specs.Sight.LookingAlike.{LookAlike};
 ghost use Rattle.cal_model.specs.State.ServerState.{ServerState, directory_of};
 ghost use Rattle.piece_claims.specs.Boards.{gone_for, later, out_after};
-ghost use Rattle.reading_answers.specs.ReadingCost.{reading_cost};
-ghost use Rattle.book_view.specs.ShownStates.{shown_directory, shown_state, shown_origins};
+ghost use Rattle.cal_book.specs.Answering.ReadingCost.{reading_cost};
+ghost use Rattle.cal_book.specs.Showing.ShownStates.{shown_directory, shown_state, shown_origins};
 
 use crate::changing::change;
 use crate::claims::{Claim, Expanded, Publish};
+use crate::history::History;
 use crate::publishing::publish;
 use crate::reading::read;
 use crate::sharing::share;
-use book_view::BookView;
+use crate::view::BookView;
 use cal_base::{Arc, NoMemory, ReservedList, Steps};
 use cal_journal::Entry;
 use cal_model::{Event, Method, Reply};
 use piece_claims::{Claims, next_is_of_work};
 use privileges::Users;
 use request_checks::bare_reply;
-use state_history::History;
 use std::alloc::Global;
 use std::marker::Model;
 use std::sync::ledger::Ledger;
@@ -115,7 +115,7 @@ impl Book {
         ensures entries { result ≡ length self.now.work.journal }
         ensures kept { IsRightCore self.now }
     {
-        let _rows = self.claims.rows();
+        let _count = self.claims.row_count();
         self.history.entries()
     }
 

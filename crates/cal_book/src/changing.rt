@@ -4,19 +4,19 @@ ghost use Rattle.cal_model.specs.History.RightPieces.{live_pieces};
 ghost use Rattle.cal_model.specs.Requests.BookableRequests.{IsBookable};
 ghost use Rattle.cal_model.specs.Serving.EventReplies.{reply_to};
 ghost use Rattle.cal_model.specs.Serving.Outcomes.{is_reading};
-ghost use Rattle.changing_checks.specs.Checks.{IsChecked, IsDecided, IsMade, IsDeletion};
-ghost use Rattle.state_history.specs.KeptHistories.{users_in, directory_in, state_in};
+ghost use Rattle.cal_book.specs.Checking.Checks.{IsChecked, IsDecided, IsMade, IsDeletion};
+ghost use Rattle.cal_book.specs.Keeping.KeptHistories.{users_in, directory_in, state_in};
 ghost use Rattle.cal_book.specs.EventSteps.{journal_after, state_behind, stepped};
 ghost use Rattle.cal_book.specs.UpToDate.{IsUpToDate, work_with};
 
+use crate::changes::{ChangeCheck, check_change};
+use crate::history::History;
 use crate::making::{delete_calendar, delete_object, make};
 use crate::reading::names_are_short;
 use cal_base::{NoMemory, ReservedList, Steps};
 use cal_model::{Change, Event, Method, Path, Reply, Seen};
-use changing_checks::{ChangeCheck, check_change};
 use piece_claims::Claims;
 use request_checks::bare_reply;
-use state_history::History;
 use std::alloc::Global;
 use std::sync::ledger::Ledger;
 

@@ -3,15 +3,15 @@ ghost use Rattle.std.specs.Prelude.{◌≡◌, ◌+◌, ◌<◌, ◌≤◌, leng
 ghost use Rattle.std.specs.Option.{ForSome};
 ghost use Rattle.cal_model.specs.History.KeptChanges.{kept_change};
 ghost use Rattle.cal_model.specs.History.LiveObjects.{Placed, is_in_calendar};
-ghost use Rattle.state_history.specs.KeptHistories.{origins_in};
+ghost use Rattle.cal_book.specs.Keeping.KeptHistories.{origins_in};
 ghost use Rattle.cal_book.specs.EndedObjects.{replaced_by, makes_object, with_entry, without_object, IsWithout};
 ghost use Rattle.cal_book.specs.UpToDate.{IsUpToDate};
 
+use crate::history::History;
 use cal_base::Steps;
 use cal_model::Change;
 use cal_model::view::View;
 use piece_claims::Claims;
-use state_history::History;
 use std::sync::ledger::Ledger;
 
 /// The origin of the object at a place.

@@ -8,11 +8,9 @@ ghost use Rattle.cal_book.specs.declared.claims.Claim.{Claim};
 /// The journal after an event is legal, and leads to the state after the event.
 pub fn journals_follow()
     ensures { JournalsFollow }
-{
-}
+{}
 
 /// A claim stays one of the journal's objects, whatever is entered behind it.
 pub fn claims_stay()
     ensures { (journal more : List Entry) (claim : Claim) → IsClaimIn journal claim → IsClaimIn (journal ++ more) claim }
-{
-}
+{}

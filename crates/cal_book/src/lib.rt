@@ -8,16 +8,21 @@
 #![tactic(auto)]
 
 mod book;
+mod changes;
 mod changing;
 mod claims;
 mod ending;
 mod expanding;
+mod history;
 mod laws;
 mod making;
 mod publishing;
 mod reading;
+mod reads;
 mod sharing;
+mod view;
 
 pub use book::Book;
 pub use claims::{Claim, Expanded, Publish};
 pub use expanding::expand;
+pub use view::BookView;

@@ -5,15 +5,15 @@ ghost use Rattle.cal_model.specs.History.KeptChanges.{kept_change, is_deletion};
 ghost use Rattle.cal_model.specs.History.RightPieces.{live_pieces};
 ghost use Rattle.cal_model.specs.State.Changes.{delete_object as object_deleted, delete_calendar as calendar_deleted};
 ghost use Rattle.cal_model.specs.State.ServerState.{calendar_at, octets_at};
-ghost use Rattle.state_history.specs.KeptHistories.{IsNext, users_in, directory_in, state_in};
+ghost use Rattle.cal_book.specs.Keeping.KeptHistories.{IsNext, users_in, directory_in, state_in};
 ghost use Rattle.cal_book.specs.UpToDate.{IsUpToDate};
 
 use crate::ending::{end, end_all, makes, note, origin_at, replaced};
+use crate::history::{Asked, History};
 use cal_base::{NoMemory, Steps};
 use cal_journal::Entry;
 use cal_model::{Change, Event};
 use piece_claims::Claims;
-use state_history::{Asked, History};
 use std::sync::ledger::Ledger;
 
 /// The entry of a change that an event asks for.

@@ -1,17 +1,17 @@
 //! Pieces that are published.
 ghost use Rattle.std.specs.Prelude.{◌≡◌, ◌≢◌, ◌+◌, ◌≤◌, true, false, Some};
 ghost use Rattle.piece_claims.specs.Boards.{gone_for};
-ghost use Rattle.state_history.specs.KeptHistories.{origins_in};
+ghost use Rattle.cal_book.specs.Keeping.KeptHistories.{origins_in};
 ghost use Rattle.cal_book.specs.ClaimsOut.{IsMadeAt};
 ghost use Rattle.cal_book.specs.Publishing.{IsPublished, piece_of};
 ghost use Rattle.cal_book.specs.UpToDate.{IsUpToDate, work_with};
 
 use crate::claims::{Expanded, Publish};
 use crate::ending::origin_at;
+use crate::history::History;
 use cal_base::Steps;
 use cal_model::Stored;
 use piece_claims::Claims;
-use state_history::History;
 use std::sync::ledger::Ledger;
 
 /// The origin of what is at an object's path now.

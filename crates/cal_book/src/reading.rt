@@ -5,17 +5,17 @@ ghost use Rattle.cal_model.specs.Pieces.PieceLists.{rows_at};
 ghost use Rattle.cal_model.specs.Requests.BookableRequests.{IsBookable};
 ghost use Rattle.cal_model.specs.Serving.EventReplies.{reply_to};
 ghost use Rattle.cal_model.specs.Serving.Outcomes.{is_reading};
-ghost use Rattle.reading_answers.specs.ReadingCost.{reading_cost};
+ghost use Rattle.cal_book.specs.Answering.ReadingCost.{reading_cost};
 ghost use Rattle.request_checks.specs.Sightings.{AreShort};
-ghost use Rattle.state_history.specs.KeptHistories.{users_in, directory_in};
+ghost use Rattle.cal_book.specs.Keeping.KeptHistories.{users_in, directory_in};
 ghost use Rattle.cal_book.specs.EventSteps.{state_behind, stepped};
 ghost use Rattle.cal_book.specs.UpToDate.{IsUpToDate, work_with};
 
+use crate::history::History;
+use crate::reads::answer_reading;
 use cal_base::{NoMemory, ReservedList, Steps};
 use cal_model::{Event, Reply, Seen};
 use piece_claims::Claims;
-use reading_answers::answer_reading;
-use state_history::History;
 use std::alloc::Global;
 use std::sync::ledger::Ledger;
 
@@ -54,6 +54,9 @@ pub(crate) fn read<L: Ledger>(
         who: event.who,
     };
     let answer = answer_reading(alloc, &seen, claims, event, room, steps);
-    let Seen { view: _view, who: _who } = seen;
+    let Seen {
+        view: _view,
+        who: _who,
+    } = seen;
     answer
 }

@@ -6,10 +6,10 @@ ghost use Rattle.cal_model.specs.History.LiveObjects.{live_at, placed_by};
 ghost use Rattle.cal_model.specs.Refusals.Preconditions.{IsServable};
 ghost use Rattle.cal_book.specs.ClaimsOut.{IsMadeAt, placed_of};
 
+use crate::history::History;
 use cal_base::{Arc, NoMemory};
 use cal_journal::Entry;
 use cal_model::{Change, Stored};
-use state_history::History;
 
 /// The object that an entry puts.
 fn stored_in(entry: &Entry) -> Option<&Arc<Stored>>

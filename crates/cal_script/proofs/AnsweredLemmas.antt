@@ -1,13 +1,11 @@
 -- Answering frames one after the other.
-use Rattle.std.proofs.Common.{◌≡◌, ℕ, ◌+◌, ◌-◌, ◌<◌, ◌≤◌, List, [], ◌∷◌, ◌++◌, length, take, drop, refl, sym, ap, subst, ◌∙◌, arith, append_assoc, length-append, length-drop, length-take, Option, Some, None}
+use Rattle.std.proofs.Common.{◌≡◌, ℕ, ◌+◌, ◌-◌, ◌<◌, ◌≤◌, List, [], ◌∷◌, ◌++◌, length, take, drop, refl, sym, ap, subst, ◌∙◌, arith, append_assoc, length-append, length-drop, Option}
 use Rattle.std.proofs.lemmas.Grind.{flat_map-append}
 use Rattle.std.proofs.lemmas.List.{append-nil, take-append-drop}
 use Rattle.std.proofs.lemmas.List.Elements.{All-nil, All-cons, All-append}
 use Rattle.std.proofs.Math.Seq.{take-add, take-append_seam}
-use Rattle.std.specs.List.{All}
-use Rattle.cal_base.specs.World.Outside.{Adds}
 use Rattle.cal_base.proofs.World.Taking.{Adds-more}
-use Rattle.cal_model.specs.Transcripts.ScriptFrames.{WorkerStep, claim, expand, publish, abandon, Frame, bytes, worker, frame_text, frames_text, IsFrame}
+use Rattle.cal_model.specs.Transcripts.ScriptFrames.{claim, expand, publish, abandon, Frame, bytes, worker, frame_text, frames_text, IsFrame}
 use Rattle.cal_model.specs.Transcripts.Transcript.{Standing, Turn}
 use Rattle.cal_model.specs.Transcripts.TranscriptLaws.{Leads}
 use Rattle.cal_model.specs.Users.UsersFile.{User}

@@ -1,5 +1,5 @@
 -- How answering what the octets of a frame complete goes on, and how it ends.
-use Rattle.std.proofs.Common.{◌≡◌, ℕ, ◌+◌, List, [], ◌∷◌, ◌++◌, length, take, drop, refl, sym, ap, subst, ◌∙◌, append_assoc, Option, Some, None, inl}
+use Rattle.std.proofs.Common.{◌≡◌, ℕ, List, [], ◌∷◌, ◌++◌, take, drop, refl, sym, ap, subst, ◌∙◌, append_assoc, Option, Some, None, inl}
 use Rattle.std.specs.Prelude.{pos, Result, Ok, Err, OnOk, OnErr}
 use Rattle.std.proofs.lemmas.List.{append-nil, take-append-drop}
 use Rattle.cal_base.specs.World.Outside.{Adds}
@@ -17,7 +17,7 @@ use Rattle.cal_model.specs.Transcripts.Transcript.{Answer, answer_to, IsAnswer, 
 use Rattle.cal_model.specs.Users.UsersFile.{User}
 use Rattle.cal_script.specs.declared.connections.Connection.{Connection}
 use Rattle.cal_script.specs.declared.server.Server.{Server}
-use Rattle.cal_script.specs.Answering.{Grows, GoesOn, answer_frame, IsAnswered, WroteAnswer, WroteAnswerInPart, PrintsMore, WroteAll, WroteInPart}
+use Rattle.cal_script.specs.Answering.{Grows, GoesOn, answer_frame, IsAnswered, WroteAnswer, WroteAnswerInPart, WroteAll, WroteInPart}
 use Rattle.cal_script.specs.Readings.{IsReading, Rests}
 use Rattle.cal_model.proofs.Transcripts.ConnectionAnswerLaws.{streams_complete, completions_stay}
 use Rattle.cal_script.proofs.ReadingLemmas.{more_to_come}

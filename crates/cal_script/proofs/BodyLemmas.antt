@@ -1,5 +1,5 @@
 -- A request that stands at the front of some octets has a body within the limit.
-use Rattle.std.proofs.Common.{◌≡◌, ℕ, zero, suc, ◌+◌, ◌-◌, ◌<◌, ◌≤◌, Bool, true, false, List, [], ◌∷◌, ◌++◌, length, take, drop, refl, sym, ap, subst, ◌∙◌, arith, length-append, length-take, Option, Some, None}
+use Rattle.std.proofs.Common.{◌≡◌, ℕ, ◌+◌, ◌≤◌, Bool, true, false, List, [], ◌∷◌, length, take, drop, refl, ap, subst, arith, length-append, length-take, Option, Some, None}
 use Rattle.std.specs.Prelude.{Result, Ok, Err, nat_lt, nat_le, if◌then◌else◌}
 use Rattle.std.proofs.lemmas.Bool.{ltb-false}
 use Rattle.httparse.specs.Grammar.{RequestHead}
@@ -10,7 +10,7 @@ use Rattle.cal_model.specs.Streams.ChunkGrammar.{AreChunks, WrittenChunk, chunks
 use Rattle.cal_model.specs.Streams.Chunks.{Chunked, whole, unfinished, faulty, chunked_body}
 use Rattle.cal_model.specs.Streams.HeadFields.{Framing, sized, chunked, framing_of, is_contradictory, is_too_long, field_lines, names_other_version, first_line, read_head, wire_request}
 use Rattle.cal_model.specs.Streams.Heads.{head_of, head_size, without_empty_lines}
-use Rattle.cal_model.specs.Streams.StreamRequests.{Front, request, fault, idle, cut, with_length, with_chunks, with_body, with_head, without_head, at_head, front}
+use Rattle.cal_model.specs.Streams.StreamRequests.{Front, request, fault, idle, cut, with_length, with_chunks, with_head, without_head, at_head, front}
 use Rattle.cal_model.specs.Streams.WireLimits.{body_limit, head_limit, field_limit}
 use Rattle.cal_model.proofs.Streams.ChunkReading.{bodies_are_the_grammar}
 
@@ -52,7 +52,7 @@ chunks_short head octets unfinished e = tt
 chunks_short head octets (faulty why) e = tt
 
 framed_short : (head : RequestHead) (octets : List ℕ) (framing : Framing) → is_too_long framing ≡ false
-    → Short (elim framing [ | sized size ↦ with_length head size octets | chunked ↦ with_chunks head (chunked_body octets) ])
+    → Short (elim framing [ sized size ↦ with_length head size octets | chunked ↦ with_chunks head (chunked_body octets) ])
 framed_short head octets (sized size) short = sized_short head size octets (ltb-false _ _ short)
 framed_short head octets chunked short = chunks_short head octets (chunked_body octets) refl
 
@@ -85,7 +85,7 @@ read_short (Err why) octets h = tt
 read_short (Ok head) octets h = framed_short head octets (framing_of head) h
 
 at_head_short : (size : ℕ) (octets : List ℕ) (fits : Bool)
-    → Short (elim fits [ | true ↦ with_head (read_head (without_empty_lines (take size octets))) (drop size octets) | false ↦ fault HeadTooLong ])
+    → Short (elim fits [ true ↦ with_head (read_head (without_empty_lines (take size octets))) (drop size octets) | false ↦ fault HeadTooLong ])
 at_head_short size octets true = read_short (read_head (without_empty_lines (take size octets))) (drop size octets) (head_fits (without_empty_lines (take size octets)))
 at_head_short size octets false = tt
 

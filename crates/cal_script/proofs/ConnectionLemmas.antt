@@ -6,16 +6,11 @@ use Rattle.std.proofs.lemmas.List.Folds.{list_any-append}
 use Rattle.std.proofs.Math.Seq.{take-nil}
 use Rattle.std.proofs.lemmas.Bool.{ltb-true, leb-true, leb-false, lt-ltb, le-ltb}
 use Rattle.std.specs.List.{enumerate_from, list_any}
-use Rattle.cal_model.specs.declared.wire.WireFault.{WireFault}
 use Rattle.cal_model.specs.declared.wire.WireRequest.{WireRequest}
-use Rattle.cal_model.specs.Streams.StreamRequests.{Ending, ends_idle, ends_cut, ends_at, Ends, IsStream, Spells, Begins, front, request, fault, idle, cut, up_to_close, served, closes_after}
+use Rattle.cal_model.specs.Streams.StreamRequests.{Ending, up_to_close, served, closes_after}
 use Rattle.cal_model.specs.Streams.WireLimits.{request_limit}
-use Rattle.cal_model.specs.Transcripts.ConnectionAnswers.{Completed, whole, faulty, is_open, fault_in, answered, Completes}
-use Rattle.cal_model.proofs.Streams.FrontLaws.{faults_stay}
-use Rattle.cal_model.proofs.Streams.ReadingLaws.{streams_are_read, streams_grow}
-use Rattle.http_wire.specs.Wires.{Stands}
-use Rattle.cal_script.specs.declared.connections.Connection.{Connection}
-use Rattle.cal_script.specs.Readings.{numbered, IsOpenReading, IsClosedReading, IsReading, Rests}
+use Rattle.cal_model.specs.Transcripts.ConnectionAnswers.{Completed, whole, is_open, fault_in, answered}
+use Rattle.cal_script.specs.Readings.{numbered}
 
 -- Lists of requests
 

@@ -1,17 +1,17 @@
 -- A whole frame behind its line, and when none stands at the front.
-use Rattle.std.proofs.Common.{◌≡◌, ◌≢◌, ℕ, ◌+◌, ◌<◌, ◌≤◌, List, [], ◌∷◌, ◌++◌, length, take, drop, slice_index, codes, refl, sym, ap, subst, ◌∙◌, arith, append_assoc, add-one, suc, length-append, length-take, inl, inr}
+use Rattle.std.proofs.Common.{◌≡◌, ◌≢◌, ℕ, ◌+◌, ◌<◌, ◌≤◌, List, [], ◌∷◌, ◌++◌, length, take, drop, slice_index, refl, sym, ap, subst, ◌∙◌, arith, append_assoc, add-one, suc, length-append, length-take, inl, inr}
 use Rattle.std.proofs.lemmas.List.{append-nil, take-append-drop}
 use Rattle.std.proofs.Math.ListN.{get_or-append}
 use Rattle.std.proofs.Math.Seq.{drop-cons, get_or-append_seam}
 use Rattle.std.specs.Fmt.{decimal}
-use Rattle.cal_model.specs.Transcripts.ScriptFrames.{WorkerStep, claim, expand, publish, abandon, step_word, Frame, bytes, worker, frame_text, AreInBounds, IsFrame}
+use Rattle.cal_model.specs.Transcripts.ScriptFrames.{WorkerStep, claim, expand, publish, abandon, step_word, Frame, bytes, worker, frame_text, IsFrame}
 use Rattle.cal_model.proofs.Transcripts.FrameCuts.{frame_text-bytes, frame_text-worker}
 use Rattle.cal_script.specs.declared.head.Action.{Action}
 use Rattle.cal_script.specs.declared.head.Action.TheVariants.{Claim, Expand, Publish, Abandon}
 use Rattle.cal_script.specs.declared.head.Coming.{Coming}
 use Rattle.cal_script.specs.declared.head.Head.{Head}
 use Rattle.cal_script.specs.declared.head.Head.TheVariants.{Bytes, Worker}
-use Rattle.cal_script.specs.FrameHeads.{Lacks, step_of, coming_numbers, head_line, IsWithin, InBounds, IsHead, IsNoHead, longest_line, IsFrameStart}
+use Rattle.cal_script.specs.FrameHeads.{Lacks, step_of, coming_numbers, head_line, InBounds, IsHead, IsNoHead, longest_line, IsFrameStart}
 use Rattle.cal_script.specs.FirstFrames.{BeginsNoFrame, NeverBeginsFrame, IsFrameThen}
 use Rattle.cal_script.proofs.HeadLemmas.{first_place, no_place, length-head_line, head_line_lacks_feed, bytes_line_of}
 

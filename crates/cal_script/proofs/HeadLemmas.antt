@@ -1,5 +1,5 @@
 -- Where the parts of a frame's line end.
-use Rattle.std.proofs.Common.{◌≡◌, ℕ, ◌⊎◌, ◌+◌, ◌-◌, ◌<◌, ◌≤◌, ◌^◌, List, [], ◌∷◌, ◌++◌, length, drop, take, slice_index, Some, None, position, ◌==◌, codes, suc, add-one, rules, refl, sym, ap, ap₂, ◌∙◌, subst, ◌≢◌, arith, append_assoc, length-append, length-take, eqb-true, Bool, true, false}
+use Rattle.std.proofs.Common.{◌≡◌, ℕ, ◌⊎◌, ◌+◌, ◌<◌, ◌≤◌, ◌^◌, List, [], ◌∷◌, ◌++◌, length, drop, take, slice_index, Some, None, position, ◌==◌, codes, suc, add-one, rules, refl, sym, ap, ap₂, ◌∙◌, subst, ◌≢◌, arith, length-append, length-take, eqb-true, Bool, false}
 use Rattle.std.proofs.lemmas.Bool.{eqb-false, false≢true}
 use Rattle.std.proofs.lemmas.Slice.Eq.{bytes_eq-Decides}
 use Rattle.std.specs.Bool.{Decides}

@@ -1,5 +1,5 @@
 -- The frame of a reply, as it is put together.
-use Rattle.std.proofs.Common.{◌≡◌, ℕ, List, [], ◌∷◌, ◌++◌, length, codes, decimal, refl, sym, ap, ◌∙◌, append_assoc}
+use Rattle.std.proofs.Common.{◌≡◌, ℕ, List, [], ◌∷◌, ◌++◌, length, codes, decimal, refl, ap, ◌∙◌, append_assoc}
 use Rattle.std.specs.Fmt.{digits}
 use Rattle.cal_model.specs.Transcripts.ScriptFrames.{reply_frame}
 

@@ -1,17 +1,17 @@
 -- How the reading of a connection goes on: when octets come, and when something is due.
-use Rattle.std.proofs.Common.{◌≡◌, ℕ, ◌+◌, ◌≤◌, Bool, true, false, List, [], ◌∷◌, ◌++◌, length, refl, sym, ap, subst, ◌∙◌, arith, append_assoc, length-append, ◌⊎◌, inl, inr}
+use Rattle.std.proofs.Common.{◌≡◌, ℕ, ◌+◌, ◌≤◌, true, false, List, [], ◌∷◌, ◌++◌, length, refl, sym, ap, subst, ◌∙◌, arith, append_assoc, length-append, ◌⊎◌, inl, inr}
 use Rattle.std.proofs.lemmas.List.{append-nil}
 use Rattle.std.proofs.lemmas.Bool.{false≢true}
 use Rattle.cal_model.specs.declared.wire.WireFault.{WireFault}
 use Rattle.cal_model.specs.declared.wire.WireRequest.{WireRequest}
 use Rattle.cal_model.specs.Streams.Heads.{head_end, without_empty_lines}
-use Rattle.cal_model.specs.Streams.StreamRequests.{Ending, ends_idle, ends_cut, ends_at, Ends, IsStream, Spells, Begins, front, fault, idle, cut, closes_after}
+use Rattle.cal_model.specs.Streams.StreamRequests.{Ending, ends_idle, ends_cut, ends_at, Ends, Spells, Begins, front, idle, cut, closes_after}
 use Rattle.cal_model.specs.Streams.WireLimits.{body_limit}
 use Rattle.cal_model.specs.Transcripts.ConnectionAnswers.{Completed, whole, faulty, is_open, answered, Completes}
 use Rattle.cal_model.proofs.Streams.FrontLaws.{faults_stay}
 use Rattle.cal_model.proofs.Streams.ReadingLaws.{streams_are_read, streams_grow}
 use Rattle.http_wire.specs.Wires.{Stands, NextIs}
-use Rattle.http_wire.specs.declared.wire.Next.TheVariants.{Request as NextRequest, Need, Fault as NextFault, NoMemory as NextNoMemory}
+use Rattle.http_wire.specs.declared.wire.Next.TheVariants.{Request as NextRequest, Need, Fault as NextFault}
 use Rattle.http_wire.specs.declared.wire.Wire.{Wire}
 use Rattle.cal_script.specs.declared.connections.Connection.{Connection}
 use Rattle.cal_script.specs.Readings.{numbered, IsOpenReading, IsClosedReading, IsReading, Rests}

@@ -1,7 +1,7 @@
 -- Each reply has a status with a reason phrase, so that its octets can be written.
-use Rattle.std.proofs.Common.{◌≡◌, ℕ, zero, suc, ◌+◌, ◌<◌, Bool, true, false, List, [], ◌∷◌, ◌++◌, map, length, Option, Some, None, refl, sym, subst, arith, rules}
+use Rattle.std.proofs.Common.{◌≡◌, ℕ, zero, suc, ◌<◌, Bool, true, false, List, [], ◌∷◌, ◌++◌, map, length, Option, Some, None, refl, sym, subst, arith, rules}
 use Rattle.std.specs.List.{AllByRecursion}
-use Rattle.std.specs.Prelude.{◌≢◌, ◌==◌, is_some, int_lt, codes, if◌then◌else◌, unwrap_or, flat_map, ℤ, option_and_then, option_map, Ok, Err}
+use Rattle.std.specs.Prelude.{◌==◌, is_some, int_lt, codes, if◌then◌else◌, unwrap_or, flat_map, ℤ, option_and_then, option_map, Ok, Err}
 use Rattle.cal_model.specs.declared.object.Class.{Class}
 use Rattle.cal_model.specs.declared.property.PropName.{PropName}
 use Rattle.cal_model.specs.declared.property.PropSet.{PropSet}
@@ -401,7 +401,6 @@ reply_of-fine request (unchanged reply) more fine = fine
 pub reply_to-status : (directory : Directory) (state : ServerState) (event : Event) → FineContent event.request.content → Fine (reply_to directory state event).status
 reply_to-status directory state event fine = reply_of-fine event.request (outcome directory state event) fine (outcome-fine directory state event fine)
 
-
 -- What is asked for
 
 contained-fine : (refusals : List Refusal) (refusal : Refusal) → AllByRecursion (λ (r : Refusal). Fine r.status) refusals → Contains refusals refusal → Fine refusal.status
@@ -467,7 +466,7 @@ has-fine true who request path = tt
 has-fine false who request path = refl
 
 path-fine : (users : List User) (wire : WireRequest) (who : ℕ) (how : Method) (found : Option Path)
-    → RefusedFine (elim found [ | None ↦ refused (bare_reply 404) | Some path ↦ if has_method path how then asked who (request_at users wire how path) else refused (not_allowed path) ])
+    → RefusedFine (elim found [ None ↦ refused (bare_reply 404) | Some path ↦ if has_method path how then asked who (request_at users wire how path) else refused (not_allowed path) ])
 path-fine users wire who how None = refl
 path-fine users wire who how (Some path) = has-fine (has_method path how) who (request_at users wire how path) path
 

@@ -1,5 +1,5 @@
 -- What the book's reply to a request answers, and what is left of it.
-use Rattle.std.proofs.Common.{◌≡◌, ◌≢◌, ℕ, ◌<◌, ◌⊎◌, List, [], ◌∷◌, ◌++◌, length, refl, sym, ap, ap₂, subst, ◌∙◌, inl, inr}
+use Rattle.std.proofs.Common.{◌≡◌, ◌≢◌, ℕ, ◌<◌, List, [], length, sym, ap, ap₂, subst, ◌∙◌, inl, inr}
 use Rattle.std.specs.Prelude.{ℤ, pos}
 use Rattle.std.proofs.lemmas.Bool.Decides.{eqb_tells}
 use Rattle.std.proofs.lemmas.List.{append-nil}
@@ -7,18 +7,18 @@ use Rattle.cal_model.specs.declared.reply.Reply.{Reply}
 use Rattle.cal_model.specs.declared.request.Request.{Request}
 use Rattle.cal_model.specs.declared.wire.WireRequest.{WireRequest}
 use Rattle.cal_model.specs.History.Claims.{Work}
-use Rattle.cal_model.specs.History.Journal.{Entry, replay, IsLegal}
+use Rattle.cal_model.specs.History.Journal.{replay, IsLegal}
 use Rattle.cal_model.specs.Replies.BareReplies.{bare_reply}
 use Rattle.cal_model.specs.Replies.Statuses.{reason}
-use Rattle.cal_model.specs.Requests.AskedRequests.{Asked, asked, refused, asked_of}
+use Rattle.cal_model.specs.Requests.AskedRequests.{asked, asked_of}
 use Rattle.cal_model.specs.Requests.BookableRequests.{IsBookable}
-use Rattle.cal_model.specs.Serving.EventReplies.{reply_to, state_after}
+use Rattle.cal_model.specs.Serving.EventReplies.{reply_to}
 use Rattle.cal_model.specs.State.ServerState.{ServerState, directory_of}
-use Rattle.cal_model.specs.Transcripts.Transcript.{Answer, event_of, answer_to, without_memory, IsAnswer}
+use Rattle.cal_model.specs.Transcripts.Transcript.{Answer, event_of, answer_to, IsAnswer}
 use Rattle.cal_model.specs.Users.UsersFile.{User}
-use Rattle.cal_book.specs.Books.{Core, state_in}
-use Rattle.cal_book.specs.EventSteps.{entries_made, journal_after, work_after}
-use Rattle.cal_book.proofs.BookLaws.{journals_follow_states}
+use Rattle.cal_book.specs.Cores.{Core, state_in}
+use Rattle.cal_book.specs.EventSteps.{entries_made, work_after}
+use Rattle.cal_book.proofs.EventLemmas.{journals-follow}
 use Rattle.cal_script.specs.Answering.{Grows}
 use Rattle.cal_script.proofs.ReasonLaws.{reply-reason, busy-reason}
 
@@ -46,7 +46,7 @@ booked_answer users work connection who moment wire request reply new legal asks
       (state_with new users h.users_is ∙ ap (λ (w : Work). replay (directory_of users) w.journal) (h.kept same.1)))
   | inr other ↦ inl (ap₂ (λ (r : Reply) (s : ServerState). record { reply = r; server = s }) (h.replied other.1)
       (state_with new users h.users_is ∙ (ap (λ (w : Work). replay (directory_of users) w.journal) (h.worked other.1)
-      ∙ journals_follow_states users work.journal (event_of connection who moment request) legal bookable.size))
+      ∙ (journals-follow users work.journal (event_of connection who moment request) legal bookable.size).1))
       ∙ sym (ap (answer_to users (replay (directory_of users) work.journal) connection moment) asks))
 ]
 
@@ -63,9 +63,9 @@ pub booked_goes_on : (users : List User) (work : Work) (connection who moment : 
 booked_goes_on users work connection who moment request reply new h = elim (eqb_tells reply.status 503) [
   | inl same ↦ (ap (λ (w : Work). w.out) (h.kept same.1), ([], ap (λ (w : Work). w.journal) (h.kept same.1) ∙ sym (append-nil work.journal)))
   | inr other ↦ (
-      ap (λ (w : Work). w.out) (h.worked other.1),
-      (entries_made users (replay (directory_of users) work.journal) (event_of connection who moment request), ap (λ (w : Work). w.journal) (h.worked other.1)),
-    )
+    ap (λ (w : Work). w.out) (h.worked other.1),
+    (entries_made users (replay (directory_of users) work.journal) (event_of connection who moment request), ap (λ (w : Work). w.journal) (h.worked other.1)),
+  )
 ]
 
 pub booked_reason : (users : List User) (work : Work) (connection who moment : ℕ) (request : Request) (reply : Reply) (new : Core)
@@ -89,12 +89,12 @@ pub in_time : (mid : Core) (connection who moment : ℕ) (time : ℤ) (request :
     → new.users ≡ mid.users
     → (reply.status ≢ 503 → reply ≡ reply_to (directory_of mid.users) (state_in mid) (record { session = connection; who = who; moment = time; request = request }))
     → (reply.status ≢ 503 → new.work ≡ work_after mid.users (record { session = connection; who = who; moment = time; request = request }) mid.work)
-    → (reply.status ≡ 503 → reply ≡ bare_reply 503) → (reply.status ≡ 503 → new.work ≡ mid.work)
+    → (reply.status ≡ 503 → (reply ≡ bare_reply 503) × (new.work ≡ mid.work))
     → IsBooked mid.users mid.work connection who moment request reply new
-in_time mid connection who moment time request reply new e users replied worked busy kept = record {
+in_time mid connection who moment time request reply new e users replied worked busy = record {
   users_is = users;
   replied = subst (λ (t : ℤ). reply.status ≢ 503 → reply ≡ reply_to (directory_of mid.users) (state_in mid) (record { session = connection; who = who; moment = t; request = request })) e replied;
   worked = subst (λ (t : ℤ). reply.status ≢ 503 → new.work ≡ work_after mid.users (record { session = connection; who = who; moment = t; request = request }) mid.work) e worked;
-  busy = busy;
-  kept = kept;
+  busy = λ none. (busy none).0;
+  kept = λ none. (busy none).1;
 }

@@ -1,14 +1,14 @@
 -- How far a run has come, and how it ends there.
-use Rattle.std.proofs.Common.{◌≡◌, ◌≢◌, ℕ, ◌+◌, ◌-◌, ◌^◌, ◌<◌, ◌≤◌, List, [], ◌∷◌, ◌++◌, length, take, drop, codes, refl, sym, ap, subst, ◌∙◌, arith, append_assoc, length-append, length-take, Option, Some, None, IfSome, inl, inr, Bool, true, false, ◌==◌, if◌then◌else◌}
+use Rattle.std.proofs.Common.{◌≡◌, ◌≢◌, ℕ, ◌+◌, ◌-◌, ◌^◌, ◌<◌, ◌≤◌, List, [], ◌∷◌, ◌++◌, length, take, drop, refl, sym, ap, subst, ◌∙◌, arith, append_assoc, length-append, length-take, Option, Some, None, IfSome, inl, inr, Bool, true, false, ◌==◌, if◌then◌else◌}
 use Rattle.std.proofs.lemmas.Bool.{eqb-true, eqb-false}
 use Rattle.std.proofs.lemmas.Bool.Decides.{eqb_tells}
 use Rattle.std.proofs.lemmas.List.{append-nil, take-append-drop}
 use Rattle.std.proofs.lemmas.List.Elements.{All-nil}
 use Rattle.std.proofs.lemmas.Option.{same_Some}
-use Rattle.cal_base.specs.World.Outside.{Takes, Goes, Adds}
+use Rattle.cal_base.specs.World.Outside.{Takes, Goes}
 use Rattle.cal_base.proofs.World.Taking.{Takes-more}
-use Rattle.cal_model.specs.Transcripts.ScriptFrames.{Frame, bytes, frame_text, frames_text, IsFrame, IsCutInto}
-use Rattle.cal_model.specs.Transcripts.Transcript.{Standing, Follows, IsPrinted, IsPrintedInPart, at_start}
+use Rattle.cal_model.specs.Transcripts.ScriptFrames.{bytes, frame_text, frames_text, IsFrame}
+use Rattle.cal_model.specs.Transcripts.Transcript.{Standing, IsPrinted, at_start}
 use Rattle.cal_model.proofs.Transcripts.GrowingScripts.{scripts_go_on}
 use Rattle.cal_model.specs.Users.UsersFile.{User}
 use Rattle.cal_script.specs.AnsweredFrames.{AnsweredWhole, AnsweredInPart, AnsweredTo, HasAnswered}

@@ -1,24 +1,24 @@
 -- Where a script stands after the turn of a frame.
-use Rattle.std.proofs.Common.{◌≡◌, ◌≢◌, ℕ, zero, suc, ◌+◌, ◌<◌, ◌≤◌, Bool, true, false, not, ◌==◌, ◌&&◌, eq-eqb, ◌⊎◌, List, [], ◌∷◌, ◌++◌, length, Option, Some, None, refl, sym, ap, subst, ◌∙◌, arith, length-append, length-set, if◌then◌else◌, inl, inr}
-use Rattle.std.specs.Prelude.{pos, slice_get, slice_set, unwrap_or, replicate, get_or, filter}
-use Rattle.std.specs.List.{AllZip, All, Any}
+use Rattle.std.proofs.Common.{◌≡◌, ◌≢◌, ℕ, zero, suc, ◌<◌, Bool, true, false, not, ◌&&◌, eq-eqb, List, [], ◌∷◌, ◌++◌, length, Option, Some, refl, sym, ap, subst, ◌∙◌, arith, length-set, if◌then◌else◌, inl, inr}
+use Rattle.std.specs.Prelude.{option_and_then, slice_get, pos, slice_set, replicate, get_or, filter}
+use Rattle.std.specs.List.{AllZip, All}
 use Rattle.std.proofs.lemmas.Bool.{false≢true}
 use Rattle.std.proofs.lemmas.Bool.Decides.{eqb_tells}
-use Rattle.std.proofs.lemmas.List.{append-nil, length-replicate, replicate-append-replicate, get_or-set_same, get_or-set_other}
+use Rattle.std.proofs.lemmas.List.{length-replicate, get_or-set_same, get_or-set_other}
 use Rattle.std.proofs.lemmas.List.Elements.{All-nil, All-cons, All-head, All-tail, All-append, All-set}
 use Rattle.std.proofs.lemmas.Slice.Zip.{AllZip-long}
 use Rattle.std.proofs.lemmas.Option.{unwrap_or-slice_get, same_Some}
 use Rattle.cal_model.specs.Words.Integers.{same_int}
-use Rattle.cal_base.specs.World.Outside.{Adds}
 use Rattle.cal_model.proofs.TimeZones.Instants.{same_int-self}
 use Rattle.cal_model.specs.History.Claims.{Pair, Work, same_pair, with_claim, without_claim}
+use Rattle.cal_model.specs.History.LiveObjects.{Placed, placed_by}
+use Rattle.cal_book.specs.declared.claims.Claim.{Claim}
 use Rattle.cal_model.specs.History.Journal.{Entry, IsLegal, replay}
-use Rattle.cal_model.specs.State.ServerState.{ServerState, directory_of, opening_state}
-use Rattle.cal_model.specs.Transcripts.ScriptFrames.{Frame, bytes, worker, last_connection, last_slot}
+use Rattle.cal_model.specs.State.ServerState.{directory_of, opening_state}
+use Rattle.cal_model.specs.Transcripts.ScriptFrames.{bytes, worker}
 use Rattle.cal_model.specs.Transcripts.Transcript.{Standing, at_start, stream_of, fed, Prints}
 use Rattle.cal_model.specs.Users.UsersFile.{User}
-use Rattle.cal_book.proofs.BookLaws.{claims_stay}
-use Rattle.cal_book.specs.ClaimsInJournals.{IsClaimIn, pair_of_claim}
+use Rattle.cal_book.specs.Publishing.{IsClaimIn, pair_of_claim}
 use Rattle.cal_script.specs.Answering.{Grows, GoesOn, IsServer, state_of, WroteAll, WroteInPart}
 use Rattle.cal_script.specs.AnsweredFrames.{TookTurn, TookTurnInPart}
 use Rattle.cal_script.specs.FrameHeads.{step_of}
@@ -56,11 +56,17 @@ side_set (x ∷ streams) [] k s c all one = elim all [ ]
 side_set (x ∷ streams) (y ∷ connections) zero s c all one = (one, all.1)
 side_set (x ∷ streams) (y ∷ connections) (suc k) s c all one = (all.0, side_set streams connections k s c all.1 one)
 
-pub slots_more : (slots : List Slot) → slots ≡ replicate (length slots) Empty → slots ++ Empty ∷ [] ≡ replicate (length (slots ++ Empty ∷ [])) Empty
-slots_more slots e =
-    ap (λ xs. xs ++ Empty ∷ []) e ∙ (replicate-append-replicate (length slots) 1 Empty ∙ ap (λ n. replicate n Empty) (sym (length-append slots (Empty ∷ []))))
-
 -- Slots and claims
+
+-- an entry that is there stays
+entry_stays : (journal more : List Entry) (n : ℕ) (placed : Placed) → option_and_then (λ (entry : Entry). placed_by entry.change) (slice_get journal n) ≡ Some placed
+    → option_and_then (λ (entry : Entry). placed_by entry.change) (slice_get (journal ++ more) n) ≡ Some placed
+entry_stays [] more n placed e = absurd (cc)
+entry_stays (x ∷ xs) more zero placed e = e
+entry_stays (x ∷ xs) more (suc n) placed e = entry_stays xs more n placed e
+
+claims_stay : (journal more : List Entry) (claim : Claim) → IsClaimIn journal claim → IsClaimIn (journal ++ more) claim
+claims_stay journal more claim h = entry_stays journal more claim.origin _ h
 
 slot_stays : (journal more : List Entry) (slot : Slot) → IsSlotIn journal slot → IsSlotIn (journal ++ more) slot
 slot_stays journal more Empty h = tt
@@ -93,9 +99,6 @@ ended_slot journal pair work after now h = subst (IsSlotIn journal) (sym h.slot)
 kept_slot : (journal : List Entry) (before after : Slot) → after ≡ before → IsSlotIn journal before → IsSlotIn journal after
 kept_slot journal before after e h = subst (IsSlotIn journal) (sym e) h
 
-expanded_slot : (journal : List Entry) (before : Slot) (after : Slot) → IsSlotIn journal before → after ≡ before → IsSlotIn journal after
-expanded_slot journal before after h e = subst (IsSlotIn journal) (sym e) h
-
 turn_slot : (what : Action) (before : Slot) (work : Work) (after : Slot) (now : Work) → SlotTurn what before work after now → IsSlotIn work.journal before → IsSlotIn work.journal after
 turn_slot action.Claim Empty work after now (inl h) s = subst (IsSlotIn work.journal) (sym h.slot) h.of_journal
 turn_slot action.Claim Empty work after now (inr h) s = kept_slot work.journal Empty after h.0 s
@@ -122,8 +125,13 @@ at_any (s ∷ slots) (suc j) d e h = at_any slots j d e (omega (arith, h))
 held_same : (slots : List Slot) (k : ℕ) (before after : Slot) (pair : Pair) → k < length slots → get_or slots k before ≡ before → pair_in after ≡ pair_in before
     → IsHeld slots pair → IsHeld (slice_set slots k after) pair
 held_same slots k before after pair h here same (j, slot, within, at, holds) = elim (eqb_tells j k) [
-  | inl e ↦ (k, after, omega (arith, length-set slots k after, h), get_or-set_same slots k after after h,
-      same ∙ ap pair_in (sym here ∙ (ap (λ n. get_or slots n before) (sym e.1) ∙ at_any slots j before slot within ∙ at)) ∙ holds)
+  | inl e ↦ (
+    k,
+    after,
+    omega (arith, length-set slots k after, h),
+    get_or-set_same slots k after after h,
+    same ∙ ap pair_in (sym here ∙ (ap (λ n. get_or slots n before) (sym e.1) ∙ at_any slots j before slot within ∙ at)) ∙ holds,
+  )
   | inr e ↦ (j, slot, omega (arith, length-set slots k after, within), get_or-set_other slots k j after slot e.1 ∙ at, holds)
 ]
 
@@ -304,10 +312,6 @@ stands_turned standing script next what before after stands turn book_users conn
 pub took_worker : (users : List User) (standing : Standing) (next : Script) (what : Action) (k : ℕ) (written : Option (List ℕ))
     → StandsAt standing next → TookTurn users (worker (step_of what) k) standing next written written
 took_worker users standing next what k written stands = record { printed = []; after = standing; turn = (refl, refl); added = adds_none written; stands = stands }
-
--- the slot is one of the journal
-pub slot_of_journal : (script : Script) (k : ℕ) (d : Slot) → IsSound script → k < length script.slots.items → IsSlotIn script.server.book.work.journal (get_or script.slots.items k d)
-slot_of_journal script k d sound h = sound.claims k d h
 
 -- The start
 

@@ -1,17 +1,17 @@
 -- Answering what the octets of one frame complete: what is printed, and the state after it.
 -- Given: the users, the number of a connection and a moment.
-use Rattle.std.specs.Prelude.{◌≡◌, ℕ, List, [], ◌∷◌, ◌++◌, take, pos, Option, Result, IfOk}
+use Rattle.std.specs.Prelude.{◌≡◌, ℕ, List, ◌++◌, take, pos, Option, Result, IfOk}
 use Rattle.cal_base.specs.World.Outside.{Adds}
 use Rattle.cal_base.specs.declared.no_memory.NoMemory.{NoMemory}
 use Rattle.cal_model.specs.declared.wire.WireRequest.{WireRequest}
 use Rattle.cal_model.specs.History.Journal.{Entry, IsLegal}
-use Rattle.cal_model.specs.Replies.WireReplies.{answer_octets, fault_octets}
+use Rattle.cal_model.specs.Replies.WireReplies.{answer_octets}
 use Rattle.cal_model.specs.State.ServerState.{ServerState, directory_of}
 use Rattle.cal_model.specs.Transcripts.ConnectionAnswers.{Completed, Completes}
 use Rattle.cal_model.specs.Transcripts.ScriptFrames.{reply_frame}
 use Rattle.cal_model.specs.Transcripts.Transcript.{Answer, IsAnswer, Prints}
 use Rattle.cal_model.specs.Users.UsersFile.{User}
-use Rattle.cal_book.specs.Books.{state_in}
+use Rattle.cal_book.specs.Cores.{state_in}
 use Rattle.cal_script.specs.declared.server.Server.{Server}
 
 -- the state of a server

@@ -1,9 +1,9 @@
 -- How a connection is read: which of what its octets complete was given out, and what is due next.
 -- Given: the octets that came on a connection so far, and what was given out of them. Which that is at the end of a frame says `Transcripts.ConnectionAnswers`.
-use Rattle.std.specs.Prelude.{◌≡◌, ◌⊎◌, ℕ, ◌+◌, ◌-◌, ◌≤◌, ◌<◌, Bool, true, false, List, [], ◌∷◌, ◌++◌, length, map, if◌then◌else◌}
+use Rattle.std.specs.Prelude.{◌≡◌, ◌⊎◌, ℕ, ◌+◌, ◌-◌, ◌≤◌, ◌<◌, true, false, List, [], ◌∷◌, ◌++◌, length, map, if◌then◌else◌}
 use Rattle.std.specs.List.{enumerate_from}
 use Rattle.cal_model.specs.declared.wire.WireRequest.{WireRequest}
-use Rattle.cal_model.specs.Streams.StreamRequests.{Spells, front, idle, cut}
+use Rattle.cal_model.specs.Streams.StreamRequests.{Spells}
 use Rattle.cal_model.specs.Streams.WireLimits.{request_limit, body_limit}
 use Rattle.cal_model.specs.Transcripts.ConnectionAnswers.{Completed, whole, faulty, is_open, Completes}
 use Rattle.http_wire.specs.Wires.{Stands}

@@ -1,11 +1,11 @@
 -- How a run of a script ends.
 -- Given: what the input told before and after the run, and what the output did.
-use Rattle.std.specs.Prelude.{◌≡◌, ◌≢◌, ◌⊎◌, ℕ, ◌+◌, List, [], ◌∷◌, ◌++◌, length, bytes_eq, not, ◌&&◌, if◌then◌else◌, Option, Some, None, IfSome, codes}
+use Rattle.std.specs.Prelude.{◌≡◌, ◌≢◌, ◌⊎◌, ℕ, ◌+◌, List, [], ◌∷◌, length, bytes_eq, not, ◌&&◌, if◌then◌else◌, Option, Some, None, IfSome, codes}
 use Rattle.cal_base.specs.World.Outside.{Takes, Adds}
 use Rattle.cal_model.specs.Transcripts.Transcript.{IsPrinted, IsPrintedInPart}
 use Rattle.cal_model.specs.Users.UsersFile.{User}
 use Rattle.cal_script.specs.FrameHeads.{IsFrameStart}
-use Rattle.cal_script.specs.UsersTaken.{AreUsersOf, IsRefused, IsRefusedAt}
+use Rattle.cal_script.specs.UsersTaken.{AreUsersOf}
 use Rattle.cal_script.specs.declared.running.FrameEnd.{FrameEnd}
 use Rattle.cal_script.specs.declared.running.FrameEnd.TheVariants.{Done, Frame, Input, Output, NoMemory}
 

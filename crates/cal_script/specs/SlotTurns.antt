@@ -2,9 +2,9 @@
 use Rattle.std.specs.Prelude.{◌≡◌, ◌⊎◌, List, Option, Some, None}
 use Rattle.cal_model.specs.History.Claims.{Pair, Work, next_claim, with_claim, without_claim}
 use Rattle.cal_model.specs.History.Journal.{Entry}
-use Rattle.cal_book.specs.ClaimsInJournals.{IsClaimIn, pair_of_claim}
-use Rattle.cal_book.specs.declared.claim.Claim.{Claim}
-use Rattle.cal_book.specs.declared.claim.Expanded.{Expanded as ExpandedClaim}
+use Rattle.cal_book.specs.Publishing.{IsClaimIn, pair_of_claim}
+use Rattle.cal_book.specs.declared.claims.Claim.{Claim}
+use Rattle.cal_book.specs.declared.claims.Expanded.{Expanded as ExpandedClaim}
 use Rattle.cal_script.specs.declared.head.Action.{Action}
 use Rattle.cal_script.specs.declared.head.Action.TheVariants as action
 use Rattle.cal_script.specs.declared.slots.Slot.{Slot}

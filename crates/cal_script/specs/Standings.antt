@@ -1,5 +1,5 @@
 -- Where a running script stands.
-use Rattle.std.specs.Prelude.{◌≡◌, ℕ, ◌+◌, ◌<◌, List, length, All, Some}
+use Rattle.std.specs.Prelude.{◌≡◌, ◌+◌, List, length, All, Some}
 use Rattle.std.specs.List.{AllZip, Any}
 use Rattle.cal_model.specs.History.Claims.{Pair}
 use Rattle.cal_model.specs.Transcripts.ScriptFrames.{last_connection, last_slot}

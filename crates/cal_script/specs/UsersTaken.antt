@@ -15,7 +15,3 @@ pub record AreUsersOf (octets : List ℕ) (users : List User) : Type 0 where
 abbrev pub IsRefusedAt : List ℕ → ℕ → Type 0
 IsRefusedAt octets place =
     ((file_limit < length octets) × (place ≡ file_limit)) ⊎ ((length octets ≤ file_limit) × (users_of octets ≡ Err place))
-
--- no users are those of a file that is refused
-abbrev pub IsRefused : List ℕ → Type 0
-IsRefused octets = (place : ℕ) × IsRefusedAt octets place

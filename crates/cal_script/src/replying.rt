@@ -86,7 +86,14 @@ pub(crate) fn answer<L: Ledger>(
     ensures server { IsServer server.new }
     ensures goes_on { GoesOn server.old server.new }
 {
-    let reply = reply_to(alloc, server, arrival.connection, arrival.moment, &wire, steps);
+    let reply = reply_to(
+        alloc,
+        server,
+        arrival.connection,
+        arrival.moment,
+        &wire,
+        steps,
+    );
     answer_octets(alloc, before, &wire, &reply, arrival.moment)
 }
 

@@ -121,7 +121,14 @@ fn take_bytes<O: Sink, L: Ledger>(
     ensures never_falls { O.faults output.old ≤ O.faults output.new }
 {
     let connection = &mut script.connections[arrival.connection];
-    match answer_arrival(alloc, &mut script.server, connection, arrival, output, steps) {
+    match answer_arrival(
+        alloc,
+        &mut script.server,
+        connection,
+        arrival,
+        output,
+        steps,
+    ) {
         Ok(()) => Ok(()),
         Err(stop) => Err(stop),
     }

@@ -1,6 +1,7 @@
 //! The slots of workers.
 ghost use Rattle.std.specs.Prelude.{◌≡◌, ◌⊎◌};
-ghost use Rattle.cal_script.specs.SlotTurns.{IsSlotIn, SlotTurn, ExpandsClaim};
+ghost use Rattle.cal_script.specs.SlotTurns.{IsSlotIn, SlotTurn, ExpandsClaim, EndsClaim};
+ghost use Rattle.cal_book.specs.Publishing.{IsClaimIn, pair_of_claim};
 
 use crate::head::Action;
 use cal_base::Steps;
@@ -36,11 +37,9 @@ pub(crate) fn act<L: Ledger>(
     match (action, mem::replace(slot, Slot::Empty)) {
         (Action::Claim, Slot::Empty) => *slot = claimed(book),
         (Action::Expand, Slot::Claimed(claim)) => *slot = expanded(alloc, claim, steps),
-        (Action::Publish, Slot::Expanded(expanded)) => {
-            let _ = book.publish(expanded, steps);
-        }
-        (Action::Abandon, Slot::Claimed(claim)) => book.abandon(claim),
-        (Action::Abandon, Slot::Expanded(expanded)) => book.abandon(expanded.claim),
+        (Action::Publish, Slot::Expanded(expanded)) => publish(book, expanded, steps),
+        (Action::Abandon, Slot::Claimed(claim)) => abandon(book, claim),
+        (Action::Abandon, Slot::Expanded(expanded)) => abandon(book, expanded.claim),
         (_, other) => *slot = other,
     }
 }
@@ -52,7 +51,8 @@ fn claimed(book: &mut Book) -> Slot
 {
     match book.claim() {
         Ok(Some(claim)) => Slot::Claimed(claim),
-        _ => Slot::Empty,
+        Ok(None) => Slot::Empty,
+        Err(_) => Slot::Empty,
     }
 }
 
@@ -64,4 +64,21 @@ fn expanded<L: Ledger>(alloc: Global, claim: Claim, steps: &mut Steps<L>) -> Slo
         Ok(expanded) => Slot::Expanded(expanded),
         Err((claim, _)) => Slot::Claimed(claim),
     }
+}
+
+/// Hands the rows of a claim in, which ends whatever becomes of them.
+fn publish<L: Ledger>(book: &mut Book, expanded: Expanded, steps: &mut Steps<L>)
+    requires { IsClaimIn book.old.work.journal expanded.claim }
+    ensures ends { EndsClaim (pair_of_claim expanded.claim) book.old.work Slot.Empty book.new.work }
+    ensures users { book.new.users ≡ book.old.users }
+{
+    let _ = book.publish(expanded, steps);
+}
+
+/// Gives a claim up.
+fn abandon(book: &mut Book, claim: Claim)
+    ensures ends { EndsClaim (pair_of_claim claim) book.old.work Slot.Empty book.new.work }
+    ensures users { book.new.users ≡ book.old.users }
+{
+    book.abandon(claim);
 }

@@ -1,8 +1,8 @@
 use Rattle.std.proofs.Common.{sym, ◌∙◌, subst}
 use Rattle.std.proofs.lemmas.Bool.{false≢true}
 use Rattle.cal_model.specs.History.KeptChanges.{kept_change}
-use Rattle.changing_checks.specs.Checks.{IsChecked}
-use Rattle.state_history.specs.KeptHistories.{users_in, directory_in}
+use Rattle.cal_book.specs.Checking.Checks.{IsChecked}
+use Rattle.cal_book.specs.Keeping.KeptHistories.{users_in, directory_in}
 use Rattle.cal_book.specs.EventSteps.{state_behind}
 use Rattle.cal_book.specs.UpToDate.{work_with}
 use Rattle.cal_book.proofs.ChangeLemmas.{delete-asks, reply-deletion}

@@ -1,7 +1,7 @@
 use Rattle.std.proofs.Common.{subst}
-use Rattle.book_view.specs.ShownStates.{shown_directory, shown_state}
-use Rattle.changing_checks.specs.Checks.{IsChecked}
-use Rattle.state_history.specs.KeptHistories.{state_in}
+use Rattle.cal_book.specs.Showing.ShownStates.{shown_directory}
+use Rattle.cal_book.specs.Checking.Checks.{IsChecked}
+use Rattle.cal_book.specs.Keeping.KeptHistories.{state_in}
 use Rattle.cal_book.proofs.changing.check.Goals as goal
 
 pub returns-clause-checked : goal.returns-clause-checked

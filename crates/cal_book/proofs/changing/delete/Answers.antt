@@ -1,9 +1,9 @@
-use Rattle.std.proofs.Common.{◌≡◌, ◌∷◌, ◌++◌, [], List, ℕ, sym, ap, ◌∙◌, subst}
+use Rattle.std.proofs.Common.{◌∷◌, ◌++◌, [], List, ℕ, sym, ap, ◌∙◌, subst}
 use Rattle.std.specs.Prelude.{IsSome}
 use Rattle.cal_model.specs.History.Journal.{entry_of}
 use Rattle.cal_model.specs.State.Changes.{delete_object, delete_calendar, effect}
 use Rattle.cal_model.specs.State.ServerState.{calendar_at, octets_at}
-use Rattle.state_history.specs.KeptHistories.{IsNext, users_in, directory_in, state_in}
+use Rattle.cal_book.specs.Keeping.KeptHistories.{IsNext, users_in, directory_in, state_in}
 use Rattle.cal_book.proofs.ChangeLemmas.{object-deleted, calendar-deleted}
 use Rattle.cal_book.proofs.EventLemmas.{journal-accepted}
 use Rattle.cal_book.proofs.changing.delete.Goals as goal

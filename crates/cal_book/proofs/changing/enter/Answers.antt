@@ -1,8 +1,7 @@
-use Rattle.std.proofs.Common.{ℕ}
 use Rattle.cal_model.specs.History.KeptChanges.{kept_change}
 use Rattle.cal_model.specs.State.Changes.{effect}
-use Rattle.state_history.specs.KeptHistories.{users_in, directory_in, state_in}
-use Rattle.state_history.proofs.AcceptedEntries.{is_next}
+use Rattle.cal_book.specs.Keeping.KeptHistories.{users_in, directory_in, state_in}
+use Rattle.cal_book.proofs.Keeping.AcceptedEntries.{is_next}
 use Rattle.cal_book.proofs.ChangeLemmas.{on_ok}
 use Rattle.cal_book.proofs.EventLemmas.{journal-accepted}
 use Rattle.cal_book.proofs.changing.enter.Goals as goal

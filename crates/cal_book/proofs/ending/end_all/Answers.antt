@@ -1,12 +1,11 @@
-use Rattle.std.proofs.Common.{◌≡◌, ℕ, length, Some, List, refl, sym, ap, ◌∙◌, subst, arith}
+use Rattle.std.proofs.Common.{◌≡◌, length, Some, refl, sym, ap, ◌∙◌, subst, arith}
 use Rattle.std.proofs.lemmas.List.Filters.{length-filter_both}
 use Rattle.cal_model.specs.declared.stored.Stored.{Stored}
-use Rattle.cal_model.specs.History.LiveObjects.{Placed, is_in_calendar}
 use Rattle.cal_model.specs.Pieces.PieceLists.{is_other_piece, is_piece_of}
 use Rattle.cal_model.specs.State.StoredData.{next_object}
 use Rattle.cal_model.proofs.State.NameWalkLaws.{objects_above-next}
 use Rattle.piece_claims.specs.Boards.{Board}
-use Rattle.state_history.specs.KeptHistories.{directory_in, state_in, origins_in}
+use Rattle.cal_book.specs.Keeping.KeptHistories.{directory_in, state_in, origins_in}
 use Rattle.cal_book.specs.EndedObjects.{IsWithout, is_passed}
 use Rattle.cal_book.proofs.HistoryLemmas.{step-octets, step-sound}
 use Rattle.cal_book.proofs.StepLemmas.{origin-within}
@@ -29,7 +28,7 @@ ended-requires g c =
     let step = c.entries-entries.ensures.step in
     let stored = c.in-Some.stored.now in
     let known : origins_in history c.args.home c.args.calendar.now stored.path.object ≡ Some c.in-Some.origin =
-        ap (λ o. o c.args.home c.args.calendar.now stored.path.object) (sym c.view-view.ensures.origins) ∙ c.in-Some.ensures.origin in
+    ap (λ o. o c.args.home c.args.calendar.now stored.path.object) (sym c.view-view.ensures.origins) ∙ c.in-Some.ensures.origin in
     let within = origin-within history.journal (origins_in history) step.live c.args.home c.args.calendar.now stored.path.object c.in-Some.origin known in
     let size = c.requires.kept.entries in
     let same = c.objects.invariant.gone.size in
@@ -41,9 +40,9 @@ objects-smaller g c =
     let step = c.entries-entries.ensures.step in
     let stored = c.in-Some.stored.now in
     let there : next_object (state_in history) c.args.home c.args.calendar.now c.objects.last.now ≡ Some (stored.path.object, stored.octets) =
-        ap (λ s. next_object s c.args.home c.args.calendar.now c.objects.last.now) (sym c.view-view.ensures.state) ∙ sym c.in-Some.ensures.octets in
+    ap (λ s. next_object s c.args.home c.args.calendar.now c.objects.last.now) (sym c.view-view.ensures.state) ∙ sym c.in-Some.ensures.octets in
     let above = objects_above-next (directory_in history) (state_in history) c.args.home c.args.calendar.now c.objects.last.now (stored.path.object, stored.octets)
-        (step-sound history.users history.store history.journal step) there in
+    (step-sound history.users history.store history.journal step) there in
     let last : c.as_slice-last.result.now ≡ stored.path.object = c.as_slice-last.ensures ∙ ap (λ (s : Stored). s.path.object) c.deref.ensures in
     let size = ap length above in
     rw last (omega (arith, size))
@@ -54,13 +53,13 @@ objects-preserved g c =
     let step = c.entries-entries.ensures.step in
     let stored = c.in-Some.stored.now in
     let known : origins_in history c.args.home c.args.calendar.now stored.path.object ≡ Some c.in-Some.origin =
-        ap (λ o. o c.args.home c.args.calendar.now stored.path.object) (sym c.view-view.ensures.origins) ∙ c.in-Some.ensures.origin in
+    ap (λ o. o c.args.home c.args.calendar.now stored.path.object) (sym c.view-view.ensures.origins) ∙ c.in-Some.ensures.origin in
     let there : next_object (state_in history) c.args.home c.args.calendar.now c.objects.last.now ≡ Some (stored.path.object, stored.octets) =
-        ap (λ s. next_object s c.args.home c.args.calendar.now c.objects.last.now) (sym c.view-view.ensures.state) ∙ sym c.in-Some.ensures.octets in
+    ap (λ s. next_object s c.args.home c.args.calendar.now c.objects.last.now) (sym c.view-view.ensures.state) ∙ sym c.in-Some.ensures.octets in
     let last : c.as_slice-last.result.now ≡ stored.path.object = c.as_slice-last.ensures ∙ ap (λ (s : Stored). s.path.object) c.deref.ensures in
     let next = walk-next history.journal (origins_in history) (directory_in history) (state_in history) step.live (step-octets history.users history.store history.journal step)
-        (step-sound history.users history.store history.journal step) c.args.home c.args.calendar.now c.objects.last.now stored.path.object stored.octets c.in-Some.origin there known
-        c.args.claims.now c.objects.claims c.requires.kept c.objects.invariant.gone in
+    (step-sound history.users history.store history.journal step) c.args.home c.args.calendar.now c.objects.last.now stored.path.object stored.octets c.in-Some.origin there known
+    c.args.claims.now c.objects.claims c.requires.kept c.objects.invariant.gone in
     let both = length-filter_both (is_piece_of c.in-Some.origin) (is_other_piece c.in-Some.origin) (λ x. refl) c.objects.claims.pieces in
     let left = ap (λ (b : Board). length b.pieces) c.ended.ensures.board in
     let cost = c.ended.ensures.cost in

@@ -1,6 +1,6 @@
-use Rattle.std.proofs.Common.{◌≡◌, ℕ, ◌+◌, length}
+use Rattle.std.proofs.Common.{◌≡◌, ◌+◌, length}
 use Rattle.cal_model.specs.State.NameWalks.{objects_above}
-use Rattle.state_history.specs.KeptHistories.{state_in}
+use Rattle.cal_book.specs.Keeping.KeptHistories.{state_in}
 use Rattle.cal_book.specs.EndedObjects.{IsWithout, is_passed}
 use Rattle.cal_book.proofs.ending.end_all.Given as goal
 

@@ -1,6 +1,6 @@
 use Rattle.std.proofs.Common.{false, refl}
 use Rattle.cal_model.specs.State.Changes.{delete_calendar}
-use Rattle.state_history.specs.Deletions.{asked_entry}
+use Rattle.cal_book.specs.Keeping.Deletions.{asked_entry}
 use Rattle.cal_book.proofs.StepLemmas.{step-pieces, step-kept}
 use Rattle.cal_book.proofs.making.delete_calendar.Goals as goal
 

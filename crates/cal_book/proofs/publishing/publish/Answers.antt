@@ -1,4 +1,4 @@
-use Rattle.std.proofs.Common.{◌≡◌, ◌≤◌, Some, List, length, rules, refl, sym, ap, ◌∙◌, subst, FitsSigned, w32}
+use Rattle.std.proofs.Common.{◌≤◌, List, length, rules, refl, sym, ap, ◌∙◌, subst, FitsSigned, w32}
 use Rattle.std.specs.Prelude.{IsSome, is_some}
 use Rattle.std.proofs.lemmas.Int.{to_z-of_z}
 use Rattle.cal_model.specs.History.Claims.{without_claim}
@@ -6,7 +6,7 @@ use Rattle.cal_model.specs.declared.row.Row.{Row}
 use Rattle.cal_model.specs.declared.stored.Stored.{Stored}
 use Rattle.cal_model.specs.History.Origins.{Origins}
 use Rattle.piece_claims.specs.Boards.{ended, pair_at, piece_at, published}
-use Rattle.state_history.specs.KeptHistories.{origins_in}
+use Rattle.cal_book.specs.Keeping.KeptHistories.{origins_in}
 use Rattle.cal_book.specs.UpToDate.{IsUpToDate, work_with}
 use Rattle.cal_book.proofs.HeldPieces.{AreLive-same}
 use Rattle.cal_book.proofs.PublishLemmas.{live-now, stale-now, piece-right, published-kept, window-limited}
@@ -19,8 +19,7 @@ returns-then-not-is_origin-clause-published g c =
     let live = c.entries-entries.ensures.step.live in
     let now_is = c.origin_now-now.ensures ∙ ap (λ (s : Stored). origins_in history s.path.home s.path.calendar s.path.object) c.deref.ensures in
     let fits : FitsSigned w32 c.args.expanded.claim.window = search rules in
-    let same = to_z-of_z w32 c.args.expanded.claim.window fits in
-    (
+    let same = to_z-of_z w32 c.args.expanded.claim.window fits in (
       stale-now history.journal (origins_in history) live claim.origin claim.stored c.requires.of_book (λ e. c.is_origin.ensures.other c.if-not-is_origin.true (now_is ∙ e)),
       (λ origins others. now_is ∙ ap (λ (o : Origins). o claim.stored.path.home claim.stored.path.calendar claim.stored.path.object) (AreLive-same history.journal (origins_in history) origins live others)),
       ap (work_with history.journal) c.abandon.ensures
@@ -49,8 +48,7 @@ returns-in-Ok-clause-published g c =
     let now_is = c.origin_now-now.ensures ∙ ap (λ (s : Stored). origins_in history s.path.home s.path.calendar s.path.object) c.deref.ensures in
     let there = live-now history.journal (origins_in history) live claim.origin claim.stored c.requires.of_book (sym now_is ∙ c.is_origin.ensures.held c.if-not-is_origin.false) in
     let fits : FitsSigned w32 c.args.expanded.claim.window = search rules in
-    let same = to_z-of_z w32 c.args.expanded.claim.window fits in
-    (
+    let same = to_z-of_z w32 c.args.expanded.claim.window fits in (
       subst IsSome (sym there) refl,
       ap (work_with history.journal) c.in-Ok.ensures.ok ∙ ap (λ window. work_with history.journal (published (piece_at claim.origin window c.args.expanded.rows) c.args.claims.now)) same,
     )
@@ -62,7 +60,7 @@ returns-in-Ok-clause-kept g c =
     let live = c.entries-entries.ensures.step.live in
     let now_is = c.origin_now-now.ensures ∙ ap (λ (s : Stored). origins_in history s.path.home s.path.calendar s.path.object) c.deref.ensures in
     let right = piece-right history.journal (origins_in history) live claim.origin claim.stored c.requires.of_book (sym now_is ∙ c.is_origin.ensures.held c.if-not-is_origin.false)
-        claim.window c.args.expanded.rows c.args.expanded.of_it in
+    claim.window c.args.expanded.rows c.args.expanded.of_it in
     let fits : FitsSigned w32 c.args.expanded.claim.window = search rules in
     let same = to_z-of_z w32 c.args.expanded.claim.window fits in
     subst (IsUpToDate history.journal) (sym (c.in-Ok.ensures.ok ∙ ap (λ window. published (piece_at claim.origin window c.args.expanded.rows) c.args.claims.now) same))
@@ -76,8 +74,7 @@ returns-clause-published g c =
     let now_is = c.origin_now-now.ensures ∙ ap (λ (s : Stored). origins_in history s.path.home s.path.calendar s.path.object) c.deref.ensures in
     let there = live-now history.journal (origins_in history) live claim.origin claim.stored c.requires.of_book (sym now_is ∙ c.is_origin.ensures.held c.if-not-is_origin.false) in
     let fits : FitsSigned w32 c.args.expanded.claim.window = search rules in
-    let same = to_z-of_z w32 c.args.expanded.claim.window fits in
-    (
+    let same = to_z-of_z w32 c.args.expanded.claim.window fits in (
       subst IsSome (sym there) refl,
       ap (work_with history.journal) c.in-Err.ensures.err ∙ ap (λ window. work_with history.journal (ended claim.origin window c.args.claims.now)) same,
     )

@@ -1,16 +1,16 @@
-use Rattle.std.proofs.Common.{◌≡◌, ℕ, List, Some, None, sym, ap, ◌∙◌, subst}
+use Rattle.std.proofs.Common.{◌≡◌, ℕ, sym, ap, ◌∙◌, subst}
 use Rattle.std.specs.Prelude.{ℤ, IfOk, ◌≤◌, ◌+◌}
 use Rattle.cal_model.specs.declared.reply.Reply.{Reply}
 use Rattle.cal_model.specs.Pieces.PieceLists.{rows_at}
 use Rattle.cal_model.specs.Serving.EventReplies.{reply_of}
-use Rattle.cal_model.specs.Serving.Outcomes.{unchanged, scene_by}
+use Rattle.cal_model.specs.Serving.Outcomes.{scene_by}
 use Rattle.cal_model.specs.Serving.ReadingReplies.{reading_reply}
 use Rattle.cal_model.specs.Sight.Views.{sight_of}
 use Rattle.cal_model.proofs.Sight.LookingAlikeLaws.{outcome-reading}
-use Rattle.book_view.specs.ShownStates.{shown_directory, shown_state, shown_origins}
+use Rattle.cal_book.specs.Showing.ShownStates.{shown_state}
 use Rattle.dav_reports.specs.CalendarObjects.{AreHeldRight}
-use Rattle.reading_answers.specs.ReadingCost.{reading_cost}
-use Rattle.state_history.specs.KeptHistories.{users_in, directory_in, state_in, origins_in}
+use Rattle.cal_book.specs.Answering.ReadingCost.{reading_cost}
+use Rattle.cal_book.specs.Keeping.KeptHistories.{users_in, directory_in, state_in, origins_in}
 use Rattle.cal_book.specs.EventSteps.{state_behind}
 use Rattle.cal_book.specs.UpToDate.{work_with}
 use Rattle.cal_book.proofs.HeldPieces.{AreHeldRight-right, AreLive-same}
@@ -23,7 +23,7 @@ answer_reading-answer-requires-clause-right g c home calendar =
     let history = c.args.history.now in
     let step = c.entries-entries.ensures.step in
     let right = AreHeldRight-right history.journal (origins_in history) (state_in history) c.args.claims.now.pieces step.live (step-octets history.users history.store history.journal step) c.requires.kept.right
-        (directory_in history) (step-sound history.users history.store history.journal step) home calendar in
+    (directory_in history) (step-sound history.users history.store history.journal step) home calendar in
     subst (λ o. AreHeldRight (λ (origin : ℕ) (window : ℤ). rows_at origin window c.args.claims.now.pieces) o (shown_state c.view-view.result) home calendar) (sym c.view-view.ensures.origins)
     (subst (λ s. AreHeldRight (λ (origin : ℕ) (window : ℤ). rows_at origin window c.args.claims.now.pieces) (origins_in history) s home calendar) (sym c.view-view.ensures.state) right)
 
@@ -34,9 +34,9 @@ returns-clause-reply g c =
     let view = c.view-view.ensures in
     let step = c.entries-entries.ensures.step in
     let answered =
-        ap (λ d. reading_reply (scene_by sight_of d (shown_state c.view-view.result) event) event.moment event.request) view.directory
-        ∙ ap (λ s. reading_reply (scene_by sight_of (directory_in history) s event) event.moment event.request) (view.state ∙ step.state_is)
-        ∙ sym (ap (reply_of event.request) (outcome-reading (directory_in history) (state_behind (users_in history) history.journal) event c.requires.reading)) in
+    ap (λ d. reading_reply (scene_by sight_of d (shown_state c.view-view.result) event) event.moment event.request) view.directory
+    ∙ ap (λ s. reading_reply (scene_by sight_of (directory_in history) s event) event.moment event.request) (view.state ∙ step.state_is)
+    ∙ sym (ap (reply_of event.request) (outcome-reading (directory_in history) (state_behind (users_in history) history.journal) event c.requires.reading)) in
     subst (λ told. IfOk c.answer_reading-answer.result (λ (reply : Reply). reply ≡ told)) answered c.answer_reading-answer.ensures.reply
 
 pub returns-clause-work : goal.returns-clause-work

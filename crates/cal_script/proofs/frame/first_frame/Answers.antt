@@ -1,6 +1,6 @@
 use Rattle.std.proofs.Common.{arith, subst}
 use Rattle.cal_script.specs.FrameHeads.{IsHead}
-use Rattle.cal_script.proofs.FrameLemmas.{IsCutAtFeed, never_frame_without_feed, never_frame_by_line, never_frame_by_end, whole_bytes, whole_worker}
+use Rattle.cal_script.proofs.FrameLemmas.{never_frame_without_feed, never_frame_by_line, never_frame_by_end, whole_bytes, whole_worker}
 use Rattle.cal_script.proofs.frame.first_frame.Goals as goal
 
 pub returns-else-octets-le-LONGEST_LINE : goal.returns-else-octets-le-LONGEST_LINE

@@ -1,5 +1,5 @@
 use Rattle.std.proofs.Common.{arith, inl, inr}
-use Rattle.cal_script.proofs.HeadLemmas.{IsCutTwice, no_coming_without_blank, no_coming_without_second, no_coming_by_connection, no_coming_by_moment, no_coming_by_size, no_coming_by_bounds, coming_of}
+use Rattle.cal_script.proofs.HeadLemmas.{no_coming_without_blank, no_coming_without_second, no_coming_by_connection, no_coming_by_moment, no_coming_by_size, no_coming_by_bounds, coming_of}
 use Rattle.cal_script.proofs.head.read_coming.Goals as goal
 
 pub returns-in_default : goal.returns-in_default

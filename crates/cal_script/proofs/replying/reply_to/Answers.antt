@@ -16,7 +16,7 @@ booked g c =
     booked_since _ c.args.server.now.book c.reserve.new.self c.args.connection c.in-Request.who c.args.moment c.in-Request.request c.request.result c.request.new.self
     c.requires.server.users c.reserve.ensures.users c.reserve.ensures.work
     (in_time c.reserve.new.self c.args.connection c.in-Request.who c.args.moment (to_z w64 c.args.moment) c.in-Request.request c.request.result c.request.new.self (to_z_pos w64 c.args.moment (omega (arith, c.requires.moment)))
-    c.request.ensures.users c.request.ensures.reply c.request.ensures.work c.request.ensures.busy_reply c.request.ensures.busy_work)
+    c.request.ensures.users c.request.ensures.reply c.request.ensures.work c.request.ensures.busy)
 
 bookable : (g : given.Over) (c : goal.Joined-event-6 g) → IsBookable c.args.server.now.users c.in-Request.who c.in-Request.request
 bookable g c = subst (λ (users : List User). IsBookable users c.in-Request.who c.in-Request.request) c.deref.ensures c.in-Request.ensures.bookable

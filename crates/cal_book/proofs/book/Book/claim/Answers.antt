@@ -1,6 +1,6 @@
-use Rattle.std.proofs.Common.{◌≡◌, Option, Some, rules, refl, sym, ap, ◌∙◌, FitsSigned, w32}
+use Rattle.std.proofs.Common.{Some, rules, refl, sym, ap, ◌∙◌, FitsSigned, w32}
 use Rattle.std.proofs.lemmas.Int.{to_z-of_z}
-use Rattle.cal_model.specs.History.Claims.{Pair, Work, next_claim}
+use Rattle.cal_model.specs.History.Claims.{next_claim}
 use Rattle.piece_claims.specs.Boards.{Shows, out_after, pair_at}
 use Rattle.cal_book.specs.Cores.{Core}
 use Rattle.cal_book.specs.UpToDate.{work_with}

@@ -2,7 +2,7 @@ use Rattle.std.proofs.Common.{ℕ, ◌+◌, ◌≤◌, sym, subst}
 use Rattle.std.specs.Prelude.{ℤ}
 use Rattle.cal_model.specs.History.Origins.{AreLive}
 use Rattle.cal_model.specs.Pieces.PieceLists.{rows_at}
-use Rattle.reading_answers.specs.ReadingCost.{reading_cost}
+use Rattle.cal_book.specs.Answering.ReadingCost.{reading_cost}
 use Rattle.cal_book.specs.Cores.{Core, directory_in, state_in}
 use Rattle.cal_book.proofs.book.Book.read.Goals as goal
 

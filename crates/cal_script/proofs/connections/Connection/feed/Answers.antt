@@ -1,5 +1,5 @@
 use Rattle.std.proofs.Common.{refl}
-use Rattle.cal_script.proofs.ReadingLemmas.{fed_closed, fed_open}
+use Rattle.cal_script.proofs.ReadingLemmas.{fed_open}
 use Rattle.cal_script.proofs.connections.Connection.feed.Goals as goal
 
 pub returns : goal.returns

@@ -1,6 +1,0 @@
-use Rattle.changing_checks.proofs.DeletionLemmas.{deletion}
-use Rattle.changing_checks.proofs.delete.delete.Goals as goal
-
-pub returns-clause-checked : goal.returns-clause-checked
-returns-clause-checked c directory state request how passed =
-    deletion directory state c.args.scene.now request passed how c.place_of-place.result (c.place_of-place.ensures.place directory state request passed)
