@@ -1,9 +1,9 @@
 //! What is shown of a text, with the rows that are found for it.
-ghost use Rattle.std.specs.Prelude.{◌≡◌, ◌<◌, ◌^◌, false, length, All, IfOk, Ok};
-ghost use Rattle.cal_model.specs.Instances.Rows.{has_fine_rule};
+ghost use Rattle.std.specs.Prelude.{◌≡◌, ◌<◌, ◌^◌, ◌++◌, false, length, All, IfOk, Ok};
+ghost use Rattle.cal_model.specs.Instances.Rows.{has_fine_rule, rows_in, undated_rows};
 ghost use Rattle.cal_model.specs.Objects.ObjectFacts.{IsRead};
 ghost use Rattle.cal_model.specs.Objects.ObjectReading.{read_object};
-ghost use Rattle.cal_model.specs.TimeZones.TableBounds.{IsOffset, IsTable};
+ghost use Rattle.cal_model.specs.TimeZones.TableBounds.{IsTable};
 ghost use Rattle.expand_limit.specs.InstanceLines.{IsShownRow};
 
 use cal_base::{List, NoMemory, Octets, Steps};
@@ -42,7 +42,7 @@ fn rows_counted<L: Ledger>(
     requires name { L.name ≡ blank.name }
     requires parts { L.parts ≡ blank.parts }
     requires some { 0 < blank.parts }
-    ensures { IfOk result (All IsShownRow) }
+    ensures { IfOk result (λ rows. rows ≡ undated_rows object.now ++ rows_in object.now window) }
 {
     let mut steps = Steps::<L>::open(blank);
     let dated = window_rows(alloc, object, window, &mut steps)?;
