@@ -1,6 +1,8 @@
 //! Objects as single instances (RFC 4791, 9.6.5), worked out by hand.
 
-use crate::meetings::{DAILY, DAILY_END, DAILY_MOVED, END, EXAMPLE, EXAMPLE_LATER, YEAR_2006, YEAR_2025};
+use crate::meetings::{
+    DAILY, DAILY_END, DAILY_MOVED, END, EXAMPLE, EXAMPLE_LATER, YEAR_2006, YEAR_2025,
+};
 use crate::selections::{Span, range, whole};
 use crate::showing::shown_of;
 use cal_base::{NoMemory, Octets};
@@ -168,7 +170,13 @@ fn calendar(alloc: Global, name: &[u8], lines: &[u8]) -> Result<Octets, NoMemory
 
 /// A name and lines of a component, a range, whether floating times are an hour ahead of UTC, and the
 /// lines of the one instance that is shown, if one is.
-type Single = (&'static [u8], &'static [u8], Span, bool, Option<&'static [u8]>);
+type Single = (
+    &'static [u8],
+    &'static [u8],
+    Span,
+    bool,
+    Option<&'static [u8]>,
+);
 
 /// Components alone in a calendar.
 const SINGLE: [Single; 16] = [
@@ -178,14 +186,18 @@ const SINGLE: [Single; 16] = [
         b"DTSTART;VALUE=DATE:20250203\r\nDTEND;VALUE=DATE:20250204\r\nRRULE:FREQ=WEEKLY;COUNT=3\r\n",
         (b"20250210T235959Z", b"20250211T000000Z"),
         false,
-        Some(b"DTSTART;VALUE=DATE:20250210\r\nRECURRENCE-ID;VALUE=DATE:20250210\r\nDTEND;VALUE=DATE:20250211\r\n"),
+        Some(
+            b"DTSTART;VALUE=DATE:20250210\r\nRECURRENCE-ID;VALUE=DATE:20250210\r\nDTEND;VALUE=DATE:20250211\r\n",
+        ),
     ),
     (
         b"VEVENT",
         b"DTSTART;VALUE=DATE:20250203\r\nDTEND;VALUE=DATE:20250204\r\nRRULE:FREQ=WEEKLY;COUNT=3\r\n",
         (b"20250209T230000Z", b"20250209T230001Z"),
         true,
-        Some(b"DTSTART;VALUE=DATE:20250210\r\nRECURRENCE-ID;VALUE=DATE:20250210\r\nDTEND;VALUE=DATE:20250211\r\n"),
+        Some(
+            b"DTSTART;VALUE=DATE:20250210\r\nRECURRENCE-ID;VALUE=DATE:20250210\r\nDTEND;VALUE=DATE:20250211\r\n",
+        ),
     ),
     (
         b"VEVENT",
@@ -230,7 +242,9 @@ const SINGLE: [Single; 16] = [
         b"DTSTART:20250203T090000\r\nDTEND:20250203T100000\r\nRRULE:FREQ=DAILY;COUNT=2\r\n",
         (b"20250204T080000Z", b"20250204T080001Z"),
         true,
-        Some(b"DTSTART:20250204T090000\r\nRECURRENCE-ID:20250204T090000\r\nDTEND:20250204T100000\r\n"),
+        Some(
+            b"DTSTART:20250204T090000\r\nRECURRENCE-ID:20250204T090000\r\nDTEND:20250204T100000\r\n",
+        ),
     ),
     // a period of an RDATE gives an end
     (
@@ -238,7 +252,9 @@ const SINGLE: [Single; 16] = [
         b"DTSTART:20250203T090000Z\r\nRDATE;VALUE=PERIOD:20250205T090000Z/PT2H\r\nSUMMARY:c\r\n",
         (b"20250205T090000Z", b"20250206T000000Z"),
         false,
-        Some(b"DTSTART:20250205T090000Z\r\nRECURRENCE-ID:20250205T090000Z\r\nDTEND:20250205T110000Z\r\nSUMMARY:c\r\n"),
+        Some(
+            b"DTSTART:20250205T090000Z\r\nRECURRENCE-ID:20250205T090000Z\r\nDTEND:20250205T110000Z\r\nSUMMARY:c\r\n",
+        ),
     ),
     // an override without a master; its id is a day
     (
@@ -261,7 +277,9 @@ const SINGLE: [Single; 16] = [
         b"DTSTART;VALUE=DATE:20250203\r\nDUE;VALUE=DATE:20250204\r\nRRULE:FREQ=DAILY;COUNT=2\r\n",
         (b"20250204T120000Z", b"20250204T130000Z"),
         false,
-        Some(b"DTSTART;VALUE=DATE:20250204\r\nRECURRENCE-ID;VALUE=DATE:20250204\r\nDUE;VALUE=DATE:20250205\r\n"),
+        Some(
+            b"DTSTART;VALUE=DATE:20250204\r\nRECURRENCE-ID;VALUE=DATE:20250204\r\nDUE;VALUE=DATE:20250205\r\n",
+        ),
     ),
     // one without dates is in each range; its length says nothing and stays
     (

@@ -1,6 +1,8 @@
 //! Overrides and busy periods limited to a range (RFC 4791, 9.6.6 and 9.6.7), worked out by hand.
 
-use crate::meetings::{DAILY, DAILY_END, DAILY_MOVED, END, EXAMPLE, EXAMPLE_LATER, YEAR_2006, YEAR_2025};
+use crate::meetings::{
+    DAILY, DAILY_END, DAILY_MOVED, END, EXAMPLE, EXAMPLE_LATER, YEAR_2006, YEAR_2025,
+};
 use crate::selections::{Span, busy, range, whole};
 use crate::showing::shown_of;
 use cal_base::{NoMemory, Octets};
@@ -30,10 +32,7 @@ fn calendar(
 fn example_is_limited(rt: HostRuntime) -> Result<(), Fail> {
     let text = calendar(rt.alloc(), EXAMPLE, EXAMPLE_LATER, true, END)?;
     let wanted = calendar(rt.alloc(), EXAMPLE, EXAMPLE_LATER, false, END)?;
-    let select = whole(Recur::Limit(range((
-        b"20060103T000000Z",
-        b"20060105T000000Z",
-    ))));
+    let select = whole(Recur::Limit(range((b"20060103T000000Z", b"20060105T000000Z"))));
     let found = shown_of(rt.alloc(), text.as_slice(), YEAR_2006, &select, false)?;
     assert!(rt; found.as_slice() == wanted.as_slice());
     Ok(())

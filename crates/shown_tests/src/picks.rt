@@ -163,11 +163,7 @@ const PICKS: [(Pick, &[Pick], &[u8]); 16] = [
             ..CALENDAR
         },
         &[Pick {
-            props: &[
-                (b"ATTENDEE", false),
-                (b"LOCATION", false),
-                (b"UID", false),
-            ],
+            props: &[(b"ATTENDEE", false), (b"LOCATION", false), (b"UID", false)],
             ..EVENT
         }],
         b"BEGIN:VCALENDAR\r\n\
