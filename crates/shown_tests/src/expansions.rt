@@ -1,8 +1,6 @@
 //! Objects as single instances (RFC 4791, 9.6.5), worked out by hand.
 
-use crate::meetings::{
-    DAILY, DAILY_END, DAILY_MOVED, END, EXAMPLE, EXAMPLE_LATER, YEAR_2006, YEAR_2025,
-};
+use crate::meetings::{WINDOW, daily};
 use crate::selections::{Span, range, whole};
 use crate::showing::shown_of;
 use cal_base::{NoMemory, Octets};
@@ -20,40 +18,6 @@ fn expanded(
 ) -> Result<Octets, NoMemory> {
     let select = whole(Recur::Expand(range(span)));
     shown_of(alloc, text, window, &select, is_ahead)
-}
-
-/// The instances of 3 and 4 January of the meeting of RFC 4791 (7.8.3). The end stands where DURATION
-/// stood, and RECURRENCE-ID behind DTSTART.
-const EXAMPLE_SHOWN: &[u8] = b"BEGIN:VCALENDAR\r\n\
-    VERSION:2.0\r\n\
-    PRODID:-//Example Corp.//CalDAV Client//EN\r\n\
-    BEGIN:VEVENT\r\n\
-    DTSTAMP:20060206T001121Z\r\n\
-    DTSTART:20060103T170000Z\r\n\
-    RECURRENCE-ID:20060103T170000Z\r\n\
-    DTEND:20060103T180000Z\r\n\
-    SUMMARY:Event #2\r\n\
-    UID:00959BC664CA650E933C892C@example.com\r\n\
-    END:VEVENT\r\n\
-    BEGIN:VEVENT\r\n\
-    DTSTAMP:20060206T001121Z\r\n\
-    DTSTART:20060104T190000Z\r\n\
-    DTEND:20060104T200000Z\r\n\
-    RECURRENCE-ID:20060104T170000Z\r\n\
-    SUMMARY:Event #2 bis\r\n\
-    UID:00959BC664CA650E933C892C@example.com\r\n\
-    END:VEVENT\r\n\
-    END:VCALENDAR\r\n";
-
-#[test]
-fn example_is_expanded(rt: HostRuntime) -> Result<(), Fail> {
-    let mut text = Octets::of(rt.alloc(), EXAMPLE)?;
-    text.extend_from_slice(EXAMPLE_LATER)?;
-    text.extend_from_slice(END)?;
-    let span: Span = (b"20060103T000000Z", b"20060105T000000Z");
-    let found = expanded(rt.alloc(), text.as_slice(), YEAR_2006, span, false)?;
-    assert!(rt; found.as_slice() == EXAMPLE_SHOWN);
-    Ok(())
 }
 
 /// Ranges over the daily meeting, and what is shown.
@@ -145,12 +109,10 @@ const NONE_SHOWN: &[u8] = b"BEGIN:VCALENDAR\r\n\
 
 #[test]
 fn daily_meeting_is_expanded(rt: HostRuntime) -> Result<(), Fail> {
-    let mut text = Octets::of(rt.alloc(), DAILY)?;
-    text.extend_from_slice(DAILY_MOVED)?;
-    text.extend_from_slice(DAILY_END)?;
+    let text = daily(rt.alloc(), true)?;
     for (place, case) in DAYS.iter().enumerate() {
         let (span, wanted) = *case;
-        let found = expanded(rt.alloc(), text.as_slice(), YEAR_2025, span, false)?;
+        let found = expanded(rt.alloc(), text.as_slice(), WINDOW, span, false)?;
         assert!(rt; found.as_slice() == wanted, "range {place}");
     }
     Ok(())
@@ -322,7 +284,7 @@ fn single_components_are_expanded(rt: HostRuntime) -> Result<(), Fail> {
             Some(instance) => calendar(rt.alloc(), name, instance)?,
             None => Octets::of(rt.alloc(), b"BEGIN:VCALENDAR\r\nEND:VCALENDAR\r\n")?,
         };
-        let found = expanded(rt.alloc(), text.as_slice(), YEAR_2025, span, is_ahead)?;
+        let found = expanded(rt.alloc(), text.as_slice(), WINDOW, span, is_ahead)?;
         assert!(rt; found.as_slice() == wanted.as_slice(), "component {place}");
     }
     Ok(())
@@ -354,7 +316,7 @@ const BY_DAY_SHOWN: &[u8] = b"BEGIN:VCALENDAR\r\n\
 #[test]
 fn day_becomes_a_time(rt: HostRuntime) -> Result<(), Fail> {
     let span: Span = (b"20250204T000000Z", b"20250205T000000Z");
-    let found = expanded(rt.alloc(), BY_DAY, YEAR_2025, span, false)?;
+    let found = expanded(rt.alloc(), BY_DAY, WINDOW, span, false)?;
     assert!(rt; found.as_slice() == BY_DAY_SHOWN);
     Ok(())
 }
@@ -388,7 +350,7 @@ const WRITTEN_SHOWN: &[u8] = b"BEGIN:VCALENDAR\r\n\
 #[test]
 fn front_of_a_line_stays(rt: HostRuntime) -> Result<(), Fail> {
     let span: Span = (b"20250203T000000Z", b"20250204T000000Z");
-    let found = expanded(rt.alloc(), WRITTEN, YEAR_2025, span, false)?;
+    let found = expanded(rt.alloc(), WRITTEN, WINDOW, span, false)?;
     assert!(rt; found.as_slice() == WRITTEN_SHOWN);
     Ok(())
 }

@@ -1,42 +1,12 @@
 //! Overrides and busy periods limited to a range (RFC 4791, 9.6.6 and 9.6.7), worked out by hand.
 
-use crate::meetings::{
-    DAILY, DAILY_END, DAILY_MOVED, END, EXAMPLE, EXAMPLE_LATER, YEAR_2006, YEAR_2025,
-};
+use crate::meetings::{WINDOW, daily};
 use crate::selections::{Span, busy, range, whole};
 use crate::showing::shown_of;
 use cal_base::{NoMemory, Octets};
 use cal_model::Recur;
 use std::alloc::Global;
 use std::test::Fail;
-
-/// A calendar whose override may be left out.
-fn calendar(
-    alloc: Global,
-    front: &[u8],
-    by: &[u8],
-    has_override: bool,
-    end: &[u8],
-) -> Result<Octets, NoMemory> {
-    let mut text = Octets::of(alloc, front)?;
-    if has_override {
-        text.extend_from_slice(by)?;
-    }
-    text.extend_from_slice(end)?;
-    Ok(text)
-}
-
-/// From 3 January up to 5 January nothing is left out but the second override, that of the 6th
-/// (RFC 4791, 7.8.2).
-#[test]
-fn example_is_limited(rt: HostRuntime) -> Result<(), Fail> {
-    let text = calendar(rt.alloc(), EXAMPLE, EXAMPLE_LATER, true, END)?;
-    let wanted = calendar(rt.alloc(), EXAMPLE, EXAMPLE_LATER, false, END)?;
-    let select = whole(Recur::Limit(range((b"20060103T000000Z", b"20060105T000000Z"))));
-    let found = shown_of(rt.alloc(), text.as_slice(), YEAR_2006, &select, false)?;
-    assert!(rt; found.as_slice() == wanted.as_slice());
-    Ok(())
-}
 
 /// Ranges, and whether the override stays that moves an hour from 14:00 UTC to an hour and a half from
 /// 18:00.
@@ -58,55 +28,14 @@ const RANGES: [(Span, bool); 9] = [
 
 #[test]
 fn overrides_are_limited(rt: HostRuntime) -> Result<(), Fail> {
-    let text = calendar(rt.alloc(), DAILY, DAILY_MOVED, true, DAILY_END)?;
+    let text = daily(rt.alloc(), true)?;
     for (place, case) in RANGES.iter().enumerate() {
         let (span, stays) = *case;
-        let wanted = calendar(rt.alloc(), DAILY, DAILY_MOVED, stays, DAILY_END)?;
+        let wanted = daily(rt.alloc(), stays)?;
         let select = whole(Recur::Limit(range(span)));
-        let found = shown_of(rt.alloc(), text.as_slice(), YEAR_2025, &select, false)?;
+        let found = shown_of(rt.alloc(), text.as_slice(), WINDOW, &select, false)?;
         assert!(rt; found.as_slice() == wanted.as_slice(), "range {place}");
     }
-    Ok(())
-}
-
-/// The busy times of RFC 4791, appendix B.
-const BUSY: &[u8] = b"BEGIN:VCALENDAR\r\n\
-    VERSION:2.0\r\n\
-    PRODID:-//Example Corp.//CalDAV Client//EN\r\n\
-    BEGIN:VFREEBUSY\r\n\
-    ORGANIZER;CN=\"Bernard Desruisseaux\":mailto:bernard@example.com\r\n\
-    UID:76ef34-54a3d2@example.com\r\n\
-    DTSTAMP:20050530T123421Z\r\n\
-    DTSTART:20060101T000000Z\r\n\
-    DTEND:20060108T000000Z\r\n\
-    FREEBUSY:20050531T230000Z/20050601T010000Z\r\n\
-    FREEBUSY;FBTYPE=BUSY-TENTATIVE:20060102T100000Z/20060102T120000Z\r\n\
-    FREEBUSY:20060103T100000Z/20060103T120000Z\r\n\
-    FREEBUSY:20060104T100000Z/20060104T120000Z\r\n\
-    FREEBUSY;FBTYPE=BUSY-UNAVAILABLE:20060105T100000Z/20060105T120000Z\r\n\
-    FREEBUSY:20060106T100000Z/20060106T120000Z\r\n\
-    END:VFREEBUSY\r\n\
-    END:VCALENDAR\r\n";
-
-/// What is shown of them for 2 January (RFC 4791, 7.8.4).
-const BUSY_SHOWN: &[u8] = b"BEGIN:VCALENDAR\r\n\
-    VERSION:2.0\r\n\
-    PRODID:-//Example Corp.//CalDAV Client//EN\r\n\
-    BEGIN:VFREEBUSY\r\n\
-    ORGANIZER;CN=\"Bernard Desruisseaux\":mailto:bernard@example.com\r\n\
-    UID:76ef34-54a3d2@example.com\r\n\
-    DTSTAMP:20050530T123421Z\r\n\
-    DTSTART:20060101T000000Z\r\n\
-    DTEND:20060108T000000Z\r\n\
-    FREEBUSY;FBTYPE=BUSY-TENTATIVE:20060102T100000Z/20060102T120000Z\r\n\
-    END:VFREEBUSY\r\n\
-    END:VCALENDAR\r\n";
-
-#[test]
-fn example_of_busy_times_is_limited(rt: HostRuntime) -> Result<(), Fail> {
-    let select = busy((b"20060102T000000Z", b"20060103T000000Z"));
-    let found = shown_of(rt.alloc(), BUSY, YEAR_2006, &select, false)?;
-    assert!(rt; found.as_slice() == BUSY_SHOWN);
     Ok(())
 }
 
@@ -155,7 +84,7 @@ fn busy_times_are_limited(rt: HostRuntime) -> Result<(), Fail> {
         let (span, lines) = *case;
         let wanted = busy_calendar(rt.alloc(), lines)?;
         let select = busy(span);
-        let found = shown_of(rt.alloc(), text.as_slice(), YEAR_2025, &select, false)?;
+        let found = shown_of(rt.alloc(), text.as_slice(), WINDOW, &select, false)?;
         assert!(rt; found.as_slice() == wanted.as_slice(), "range {place}");
     }
     Ok(())

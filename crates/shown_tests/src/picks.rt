@@ -1,7 +1,7 @@
 //! The octets of an object that are stored, and the parts of it that are picked (RFC 4791, 9.6.1 to
 //! 9.6.4), worked out by hand.
 
-use crate::meetings::{DAILY, DAILY_END, DAILY_MOVED, YEAR_2025};
+use crate::meetings::{WINDOW, daily};
 use crate::selections::{Pick, Span, pick_of, range, whole};
 use crate::showing::shown_of;
 use cal_base::{NoMemory, Octets};
@@ -22,7 +22,7 @@ fn picked(
         recur,
         busy: None,
     };
-    shown_of(alloc, text, YEAR_2025, &select, false)
+    shown_of(alloc, text, WINDOW, &select, false)
 }
 
 /// An object whose lines end in LF, with folds where no program would put them, and without an end of
@@ -51,7 +51,7 @@ const PRINTED: &[u8] = b"BEGIN:VCALENDAR\r\n\
 /// Without a selection the octets are those that are stored; whatever is selected, they are printed.
 #[test]
 fn stored_octets_are_shown(rt: HostRuntime) -> Result<(), Fail> {
-    let stored = shown_of(rt.alloc(), STORED, YEAR_2025, &whole(Recur::Whole), false)?;
+    let stored = shown_of(rt.alloc(), STORED, WINDOW, &whole(Recur::Whole), false)?;
     assert!(rt; stored.as_slice() == STORED);
     let all = Pick {
         all_props: true,
@@ -62,7 +62,7 @@ fn stored_octets_are_shown(rt: HostRuntime) -> Result<(), Fail> {
     assert!(rt; printed.as_slice() == PRINTED);
     let span: Span = (b"20250203T000000Z", b"20250204T000000Z");
     let select = whole(Recur::Limit(range(span)));
-    let limited = shown_of(rt.alloc(), STORED, YEAR_2025, &select, false)?;
+    let limited = shown_of(rt.alloc(), STORED, WINDOW, &select, false)?;
     assert!(rt; limited.as_slice() == PRINTED);
     Ok(())
 }
@@ -88,7 +88,7 @@ const LUNCH: &[u8] = b"BEGIN:VCALENDAR\r\n\
     END:VCALENDAR\r\n";
 
 /// Nothing of the calendar, and nothing of its events.
-const CALENDAR: Pick = Pick {
+pub const CALENDAR: Pick = Pick {
     name: b"VCALENDAR",
     all_props: false,
     props: &[],
@@ -96,7 +96,7 @@ const CALENDAR: Pick = Pick {
     marks: &[],
 };
 
-const EVENT: Pick = Pick {
+pub const EVENT: Pick = Pick {
     name: b"VEVENT",
     ..CALENDAR
 };
@@ -334,9 +334,7 @@ const STARTS: &[u8] = b"BEGIN:VCALENDAR\r\n\
 /// Picks look at instances; a zone is no longer there to be picked.
 #[test]
 fn parts_of_instances_are_picked(rt: HostRuntime) -> Result<(), Fail> {
-    let mut text = Octets::of(rt.alloc(), DAILY)?;
-    text.extend_from_slice(DAILY_MOVED)?;
-    text.extend_from_slice(DAILY_END)?;
+    let text = daily(rt.alloc(), true)?;
     let outer = Pick {
         marks: &[b"VTIMEZONE"],
         ..CALENDAR
