@@ -26,7 +26,8 @@ pub fn utc(alloc: Global) -> ZoneTable
     }
 }
 
-fn node(
+/// A component of a name, with its lines and the components in it.
+pub fn node(
     alloc: Global,
     name: &[u8],
     lines: List<Line>,

@@ -20,7 +20,7 @@ fn minutes(from: u16, to: u16) -> Range {
 }
 
 /// A test of the components of one name, without tests inside.
-fn comp(
+pub fn comp(
     alloc: Global,
     name: &[u8],
     absent: bool,
@@ -36,7 +36,7 @@ fn comp(
 }
 
 /// A filter of VCALENDAR with one test inside.
-fn calendar(alloc: Global, inner: CompFilter) -> Result<Filter, NoMemory> {
+pub fn calendar(alloc: Global, inner: CompFilter) -> Result<Filter, NoMemory> {
     let mut top = comp(alloc, b"VCALENDAR", false, None)?;
     top.comps.push(inner)?;
     Ok(Filter { top })
@@ -55,7 +55,7 @@ fn property(
     calendar(alloc, inner)
 }
 
-fn text(
+pub fn text(
     alloc: Global,
     text: &[u8],
     collation: Collation,

@@ -4,6 +4,8 @@
 #[cfg(test)]
 mod event;
 #[cfg(test)]
+mod examples;
+#[cfg(test)]
 mod filters;
 #[cfg(test)]
 mod line;

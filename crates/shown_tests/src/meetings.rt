@@ -1,0 +1,68 @@
+//! A recurring meeting for the tests, with an override.
+
+use cal_base::{NoMemory, Octets};
+use std::alloc::Global;
+
+/// The window of 64 days from 8 January 2025.
+pub const WINDOW: i32 = 314;
+
+/// A daily meeting at ten in New York, from 6 to 11 March 2025 without the 8th, up to its override.
+/// The clocks go forward on the 9th.
+const DAILY: &[u8] = b"BEGIN:VCALENDAR\r\n\
+    VERSION:2.0\r\n\
+    PRODID:-//Example//EN\r\n\
+    BEGIN:X-NOTE\r\n\
+    RRULE:FREQ=DAILY\r\n\
+    X-TEXT:first\r\n\
+    END:X-NOTE\r\n\
+    BEGIN:VEVENT\r\n\
+    UID:daily\r\n\
+    DTSTART;TZID=NY:20250306T100000\r\n\
+    DTEND;TZID=NY:20250306T110000\r\n\
+    RRULE:FREQ=DAILY;COUNT=6\r\n\
+    EXDATE;TZID=NY:20250308T100000\r\n\
+    SUMMARY:Daily\r\n\
+    BEGIN:VALARM\r\n\
+    TRIGGER:-PT10M\r\n\
+    END:VALARM\r\n\
+    END:VEVENT\r\n\
+    BEGIN:VTIMEZONE\r\n\
+    TZID:NY\r\n\
+    BEGIN:DAYLIGHT\r\n\
+    DTSTART:20070311T020000\r\n\
+    RRULE:FREQ=YEARLY;BYMONTH=3;BYDAY=2SU\r\n\
+    TZOFFSETFROM:-0500\r\n\
+    TZOFFSETTO:-0400\r\n\
+    END:DAYLIGHT\r\n\
+    BEGIN:STANDARD\r\n\
+    DTSTART:20071104T020000\r\n\
+    RRULE:FREQ=YEARLY;BYMONTH=11;BYDAY=1SU\r\n\
+    TZOFFSETFROM:-0400\r\n\
+    TZOFFSETTO:-0500\r\n\
+    END:STANDARD\r\n\
+    END:VTIMEZONE\r\n";
+
+/// Its override: on the 10th it is held from 14:00 to 15:30.
+const DAILY_MOVED: &[u8] = b"BEGIN:VEVENT\r\n\
+    UID:daily\r\n\
+    RECURRENCE-ID;TZID=NY:20250310T100000\r\n\
+    DTSTART;TZID=NY:20250310T140000\r\n\
+    DTEND;TZID=NY:20250310T153000\r\n\
+    SUMMARY:Moved\r\n\
+    END:VEVENT\r\n";
+
+/// A component of another kind behind it, and the end.
+const DAILY_END: &[u8] = b"BEGIN:X-NOTE\r\n\
+    X-TEXT:last\r\n\
+    END:X-NOTE\r\n\
+    END:VCALENDAR\r\n";
+
+/// The daily meeting, with or without its override.
+pub fn daily(alloc: Global, has_override: bool) -> Result<Octets, NoMemory> {
+    let mut text = Octets::of(alloc, DAILY)?;
+    if has_override {
+        text.extend_from_slice(DAILY_MOVED)?;
+    }
+    text.extend_from_slice(DAILY_END)?;
+    Ok(text)
+}
