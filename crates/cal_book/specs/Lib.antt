@@ -1,5 +1,6 @@
 -- What the book promises. EventSteps says what an event does to the journal and to what claims depend on; Cores what contracts see of a book; ClaimsOut what a claim is one of, and Publishing what the end of a claim makes of it.
 -- The others are for the crate's own functions: UpToDate says what a book keeps in step, EndedObjects which objects a change ends, and Books what holds of the whole.
+-- Showing, Keeping, Answering and Checking are the words of its modules `view`, `history`, `reads` and `changes`.
 pub mod EventSteps
 pub mod ClaimsOut
 pub mod UpToDate
