@@ -1,3 +1,4 @@
+-- Laws of the module `reads`: from what no shared row refuses to the reply of the definitions.
 pub mod AskedContents
 pub mod OwnRows
 pub mod OwnAnswers

@@ -1,1 +1,2 @@
+-- Laws of the module `view`.
 pub mod ApartLaws

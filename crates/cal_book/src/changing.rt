@@ -1,4 +1,5 @@
-//! Requests that change something.
+//! The book's own steps for requests that change something: `changes` decides them, and here they are
+//! made.
 ghost use Rattle.std.specs.Prelude.{◌≡◌, ◌+◌, ◌<◌, ◌≤◌, [], false, length, IfOk, IsOk, OnOk, OnErr};
 ghost use Rattle.cal_model.specs.History.RightPieces.{live_pieces};
 ghost use Rattle.cal_model.specs.Requests.BookableRequests.{IsBookable};

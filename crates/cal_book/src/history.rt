@@ -1,4 +1,5 @@
-//! The store and its journal.
+//! The history of the server: its state, and the entries of the changes that led to it. The two are
+//! always in step.
 ghost use Rattle.std.specs.Prelude.{◌≡◌, ◌≤◌, ◌-◌, ℕ, List, [], ◌∷◌, ◌++◌, length, slice_get, Some, IsSome, IfOk, IsOk, OnOk, OnErr, option_map, false};
 ghost use Rattle.std.specs.Option.{option_copied};
 ghost use Rattle.cal_model.specs.History.KeptChanges.{kept_change, is_deletion};

@@ -1,4 +1,4 @@
-//! Requests that only read.
+//! The book's own step for requests that only read: `reads` has their replies.
 ghost use Rattle.std.specs.Prelude.{◌≡◌, ◌+◌, ◌≤◌, ◌≤ℤ◌, pos, true, [], None, IfOk};
 ghost use Rattle.cal_model.specs.History.Origins.{Origins, AreLive};
 ghost use Rattle.cal_model.specs.Pieces.PieceLists.{rows_at};

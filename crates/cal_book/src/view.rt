@@ -1,4 +1,6 @@
-//! The view of a store.
+//! A state of the server with its users, as the book shows it: what everybody looks at who answers a
+//! request, and what a change asks besides, which are the object that has a UID, what a home's changes
+//! cost, and how many calendars it has.
 #![tactic(auto, unfolding(crate::specs::Showing::ShownStates::shown_directory, crate::specs::Showing::ShownStates::shown_state, crate::specs::Showing::ShownStates::shown_origins))]
 
 ghost use Rattle.std.specs.Prelude.{◌≡◌, ◌≤◌, IfSome, length, option_map};
