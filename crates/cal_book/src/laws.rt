@@ -2,6 +2,7 @@
 ghost use Rattle.std.specs.Prelude.{◌++◌, List};
 ghost use Rattle.cal_model.specs.History.Journal.{Entry};
 ghost use Rattle.cal_book.specs.EventSteps.{JournalsFollow};
+ghost use Rattle.cal_book.specs.LegalJournals.{LegalIsTold};
 ghost use Rattle.cal_book.specs.Publishing.{IsClaimIn};
 ghost use Rattle.cal_book.specs.declared.claims.Claim.{Claim};
 
@@ -13,4 +14,9 @@ pub fn journals_follow()
 /// A claim stays one of the journal's objects, whatever is entered behind it.
 pub fn claims_stay()
     ensures { (journal more : List Entry) (claim : Claim) → IsClaimIn journal claim → IsClaimIn (journal ++ more) claim }
+{}
+
+/// The test of legal journals, by which the lock knows them, tells them.
+pub fn journals_are_told()
+    ensures { LegalIsTold }
 {}

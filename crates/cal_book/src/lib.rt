@@ -11,6 +11,7 @@ mod book;
 mod changes;
 mod changing;
 mod claims;
+mod desk;
 mod ending;
 mod expanding;
 mod history;
@@ -24,5 +25,6 @@ mod view;
 
 pub use book::Book;
 pub use claims::{Claim, Expanded, Publish};
+pub use desk::{Desk, JournalEntry, Never, Told};
 pub use expanding::expand;
 pub use view::BookView;

@@ -1,0 +1,225 @@
+-- A session goes on by an answer, or stops at one: its reply was written, or a front of it; or the desk broke.
+use Rattle.std.proofs.Common.{◌≡◌, ℕ, ◌+◌, ◌<◌, ◌≤◌, ◌⊎◌, inl, inr, List, [], ◌∷◌, ◌++◌, length, map, take, arith, refl, sym, ap, subst, ◌∙◌, true, false, Bool, Option, Some, None}
+use Rattle.std.specs.Prelude.{ℤ}
+use Rattle.std.proofs.lemmas.List.{append-nil, append_assoc, length-append}
+use Rattle.cal_base.specs.World.Outside.{Rose, Takes, Adds}
+use Rattle.turn_lock.specs.Passes.{PassState}
+use Rattle.turn_lock.specs.Journals.{IsFollowedByOthers}
+use Rattle.cal_model.specs.declared.wire.WireFault.{WireFault}
+use Rattle.cal_model.specs.declared.wire.WireRequest.{WireRequest}
+use Rattle.cal_model.specs.History.Journal.{Entry}
+use Rattle.cal_model.specs.Replies.WireReplies.{answer_octets, fault_octets}
+use Rattle.cal_model.specs.Requests.AskedRequests.{asked_of}
+use Rattle.cal_model.specs.Streams.StreamRequests.{Ending, ends_at, Spells, Begins, front, fault}
+use Rattle.cal_model.specs.Streams.WireLimits.{request_limit}
+use Rattle.cal_model.specs.Transcripts.ConnectionAnswers.{is_open}
+use Rattle.cal_model.specs.Users.UsersFile.{User}
+use Rattle.cal_model.proofs.Streams.ReadingLaws.{streams_are_read}
+use Rattle.cal_book.specs.EventSteps.{state_behind}
+use Rattle.cal_session.specs.AskedTurns.{AnsweredAt, BrokeAt}
+use Rattle.cal_session.specs.Connections.{requests_of, replies_of, replies_from, AnsweredAll, AnsweredSome}
+use Rattle.cal_session.specs.Sessions.{LinkTold, HasRun, HasServed, HasBroken, IsCutShort}
+use Rattle.cal_session.specs.Turns.{Answer, IsToldMoment, LooksUp, entries_in}
+use Rattle.cal_session.specs.UnderWay.{IsReached}
+use Rattle.cal_session.specs.WrittenReplies.{IsSent}
+use Rattle.cal_session.specs.declared.served.Served.{Served}
+use Rattle.cal_session.specs.declared.served.How.{How}
+use Rattle.cal_session.specs.declared.served.How.TheVariants.{Closed, CutInRequest, Limit, WireRefused, ReadFault, WriteFault, NoMemory}
+use Rattle.cal_session.proofs.SessionLaws.{IsOn, run_more, answered_some, answered_before, answered_all, rose_since}
+use Rattle.cal_session.proofs.StepLemmas.{adds_on, replies_further, map_further, map_len, looks_on, looks_none}
+use Rattle.cal_session.proofs.StreamLemmas.{open_parts, served_closed, spells_more, spells_on, still_open}
+use Rattle.cal_session.proofs.TurnLaws.{session_later}
+
+module _ (users : List User) (told : Option ℤ) (start now next : PassState Entry (List User)) (before link after : LinkTold) (turns : List Served) (stream rest behind : List ℕ) where
+  -- the requests with one more
+  requests_more : (answers : List Answer) (a : Answer) → requests_of (answers ++ a ∷ []) ≡ requests_of answers ++ a.wire ∷ []
+  requests_more answers a = map_further (λ (answer : Answer). answer.wire) answers a
+
+  spelled_more : (answers : List Answer) (a : Answer) → Spells stream (requests_of answers) rest → Begins rest a.wire behind → Spells stream (requests_of (answers ++ a ∷ [])) behind
+  spelled_more answers a spelled begins = subst (λ requests. Spells stream requests behind) (sym (requests_more answers a)) (spells_more stream rest behind (requests_of answers) a.wire spelled begins)
+
+  -- The reply was written, and the request does not close the connection
+
+  pub reached_more : (r : IsReached users told start now before link turns stream rest) (a : Answer) → IsOn start now → Begins rest a.wire behind → AnsweredAt users now next a → IsToldMoment told a.turn.moment
+      → after.left ≡ link.left → Adds link.written (answer_octets (length r.answers) a.wire a.reply a.turn.moment) after.written → link.faults ≤ after.faults → a.wire.close ≡ false → length r.answers + 1 < request_limit
+      → IsReached users told start next before after (turns ++ a.turn ∷ []) stream behind
+  reached_more r a on begins x dated left added falls stays few = record {
+    answers = r.answers ++ a ∷ [];
+    run = subst (λ printed. HasRun users told start next before after (turns ++ a.turn ∷ []) stream (r.answers ++ a ∷ []) printed) (sym (replies_further r.answers a))
+        (run_more users told start now next before link after turns stream r.answers a (answer_octets (length r.answers) a.wire a.reply a.turn.moment) on r.run x dated left added);
+    still_open = subst (λ requests. is_open requests ≡ true) (sym (requests_more r.answers a))
+        (still_open (requests_of r.answers) a.wire r.still_open stays (let n = map_len (λ (answer : Answer). answer.wire) r.answers in omega (arith, n, few)));
+    spelled = spelled_more r.answers a r.spelled begins;
+    faults = (let h = r.faults in omega (arith, h, falls));
+  }
+
+  -- all that is served was answered, where the request closes the connection
+  all_answered : (r : IsReached users told start now before link turns stream rest) (a : Answer) → Begins rest a.wire behind → (a.wire.close ≡ true) ⊎ (length r.answers + 1 ≡ request_limit)
+      → (ending : Ending) × AnsweredAll stream (r.answers ++ a ∷ []) ending
+  all_answered r a begins why =
+      let read = streams_are_read behind in
+      let requests = requests_of r.answers in
+      let full : (a.wire.close ≡ true) ⊎ (length requests + 1 ≡ request_limit) = elim why [ inl asks ↦ inl asks | inr last ↦ inr (let n = map_len (λ (answer : Answer). answer.wire) r.answers in omega (arith, n, last)) ] in (
+        read.2,
+        record {
+          requests = requests ++ a.wire ∷ read.0;
+          rest = read.1;
+          reading = record { spelled = spells_on stream rest read.1 requests (a.wire ∷ read.0) r.spelled (behind, begins, read.3.spelled); ended = read.3.ended };
+          all = requests_more r.answers a ∙ sym (served_closed requests read.0 a.wire r.still_open full);
+        },
+      )
+
+  -- The desk broke
+
+  pub broke : (r : IsReached users told start now before link turns stream rest) (wire : WireRequest) (moment : ℤ) → IsOn start now → Begins rest wire behind → BrokeAt users now next wire moment → IsToldMoment told moment
+      → after.left ≡ link.left → after.written ≡ link.written → HasBroken users told start next before after turns
+  broke r wire moment on begins x dated left written =
+      let number : now.number ≡ start.number = ap (λ (p : PassState Entry (List User)). p.number) on in
+      let some = answered_before stream rest behind r.answers wire r.spelled r.still_open begins in
+      record {
+        stream = stream;
+        answers = r.answers;
+        seen = x.journal;
+        run = record {
+          taken = subst (λ l. Takes before.left stream l) (sym left) r.run.taken;
+          turns_are = r.run.turns_are;
+          session = session_later users start.number now.gone start.seen r.answers now.seen x.journal r.run.session (subst (λ n. IsFollowedByOthers (λ (entry : Entry). entry.session) (n ∷ now.gone) now.seen x.journal) number x.later);
+          looks = subst (λ l. LooksUp users start.looks l next.looks) (append-nil r.answers) (looks_on users start.looks now.looks next.looks r.answers [] r.run.looks x.looks);
+          moments = r.run.moments;
+          written = subst (λ w. Adds before.written (replies_of r.answers) w) (sym written) r.run.written;
+        };
+        wire = wire;
+        missing = some.0;
+        next = some.1;
+        moment = moment;
+        moment_is = dated;
+        kept = subst (λ n. (next.seen ≡ x.journal) ⊎ (next.seen ≡ x.journal ++ entries_in users n (state_behind users x.journal) moment (asked_of users wire))) number x.kept;
+      }
+
+  -- A front of the reply was written
+
+  pub cut_short : (r : IsReached users told start now before link turns stream rest) (a : Answer) (how : How) → IsOn start now → Begins rest a.wire behind → AnsweredAt users now next a → IsToldMoment told a.turn.moment
+      → after.left ≡ link.left → IsSent (answer_octets (length r.answers) a.wire a.reply a.turn.moment) link.written after.written link.faults after.faults (Some how) → link.faults ≤ after.faults
+      → HasServed users told start next before after (turns ++ a.turn ∷ []) how
+  cut_short r a how on begins x dated left sent falls = by_how how sent
+    where
+      octets : List ℕ
+      octets = answer_octets (length r.answers) a.wire a.reply a.turn.moment
+
+      some : (missing : List WireRequest) × AnsweredSome stream (r.answers ++ a ∷ []) missing
+      some =
+          let all = answered_before stream rest behind r.answers a.wire r.spelled r.still_open begins in (
+            all.0,
+            record {
+              requests = all.1.requests;
+              rest = all.1.rest;
+              ending = all.1.ending;
+              reading = all.1.reading;
+              some = all.1.some ∙ (sym (append_assoc (requests_of r.answers) (a.wire ∷ []) all.0) ∙ ap (λ l. l ++ all.0) (sym (requests_more r.answers a)));
+            },
+          )
+
+      part : (many : ℕ) → Adds link.written (take many octets) after.written → HasRun users told start next before after (turns ++ a.turn ∷ []) stream (r.answers ++ a ∷ []) (replies_of r.answers ++ take many octets)
+      part many added = run_more users told start now next before link after turns stream r.answers a (take many octets) on r.run x dated left added
+
+      cut_at : (many : ℕ) → IsCutShort told stream (r.answers ++ a ∷ []) (replies_of r.answers ++ take many octets)
+      cut_at many = record {
+        missing = some.0;
+        answered = some.1;
+        front = inl (record {
+          whole = r.answers;
+          last = a ∷ [];
+          parts = refl;
+          one = omega arith;
+          many = many;
+          printed_is = ap (λ l. replies_of r.answers ++ take many l) (sym (append-nil octets));
+        });
+      }
+
+      by_how : (how : How) → IsSent octets link.written after.written link.faults after.faults (Some how) → HasServed users told start next before after (turns ++ a.turn ∷ []) how
+      by_how WriteFault s = record { stream = stream; answers = r.answers ++ a ∷ []; printed = replies_of r.answers ++ take s.0.0 octets; run = part s.0.0 s.0.1; ended = (cut_at s.0.0, rose_since before.faults link.faults after.faults r.faults falls s.1) }
+      by_how NoMemory s = record { stream = stream; answers = r.answers ++ a ∷ []; printed = replies_of r.answers ++ take s.0 octets; run = part s.0 s.1; ended = cut_at s.0 }
+      by_how Closed s = absurd s
+      by_how CutInRequest s = absurd s
+      by_how Limit s = absurd s
+      by_how (WireRefused why) s = absurd s
+      by_how ReadFault s = absurd s
+
+  -- The reply was written, and the request closes the connection
+
+  pub closes : (r : IsReached users told start now before link turns stream rest) (a : Answer) → IsOn start now → Begins rest a.wire behind → AnsweredAt users now next a → IsToldMoment told a.turn.moment
+      → after.left ≡ link.left → Adds link.written (answer_octets (length r.answers) a.wire a.reply a.turn.moment) after.written → a.wire.close ≡ true → length r.answers + 1 < request_limit
+      → HasServed users told start next before after (turns ++ a.turn ∷ []) Closed
+  closes r a on begins x dated left added asks few =
+      let all = all_answered r a begins (inl asks) in
+      record {
+        stream = stream;
+        answers = r.answers ++ a ∷ [];
+        printed = replies_of r.answers ++ answer_octets (length r.answers) a.wire a.reply a.turn.moment;
+        run = run_more users told start now next before link after turns stream r.answers a (answer_octets (length r.answers) a.wire a.reply a.turn.moment) on r.run x dated left added;
+        ended = (
+          sym (replies_further r.answers a),
+          inr (record {
+            ending = all.0;
+            answered = all.1;
+            asked_to = record { before = r.answers; last = a; parts = refl; asks = asks; early = (let n = length-append r.answers (a ∷ []) in omega (arith, n, few)) };
+          }),
+        );
+      }
+
+  pub meets_limit : (r : IsReached users told start now before link turns stream rest) (a : Answer) → IsOn start now → Begins rest a.wire behind → AnsweredAt users now next a → IsToldMoment told a.turn.moment
+      → after.left ≡ link.left → Adds link.written (answer_octets (length r.answers) a.wire a.reply a.turn.moment) after.written → length r.answers + 1 ≡ request_limit
+      → HasServed users told start next before after (turns ++ a.turn ∷ []) Limit
+  meets_limit r a on begins x dated left added last =
+      let all = all_answered r a begins (inr last) in
+      record {
+        stream = stream;
+        answers = r.answers ++ a ∷ [];
+        printed = replies_of r.answers ++ answer_octets (length r.answers) a.wire a.reply a.turn.moment;
+        run = run_more users told start now next before link after turns stream r.answers a (answer_octets (length r.answers) a.wire a.reply a.turn.moment) on r.run x dated left added;
+        ended = (sym (replies_further r.answers a), record { ending = all.0; answered = all.1; full = (let n = length-append r.answers (a ∷ []) in omega (arith, n, last)) });
+      }
+
+-- A front of the reply to a fault was written
+
+pub refused_in_part : (users : List User) (told : Option ℤ) (start now : PassState Entry (List User)) (before link after : LinkTold) (turns : List Served) (stream rest : List ℕ) (why : WireFault) (moment : ℤ) (how : How)
+    → IsReached users told start now before link turns stream rest → front rest ≡ fault why → IsToldMoment told moment → after.left ≡ link.left
+    → IsSent (fault_octets why moment) link.written after.written link.faults after.faults (Some how) → link.faults ≤ after.faults → HasServed users told start now before after turns how
+refused_in_part users told start now before link after turns stream rest why moment how r is dated left sent falls = by_how how sent
+  where
+    some : (missing : List WireRequest) × AnsweredSome stream r.answers missing
+    some = answered_some stream rest r.answers r.spelled r.still_open
+
+    part : (many : ℕ) → Adds link.written (take many (fault_octets why moment)) after.written → HasRun users told start now before after turns stream r.answers (replies_of r.answers ++ take many (fault_octets why moment))
+    part many added = record {
+      taken = subst (λ l. Takes before.left stream l) (sym left) r.run.taken;
+      turns_are = r.run.turns_are;
+      session = r.run.session;
+      looks = r.run.looks;
+      moments = r.run.moments;
+      written = adds_on before.written link.written after.written (replies_of r.answers) (take many (fault_octets why moment)) r.run.written added;
+    }
+
+    cut_at : (many : ℕ) → IsCutShort told stream r.answers (replies_of r.answers ++ take many (fault_octets why moment))
+    cut_at many = record {
+      missing = some.0;
+      answered = some.1;
+      front = inr (record {
+        why = why;
+        answered = answered_all stream rest r.answers (ends_at why) r.spelled is r.still_open;
+        still_open = r.still_open;
+        moment = moment;
+        moment_is = dated;
+        many = many;
+        printed_is = refl;
+      });
+    }
+
+    by_how : (how : How) → IsSent (fault_octets why moment) link.written after.written link.faults after.faults (Some how) → HasServed users told start now before after turns how
+    by_how WriteFault s = record { stream = stream; answers = r.answers; printed = replies_of r.answers ++ take s.0.0 (fault_octets why moment); run = part s.0.0 s.0.1; ended = (cut_at s.0.0, rose_since before.faults link.faults after.faults r.faults falls s.1) }
+    by_how NoMemory s = record { stream = stream; answers = r.answers; printed = replies_of r.answers ++ take s.0 (fault_octets why moment); run = part s.0 s.1; ended = cut_at s.0 }
+    by_how Closed s = absurd s
+    by_how CutInRequest s = absurd s
+    by_how Limit s = absurd s
+    by_how (WireRefused again) s = absurd s
+    by_how ReadFault s = absurd s

@@ -1,0 +1,7 @@
+pub mod StreamLemmas
+pub mod TurnLaws
+pub mod StepLemmas
+pub mod SessionLaws
+pub mod AskingLemmas
+pub mod AnswerLaws
+pub mod ReplyLemmas

@@ -1,0 +1,61 @@
+-- A session under way: all that the octets so far complete in front of a place was answered.
+-- Given: as in Sessions; and the wire, or what is left of the octets behind the requests that were answered.
+use Rattle.std.specs.Prelude.{◌≡◌, ◌⊎◌, ℕ, ◌≤◌, true, List, [], length, Result, Ok, Err, Option, Some, None, ℤ}
+use Rattle.http_wire.specs.Wires.{Stands}
+use Rattle.http_wire.specs.declared.wire.Wire.{Wire}
+use Rattle.turn_lock.specs.Passes.{PassState}
+use Rattle.cal_model.specs.History.Journal.{Entry}
+use Rattle.cal_model.specs.Streams.StreamRequests.{Spells, Front, front, idle, cut}
+use Rattle.cal_model.specs.Transcripts.ConnectionAnswers.{is_open}
+use Rattle.cal_model.specs.Users.UsersFile.{User}
+use Rattle.cal_session.specs.Connections.{requests_of, replies_of}
+use Rattle.cal_session.specs.Sessions.{LinkTold, HasRun, HasServed, HasBroken}
+use Rattle.cal_session.specs.Turns.{Answer}
+use Rattle.cal_session.specs.declared.served.Served.{Served}
+use Rattle.cal_session.specs.declared.served.How.{How}
+use Rattle.cal_session.specs.declared.served.How.TheVariants.{Closed, CutInRequest}
+use Rattle.cal_session.specs.declared.answering.Stop.{Stop}
+use Rattle.cal_session.specs.declared.answering.Stop.TheVariants.{Ended, Broken}
+
+-- these requests were answered, all their replies written, and what is left stands behind them
+pub record IsReached (users : List User) (told : Option ℤ) (pass now : PassState Entry (List User)) (before after : LinkTold) (turns : List Served) (stream rest : List ℕ) : Type 0 where
+  pub answers : List Answer
+  pub run : HasRun users told pass now before after turns stream answers (replies_of answers)
+  pub still_open : is_open (requests_of answers) ≡ true
+  pub spelled : Spells stream (requests_of answers) rest
+  pub faults : before.faults ≤ after.faults
+
+pub record IsUnderWay (users : List User) (told : Option ℤ) (pass now : PassState Entry (List User)) (before after : LinkTold) (turns : List Served) (wire : Wire) : Type 0 where
+  pub stream : List ℕ
+  pub rest : List ℕ
+  pub reached : IsReached users told pass now before after turns stream rest
+  pub stands : Stands rest wire
+
+-- and what is left begins no further request, and shows no fault
+pub record IsWaiting (users : List User) (told : Option ℤ) (pass now : PassState Entry (List User)) (before after : LinkTold) (turns : List Served) (wire : Wire) : Type 0 where
+  pub stream : List ℕ
+  pub rest : List ℕ
+  pub reached : IsReached users told pass now before after turns stream rest
+  pub stands : Stands rest wire
+  pub waits : (front rest ≡ idle) ⊎ (front rest ≡ cut)
+
+-- a session that stops there has ended so
+abbrev pub StopsSo : {X : Type 0} → List User → Option ℤ → PassState Entry (List User) → PassState Entry (List User) → LinkTold → LinkTold → List Served → Stop X → Type 0
+StopsSo users told pass now before after turns (Ended how) = HasServed users told pass now before after turns how
+StopsSo users told pass now before after turns (Broken fault) = HasBroken users told pass now before after turns
+
+-- by a result: it goes on, or has stopped
+abbrev pub GoesOnOrStops : {T X : Type 0} → Type 0 → (Stop X → Type 0) → Result T (Stop X) → Type 0
+GoesOnOrStops goes_on stops (Ok nothing) = goes_on
+GoesOnOrStops goes_on stops (Err stop) = stops stop
+
+-- it goes on, or has ended so
+abbrev pub GoesOnOrEnds : Type 0 → (How → Type 0) → Option How → Type 0
+GoesOnOrEnds goes_on ends None = goes_on
+GoesOnOrEnds goes_on ends (Some how) = ends how
+
+-- with the end of the octets it is closed where nothing but empty lines is left, and else cut
+abbrev pub EndsAtEnd : Front → How → Type 0
+EndsAtEnd what Closed = what ≡ idle
+EndsAtEnd what CutInRequest = ¬ (what ≡ idle)
+EndsAtEnd what other = ⊥

@@ -1,0 +1,187 @@
+//! Answering the requests of a connection.
+ghost use Rattle.std.specs.Prelude.{◌≡◌, ◌≤◌, ◌<◌, ◌+◌, ℕ, List, false, length, Some, IfOk, OnOk};
+ghost use Rattle.cal_base.specs.World.Outside.{IsMoment};
+ghost use Rattle.cal_model.specs.History.Journal.{Entry};
+ghost use Rattle.cal_model.specs.Replies.Statuses.{reason};
+ghost use Rattle.cal_model.specs.Streams.StreamRequests.{Begins, front, fault};
+ghost use Rattle.cal_model.specs.Streams.WireLimits.{body_limit, request_limit};
+ghost use Rattle.cal_model.specs.Users.UsersFile.{User};
+ghost use Rattle.cal_session.specs.AskedTurns.{EndsAt};
+ghost use Rattle.cal_session.specs.Sessions.{LinkTold, HasServed};
+ghost use Rattle.cal_session.specs.WrittenReplies.{GoesOnBehind};
+ghost use Rattle.cal_session.specs.UnderWay.{IsReached, IsUnderWay, IsWaiting, StopsSo, GoesOnOrStops};
+ghost use Rattle.turn_lock.specs.Passes.{PassState};
+
+use crate::hall::Hall;
+use crate::served::{How, Served};
+use crate::turn::ask_once;
+use crate::writing::{send_fault, send_reply, status_reply};
+use cal_base::{Clock, Link, ReservedList, Steps};
+use cal_book::{Desk, Told};
+use cal_model::{Event, Reply};
+use dav_request::{Asked, read_request};
+use http_wire::{Next, Wire, WireFault, WireRequest};
+use std::sync::Wait;
+use std::sync::ledger::Ledger;
+use turn_lock::Pass;
+
+/// The most requests of a connection.
+pub(crate) const REQUEST_LIMIT: usize = 1_000;
+
+/// Why a session goes no further.
+#[derive(Drop)]
+pub(crate) enum Stop<X> {
+    Ended(How),
+    /// The desk broke.
+    Broken(X),
+}
+
+/// Answers one after the other the requests that are whole, until one closes the connection, or
+/// nothing more is whole.
+pub(crate) fn answer_due<B: Desk, L: Link, C: Clock, R: Wait, G: Ledger>(
+    hall: &Hall<'_, R, B>,
+    pass: &mut Pass<B>,
+    wire: &mut Wire,
+    turns: &mut ReservedList<Served>,
+    link: &mut L,
+    clock: &mut C,
+    steps: &mut Steps<G>,
+) -> Result<(), Stop<B::Fault>>
+    requires same { pass.old.lock ≡ hall.now.lock.now }
+    requires free { pass.old.holds_turn ≡ false }
+    requires base { pass.old.base ≡ Some hall.now.users.now }
+    requires room { request_limit ≤ length turns.old.items + turns.old.room }
+    requires under_way { (start : PassState Entry (List User)) × (before : LinkTold) × IsUnderWay hall.now.users.now (C.moment clock.old) start pass.old before (record { faults = L.faults link.old; left = L.left link.old; written = L.written link.old }) turns.old.items wire.old }
+    ensures pass { pass.new ≡ record pass.old { seen = pass.new.seen; looks = pass.new.looks } }
+    ensures room { length turns.new.items + turns.new.room ≡ length turns.old.items + turns.old.room }
+    ensures session { (start : PassState Entry (List User)) (before : LinkTold) → pass.old ≡ record start { seen = pass.old.seen; looks = pass.old.looks } → IsUnderWay hall.now.users.now (C.moment clock.old) start pass.old before (record { faults = L.faults link.old; left = L.left link.old; written = L.written link.old }) turns.old.items wire.old → GoesOnOrStops (IsWaiting hall.now.users.now (C.moment clock.old) start pass.new before (record { faults = L.faults link.new; left = L.left link.new; written = L.written link.new }) turns.new.items wire.new) (StopsSo hall.now.users.now (C.moment clock.old) start pass.new before (record { faults = L.faults link.new; left = L.left link.new; written = L.written link.new }) turns.new.items) result }
+    ensures clock { C.moment clock.new ≡ C.moment clock.old }
+    ensures allowance { L.allowance link.new ≡ L.allowance link.old }
+    ensures never_falls { L.faults link.old ≤ L.faults link.new }
+{
+    'due: loop {
+        match wire.next(hall.alloc) {
+            Next::Need => return Ok(()),
+            Next::NoMemory => return Err(Stop::Ended(How::NoMemory)),
+            Next::Fault(why) => return Err(Stop::Ended(refuse(hall, why, link, clock))),
+            Next::Request(request) => {
+                let answered = answer_request(hall, pass, &request, turns, link, clock, steps);
+                if answered.is_err() {
+                    return answered;
+                }
+            }
+        }
+    }
+}
+
+/// Writes the reply to a fault of the octets, behind which nothing is read.
+fn refuse<B: Desk, L: Link, C: Clock, R>(
+    hall: &Hall<'_, R, B>,
+    why: WireFault,
+    link: &mut L,
+    clock: &mut C,
+) -> How
+    ensures session { (start now : PassState Entry (List User)) (before : LinkTold) (turns : List Served) (stream rest : List ℕ) → IsReached hall.now.users.now (C.moment clock.old) start now before (record { faults = L.faults link.old; left = L.left link.old; written = L.written link.old }) turns stream rest → front rest ≡ fault why → HasServed hall.now.users.now (C.moment clock.old) start now before (record { faults = L.faults link.new; left = L.left link.new; written = L.written link.new }) turns result }
+    ensures clock { C.moment clock.new ≡ C.moment clock.old }
+    ensures allowance { L.allowance link.new ≡ L.allowance link.old }
+    ensures never_falls { L.faults link.old ≤ L.faults link.new }
+{
+    let moment = clock.now();
+    match send_fault(hall.alloc, why, moment, link) {
+        Some(how) => how,
+        None => How::WireRefused(why),
+    }
+}
+
+/// Answers one request: notes its turn, and writes its reply.
+fn answer_request<B: Desk, L: Link, C: Clock, R: Wait, G: Ledger>(
+    hall: &Hall<'_, R, B>,
+    pass: &mut Pass<B>,
+    wire: &WireRequest,
+    turns: &mut ReservedList<Served>,
+    link: &mut L,
+    clock: &mut C,
+    steps: &mut Steps<G>,
+) -> Result<(), Stop<B::Fault>>
+    requires same { pass.old.lock ≡ hall.now.lock.now }
+    requires free { pass.old.holds_turn ≡ false }
+    requires base { pass.old.base ≡ Some hall.now.users.now }
+    requires body { length wire.now.body ≤ body_limit }
+    requires few { length turns.old.items < request_limit }
+    requires room { 0 < turns.old.room }
+    ensures pass { pass.new ≡ record pass.old { seen = pass.new.seen; looks = pass.new.looks } }
+    ensures room { length turns.new.items + turns.new.room ≡ length turns.old.items + turns.old.room }
+    ensures session { (start : PassState Entry (List User)) (before : LinkTold) (stream rest behind : List ℕ) → pass.old ≡ record start { seen = pass.old.seen; looks = pass.old.looks } → IsReached hall.now.users.now (C.moment clock.old) start pass.old before (record { faults = L.faults link.old; left = L.left link.old; written = L.written link.old }) turns.old.items stream rest → Begins rest wire.now behind → GoesOnOrStops (IsReached hall.now.users.now (C.moment clock.old) start pass.new before (record { faults = L.faults link.new; left = L.left link.new; written = L.written link.new }) turns.new.items stream behind) (StopsSo hall.now.users.now (C.moment clock.old) start pass.new before (record { faults = L.faults link.new; left = L.left link.new; written = L.written link.new }) turns.new.items) result }
+    ensures longer { OnOk result (length turns.new.items ≡ length turns.old.items + 1) }
+    ensures clock { C.moment clock.new ≡ C.moment clock.old }
+    ensures allowance { L.allowance link.new ≡ L.allowance link.old }
+    ensures never_falls { L.faults link.old ≤ L.faults link.new }
+{
+    let moment = clock.now();
+    match reply_to(hall, pass, wire, moment, steps) {
+        Err(fault) => Err(Stop::Broken(fault)),
+        Ok((at, reply)) => {
+            let before = turns.len();
+            turns.push(Served {
+                at,
+                moment,
+                status: reply.status,
+            });
+            match send_reply(hall.alloc, before, wire, &reply, moment, link) {
+                Some(how) => Err(Stop::Ended(how)),
+                None => go_on_behind(before, wire),
+            }
+        }
+    }
+}
+
+/// The reply to a request, and how many entries there were when it was answered; or the fault of a
+/// desk that broke. The request is read before the turn. One that is refused as it stands needs no
+/// turn, and is answered at what the pass has seen.
+fn reply_to<B: Desk, R: Wait, G: Ledger>(
+    hall: &Hall<'_, R, B>,
+    pass: &mut Pass<B>,
+    wire: &WireRequest,
+    moment: i64,
+    steps: &mut Steps<G>,
+) -> Result<(u64, Reply), B::Fault>
+    requires same { pass.old.lock ≡ hall.now.lock.now }
+    requires free { pass.old.holds_turn ≡ false }
+    requires base { pass.old.base ≡ Some hall.now.users.now }
+    requires body { length wire.now.body ≤ body_limit }
+    requires moment { IsMoment moment }
+    ensures pass { pass.new ≡ record pass.old { seen = pass.new.seen; looks = pass.new.looks } }
+    ensures answered { EndsAt hall.now.users.now pass.old pass.new wire.now moment result }
+    ensures known { IfOk result (λ given. 0 < length (reason given.1.status)) }
+{
+    match read_request(hall.alloc, wire, hall.users) {
+        Asked::Request { who, request } => {
+            let event = Event {
+                session: pass.number(),
+                who,
+                moment,
+                request,
+            };
+            match ask_once(hall, pass, &event, steps) {
+                (at, Told::Reply(reply)) => Ok((at, reply)),
+                (_, Told::Broken(fault)) => Err(fault),
+            }
+        }
+        Asked::Refused(reply) => Ok((pass.seen_len(), reply)),
+        Asked::NoMemory => Ok((pass.seen_len(), status_reply(hall.alloc, 503))),
+    }
+}
+
+/// Whether the session goes on behind a request that was answered, where so many were before it.
+fn go_on_behind<X>(before: usize, wire: &WireRequest) -> Result<(), Stop<X>>
+    requires { before < request_limit }
+    ensures { GoesOnBehind before wire.now result }
+{
+    if before + 1 >= REQUEST_LIMIT {
+        return Err(Stop::Ended(How::Limit));
+    }
+    if wire.close {
+        return Err(Stop::Ended(How::Closed));
+    }
+    Ok(())
+}

@@ -1,0 +1,158 @@
+//! One session, over any desk.
+ghost use Rattle.std.specs.Prelude.{◌≡◌, ◌≤◌, ◌<◌, ℕ, ℤ, List, false, length, Option, Some, IfOk, OnOk, IsNone};
+ghost use Rattle.cal_model.specs.History.Journal.{Entry, IsLegal};
+ghost use Rattle.cal_model.specs.State.ServerState.{directory_of};
+ghost use Rattle.cal_model.specs.Streams.StreamRequests.{front};
+ghost use Rattle.cal_model.specs.Streams.WireLimits.{request_limit};
+ghost use Rattle.cal_model.specs.Users.UsersFile.{User};
+ghost use Rattle.cal_session.specs.Sessions.{LinkTold, HasServed, HasServedOn};
+ghost use Rattle.cal_session.specs.UnderWay.{IsUnderWay, IsWaiting, GoesOnOrEnds, EndsAtEnd};
+ghost use Rattle.http_wire.specs.Wires.{Stands};
+ghost use Rattle.turn_lock.specs.Passes.{PassState};
+
+use crate::answering::{REQUEST_LIMIT, Stop, answer_due};
+use crate::hall::Hall;
+use crate::served::{Ended, How, OnEnd, Served};
+use cal_base::{Clock, Link, NoMemory, ReservedList, Steps};
+use cal_book::Desk;
+use http_wire::Wire;
+use privileges::Users;
+use std::alloc::Global;
+use std::marker::Brand;
+use std::sync::Wait;
+use std::sync::ledger::{Blank, Ledger};
+use turn_lock::{Pass, TurnLock};
+
+/// How many octets are asked for at a time.
+const PIECE: usize = 16_384;
+
+/// Serves a connection: reads its requests, and answers each in a turn of its own at the desk, until
+/// the connection ends. A request is read before its turn and its reply is written after it.
+///
+/// The replies are those of the users' one history, each at the place that its turn tells, or 503 for
+/// want of memory; what the session changed stands there once each, under the pass's number. What was
+/// written is the replies in order. After a write that failed or for want of memory all or a part of
+/// the last one may be missing. The desk's fault comes back where the desk broke when it was asked.
+pub fn serve_on<B: Desk, L: Link, C: Clock, R: Wait>(
+    rt: &R,
+    alloc: Global,
+    lock: &TurnLock<B>,
+    pass: &mut Pass<B>,
+    users: &Users,
+    link: &mut L,
+    clock: &mut C,
+) -> OnEnd<B::Fault>
+    requires same { pass.old.lock ≡ lock.now }
+    requires free { pass.old.holds_turn ≡ false }
+    requires users { pass.old.base ≡ Some users.now }
+    ensures pass { pass.new ≡ record pass.old { seen = pass.new.seen; looks = pass.new.looks } }
+    ensures session { HasServedOn users.now (C.moment clock.old) pass.old pass.new (record { faults = L.faults link.old; left = L.left link.old; written = L.written link.old }) (record { faults = L.faults link.new; left = L.left link.new; written = L.written link.new }) result }
+    ensures legal { IsLegal (directory_of users.now) pass.new.seen }
+    ensures clock { C.moment clock.new ≡ C.moment clock.old }
+    ensures never_falls { L.faults link.old ≤ L.faults link.new }
+{
+    let hall = Hall {
+        rt,
+        alloc,
+        lock,
+        users,
+    };
+    let end = serve_under::<B, L, C, R, Brand>(&hall, pass, link, clock, Blank::new(1));
+    // A look at what was seen, which tells a proof that it is legal.
+    let _seen = pass.seen_len();
+    end
+}
+
+/// The same, with a ledger for the steps of expansion, which are not counted here.
+fn serve_under<B: Desk, L: Link, C: Clock, R: Wait, G: Ledger>(
+    hall: &Hall<'_, R, B>,
+    pass: &mut Pass<B>,
+    link: &mut L,
+    clock: &mut C,
+    blank: Blank,
+) -> OnEnd<B::Fault>
+    requires same { pass.old.lock ≡ hall.now.lock.now }
+    requires free { pass.old.holds_turn ≡ false }
+    requires users { pass.old.base ≡ Some hall.now.users.now }
+    requires name { blank.name ≡ G.name }
+    requires parts { blank.parts ≡ G.parts }
+    requires some { 0 < blank.parts }
+    ensures pass { pass.new ≡ record pass.old { seen = pass.new.seen; looks = pass.new.looks } }
+    ensures session { HasServedOn hall.now.users.now (C.moment clock.old) pass.old pass.new (record { faults = L.faults link.old; left = L.left link.old; written = L.written link.old }) (record { faults = L.faults link.new; left = L.left link.new; written = L.written link.new }) result }
+    ensures clock { C.moment clock.new ≡ C.moment clock.old }
+    ensures never_falls { L.faults link.old ≤ L.faults link.new }
+{
+    let mut steps = Steps::<G>::open(blank);
+    let mut turns = ReservedList::new(hall.alloc);
+    let Ok(mut piece) = prepare(hall.alloc, &mut turns) else {
+        return end_with(How::NoMemory, turns);
+    };
+    let mut wire = Wire::new(hall.alloc);
+    'reading: loop {
+        match answer_due(hall, pass, &mut wire, &mut turns, link, clock, &mut steps) {
+            Ok(()) => {}
+            Err(Stop::Ended(how)) => return end_with(how, turns),
+            Err(Stop::Broken(fault)) => return OnEnd::Broken(fault, turns.into_list()),
+        }
+        if let Some(how) = take_piece(hall.alloc, &mut wire, piece.as_mut_slice(), link) {
+            return end_with(how, turns);
+        }
+    }
+}
+
+/// An end with the turns so far.
+fn end_with<X>(how: How, turns: ReservedList<Served>) -> OnEnd<X>
+    ensures { result ≡ OnEnd.Ended (record { how = how; turns = turns.items }) }
+{
+    OnEnd::Ended(Ended {
+        how,
+        turns: turns.into_list(),
+    })
+}
+
+/// Makes room for the turns, and a place for the octets of one read.
+fn prepare(alloc: Global, turns: &mut ReservedList<Served>) -> Result<Vec<u8>, NoMemory>
+    ensures turns { turns.new.items ≡ turns.old.items }
+    ensures room { OnOk result (request_limit ≤ turns.new.room) }
+    ensures place { IfOk result (λ piece. 0 < length piece.items) }
+{
+    turns.reserve(REQUEST_LIMIT)?;
+    match Vec::from_elem(alloc, 0u8, PIECE) {
+        Ok(piece) => Ok(piece),
+        Err(_) => Err(NoMemory),
+    }
+}
+
+/// Reads the next octets of the connection, and says how the session ends where there are none.
+fn take_piece<L: Link>(
+    alloc: Global,
+    wire: &mut Wire,
+    piece: &mut [u8],
+    link: &mut L,
+) -> Option<How>
+    requires { 0 < length piece.old }
+    ensures session { (users : List User) (start now : PassState Entry (List User)) (told : Option ℤ) (before : LinkTold) (turns : List Served) → IsWaiting users told start now before (record { faults = L.faults link.old; left = L.left link.old; written = L.written link.old }) turns wire.old → GoesOnOrEnds (IsUnderWay users told start now before (record { faults = L.faults link.new; left = L.left link.new; written = L.written link.new }) turns wire.new) (HasServed users told start now before (record { faults = L.faults link.new; left = L.left link.new; written = L.written link.new }) turns) result }
+    ensures place { length piece.new ≡ length piece.old }
+    ensures fewer { IsNone result → L.allowance link.new < L.allowance link.old }
+    ensures never_falls { L.faults link.old ≤ L.faults link.new }
+{
+    match link.read(piece) {
+        Err(_) => Some(How::ReadFault),
+        Ok(0) => Some(end_of(wire)),
+        Ok(n) => match wire.feed(alloc, &piece[..n]) {
+            Ok(()) => None,
+            Err(NoMemory) => Some(How::NoMemory),
+        },
+    }
+}
+
+/// How a session ends with its octets.
+fn end_of(wire: &Wire) -> How
+    ensures { (octets : List ℕ) → Stands octets wire.now → EndsAtEnd (front octets) result }
+{
+    if wire.idle() {
+        How::Closed
+    } else {
+        How::CutInRequest
+    }
+}

@@ -1,0 +1,2 @@
+-- What the work of a worker counts.
+pub mod Work
