@@ -17,7 +17,7 @@ use crate::served::{How, Served};
 use crate::turn::ask_once;
 use crate::writing::{send_fault, send_reply, status_reply};
 use cal_base::{Clock, Link, ReservedList, Steps};
-use cal_book::{Desk, Told};
+use cal_book::{Desk, Told, bodies_are_short, replies_have_reasons};
 use cal_model::{Event, Reply};
 use dav_request::{Asked, read_request};
 use http_wire::{Next, Wire, WireFault, WireRequest};
@@ -51,7 +51,7 @@ pub(crate) fn answer_due<B: Desk, L: Link, C: Clock, R: Wait, G: Ledger>(
     requires free { pass.old.holds_turn ≡ false }
     requires base { pass.old.base ≡ Some hall.now.users.now }
     requires room { request_limit ≤ length turns.old.items + turns.old.room }
-    requires under_way { (start : PassState Entry (List User)) × (before : LinkTold) × IsUnderWay hall.now.users.now (C.moment clock.old) start pass.old before (record { faults = L.faults link.old; left = L.left link.old; written = L.written link.old }) turns.old.items wire.old }
+    requires under_way { (start : PassState Entry (List User)) × (before : LinkTold) × (pass.old ≡ record start { seen = pass.old.seen; looks = pass.old.looks }) × IsUnderWay hall.now.users.now (C.moment clock.old) start pass.old before (record { faults = L.faults link.old; left = L.left link.old; written = L.written link.old }) turns.old.items wire.old }
     ensures pass { pass.new ≡ record pass.old { seen = pass.new.seen; looks = pass.new.looks } }
     ensures room { length turns.new.items + turns.new.room ≡ length turns.old.items + turns.old.room }
     ensures session { (start : PassState Entry (List User)) (before : LinkTold) → pass.old ≡ record start { seen = pass.old.seen; looks = pass.old.looks } → IsUnderWay hall.now.users.now (C.moment clock.old) start pass.old before (record { faults = L.faults link.old; left = L.left link.old; written = L.written link.old }) turns.old.items wire.old → GoesOnOrStops (IsWaiting hall.now.users.now (C.moment clock.old) start pass.new before (record { faults = L.faults link.new; left = L.left link.new; written = L.written link.new }) turns.new.items wire.new) (StopsSo hall.now.users.now (C.moment clock.old) start pass.new before (record { faults = L.faults link.new; left = L.left link.new; written = L.written link.new }) turns.new.items) result }
@@ -59,6 +59,7 @@ pub(crate) fn answer_due<B: Desk, L: Link, C: Clock, R: Wait, G: Ledger>(
     ensures allowance { L.allowance link.new ≡ L.allowance link.old }
     ensures never_falls { L.faults link.old ≤ L.faults link.new }
 {
+    bodies_are_short();
     'due: loop {
         match wire.next(hall.alloc) {
             Next::Need => return Ok(()),
@@ -154,6 +155,7 @@ fn reply_to<B: Desk, R: Wait, G: Ledger>(
     ensures answered { EndsAt hall.now.users.now pass.old pass.new wire.now moment result }
     ensures known { IfOk result (λ given. 0 < length (reason given.1.status)) }
 {
+    replies_have_reasons();
     match read_request(hall.alloc, wire, hall.users) {
         Asked::Request { who, request } => {
             let event = Event {
