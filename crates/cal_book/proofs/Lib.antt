@@ -4,6 +4,7 @@ pub mod HeldPieces
 pub mod HistoryLemmas
 pub mod WalkLemmas
 pub mod EventLemmas
+pub mod LegalLemmas
 pub mod ChangeLemmas
 pub mod PublishLemmas
 pub mod RequestLemmas
