@@ -1,5 +1,5 @@
 -- The answer to one request: by a turn at the desk, or as it stands.
-use Rattle.std.proofs.Common.{◌≡◌, ◌≢◌, ℕ, ◌<◌, ◌⊎◌, inl, inr, List, [], ◌∷◌, ◌++◌, length, map, refl, sym, ap, subst, ◌∙◌, Bool, true, false}
+use Rattle.std.proofs.Common.{◌≡◌, ◌≢◌, ℕ, ◌⊎◌, inl, inr, List, [], ◌∷◌, ◌++◌, length, map, refl, sym, ap, subst, ◌∙◌, Bool, true, false}
 use Rattle.std.specs.Prelude.{ℤ, filter, not, if◌then◌else◌}
 use Rattle.std.proofs.lemmas.List.{append-nil}
 use Rattle.std.proofs.lemmas.Bool.Decides.{eqb_tells}
@@ -10,14 +10,12 @@ use Rattle.cal_model.specs.declared.request.Request.{Request}
 use Rattle.cal_model.specs.declared.wire.WireRequest.{WireRequest}
 use Rattle.cal_model.specs.History.Journal.{Entry}
 use Rattle.cal_model.specs.Replies.BareReplies.{bare_reply}
-use Rattle.cal_model.specs.Replies.Statuses.{reason}
 use Rattle.cal_model.specs.Requests.AskedRequests.{Asked, refused, asked, asked_of}
 use Rattle.cal_model.specs.Requests.BookableRequests.{IsBookable}
-use Rattle.cal_model.specs.Serving.EventReplies.{reply_to}
-use Rattle.cal_model.specs.State.ServerState.{Directory, ServerState, directory_of}
-use Rattle.cal_model.specs.declared.request.Event.{Event}
+use Rattle.cal_model.specs.State.ServerState.{ServerState, directory_of}
 use Rattle.cal_model.specs.Users.UsersFile.{User}
 use Rattle.cal_book.specs.EventSteps.{state_behind}
+use Rattle.cal_book.specs.ReplyReasons.{HasReason, RepliesHaveReasons}
 use Rattle.cal_book.specs.declared.desk.Told.TheVariants.{Reply, Broken}
 use Rattle.cal_session.specs.AskedTurns.{IsLater, AskedAt, AnsweredAt, BrokeAt, IsReplied, answer_of}
 use Rattle.cal_session.specs.Turns.{Answer, IsWithin, LooksUp, IsAlike, event_of, reply_in, entries_in, is_busy, is_given, places_given}
@@ -80,19 +78,17 @@ module _ (users : List User) (pass now : PassState Entry (List User)) (wire : Wi
         looks = looks_once users pass.looks now.looks (answer_of wire moment (at, reply)) grown;
       }
 
-  -- and its status has a reason phrase
-  pub replied_known : (who : ℕ) (request : Request) (at : ℕ) (reply : ReplyData) → {X : Type 0} → AskedAt {X = X} users pass at (event_of pass.number who moment request) (Reply reply) now.seen → IsBookable users who request
-      → ((users : List User) (directory : Directory) (state : ServerState) (event : Event) → IsBookable users event.who event.request → 0 < length (reason (reply_to directory state event).status)) → 0 < length (reason 503)
-      → 0 < length (reason reply.status)
-  replied_known who request at reply x bookable replies busy_too = by_status (eqb_tells reply.status 503)
+  -- and it can be written
+  pub replied_known : (who : ℕ) (request : Request) (at : ℕ) (reply : ReplyData) → {X : Type 0} → AskedAt {X = X} users pass at (event_of pass.number who moment request) (Reply reply) now.seen → IsBookable users who request → RepliesHaveReasons → HasReason reply
+  replied_known who request at reply x bookable reasons = by_status (eqb_tells reply.status 503)
     where
       t : IsReplied users x.journal (event_of pass.number who moment request) reply now.seen
       t = x.is
 
-      by_status : ((eqb reply.status 503 ≡ true) × (reply.status ≡ 503)) ⊎ ((eqb reply.status 503 ≡ false) × (reply.status ≢ 503)) → 0 < length (reason reply.status)
-      by_status (inl busy) = subst (λ status. 0 < length (reason status)) (sym busy.1) busy_too
-      by_status (inr other) = subst (λ (given : ReplyData). 0 < length (reason given.status)) (sym (t.answered other.1).0)
-          (replies users (directory_of users) (state_behind users x.journal) (event_of pass.number who moment request) bookable)
+      by_status : ((eqb reply.status 503 ≡ true) × (reply.status ≡ 503)) ⊎ ((eqb reply.status 503 ≡ false) × (reply.status ≢ 503)) → HasReason reply
+      by_status (inl busy) = subst (λ (given : ReplyData). HasReason given) (sym (t.busy busy.1).0) reasons.busy
+      by_status (inr other) = subst (λ (given : ReplyData). HasReason given) (sym (t.answered other.1).0)
+          (reasons.answered users (directory_of users) (state_behind users x.journal) (event_of pass.number who moment request) bookable)
 
   -- a broken desk
   pub broken : (who : ℕ) (request : Request) (at : ℕ) → asked_of users wire ≡ asked who request → {X : Type 0} → (fault : X) → AskedAt users pass at (event_of pass.number who moment request) (Broken fault) now.seen

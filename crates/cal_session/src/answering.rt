@@ -15,18 +15,15 @@ ghost use Rattle.turn_lock.specs.Passes.{PassState};
 use crate::hall::Hall;
 use crate::served::{How, Served};
 use crate::turn::ask_once;
-use crate::writing::{send_fault, send_reply, status_reply};
+use crate::writing::{send_fault, send_reply};
 use cal_base::{Clock, Link, ReservedList, Steps};
-use cal_book::{Desk, Told, bodies_are_short, replies_have_reasons};
+use cal_book::{Desk, Told, replies_have_reasons};
 use cal_model::{Event, Reply};
 use dav_request::{Asked, read_request};
-use http_wire::{Next, Wire, WireFault, WireRequest};
+use http_wire::{Next, REQUEST_LIMIT, Wire, WireFault, WireRequest, bare_reply};
 use std::sync::Wait;
 use std::sync::ledger::Ledger;
 use turn_lock::Pass;
-
-/// The most requests of a connection.
-pub(crate) const REQUEST_LIMIT: usize = 1_000;
 
 /// Why a session goes no further.
 #[derive(Drop)]
@@ -59,7 +56,6 @@ pub(crate) fn answer_due<B: Desk, L: Link, C: Clock, R: Wait, G: Ledger>(
     ensures allowance { L.allowance link.new ≡ L.allowance link.old }
     ensures never_falls { L.faults link.old ≤ L.faults link.new }
 {
-    bodies_are_short();
     'due: loop {
         match wire.next(hall.alloc) {
             Next::Need => return Ok(()),
@@ -170,7 +166,7 @@ fn reply_to<B: Desk, R: Wait, G: Ledger>(
             }
         }
         Asked::Refused(reply) => Ok((pass.seen_len(), reply)),
-        Asked::NoMemory => Ok((pass.seen_len(), status_reply(hall.alloc, 503))),
+        Asked::NoMemory => Ok((pass.seen_len(), bare_reply(hall.alloc, 503))),
     }
 }
 
