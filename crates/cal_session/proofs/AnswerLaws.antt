@@ -205,7 +205,7 @@ module _ (users : List User) (told : Option ℤ) (start now next : PassState Ent
       all : Adds link.written (answer_octets (length r.answers) a.wire a.reply a.turn.moment) after.written
       all = subst (λ n. Adds link.written (answer_octets n a.wire a.reply a.turn.moment) after.written) (count r) added
 
-      by_result : (result : Result (Unit {0}) (Stop X)) → GoesOnBehind (length r.answers) a.wire result
+      by_result : {Y : Type 0} → (result : Result (Unit {0}) (Stop Y)) → GoesOnBehind (length r.answers) a.wire result
           → GoesOnOrStops (IsReached users told start next before after (turns ++ a.turn ∷ []) stream behind) (StopsSo users told start next before after (turns ++ a.turn ∷ [])) result
       by_result (Ok nothing) h = reached_more r a on begins x dated left all falls h.0 h.1
       by_result (Err (Ended Limit)) h = meets_limit r a on begins x dated left all h
@@ -264,7 +264,7 @@ refused_in_part users told start now before link after turns stream rest why mom
 -- What is due
 
 -- the pass goes on from a start
-further : (start now next : PassState Entry (List User)) → IsOn start now → IsOn now next → IsOn start next
+pub further : (start now next : PassState Entry (List User)) → IsOn start now → IsOn now next → IsOn start next
 further start now next h g = g ∙ ap (λ (p : PassState Entry (List User)). record p { seen = next.seen; looks = next.looks }) h
 
 module _ (users : List User) (told : Option ℤ) (start now : PassState Entry (List User)) (before link : LinkTold) (turns : List Served) where

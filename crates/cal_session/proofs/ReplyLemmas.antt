@@ -116,7 +116,7 @@ module _ (users : List User) (pass : PassState Entry (List User)) (wire : WireRe
     reply = inl (subst (λ what. reply ≡ reply_in users pass.number (state_behind users pass.seen) moment what) (sym is) refl);
     alike = subst (λ what. IsAlike users pass.number (state_behind users pass.seen) moment what reply) (sym is) tt;
     seen = sym (append-nil pass.seen) ∙ ap (λ l. pass.seen ++ l) (sym (ap (λ what. if is_busy reply then [] else entries_in users pass.number (state_behind users pass.seen) moment what) is ∙ none_either (is_busy reply) [] refl));
-    looks = none_given users pass.looks (answer_of wire moment (at, reply)) (ap (λ what. elim what [ refused r ↦ false | asked who request ↦ not (is_busy reply) ]) is);
+    looks = none_given users pass.looks (answer_of wire moment (at, reply)) (subst (λ (what : Asked). (elim what [ refused r ↦ false | asked who request ↦ not (is_busy reply) ]) ≡ false) (sym is) refl);
   }
 
   -- want of memory

@@ -14,6 +14,8 @@ use Rattle.cal_session.specs.Turns.{Answer}
 use Rattle.cal_session.specs.declared.served.Served.{Served}
 use Rattle.cal_session.specs.declared.served.How.{How}
 use Rattle.cal_session.specs.declared.served.How.TheVariants.{Closed, CutInRequest}
+use Rattle.cal_session.specs.declared.answering.Due.{Due}
+use Rattle.cal_session.specs.declared.answering.Due.TheVariants.{Answered, Waits, Stops}
 use Rattle.cal_session.specs.declared.answering.Stop.{Stop}
 use Rattle.cal_session.specs.declared.answering.Stop.TheVariants.{Ended, Broken}
 
@@ -48,6 +50,18 @@ StopsSo users told pass now before after turns (Broken fault) = HasBroken users 
 abbrev pub GoesOnOrStops : {T X : Type 0} → Type 0 → (Stop X → Type 0) → Result T (Stop X) → Type 0
 GoesOnOrStops goes_on stops (Ok nothing) = goes_on
 GoesOnOrStops goes_on stops (Err stop) = stops stop
+
+-- by what comes of the octets that are there: a request was answered, or none is whole, or it has stopped
+abbrev pub ComesTo : {X : Type 0} → Type 0 → Type 0 → (Stop X → Type 0) → Due X → Type 0
+ComesTo answered waits stops Answered = answered
+ComesTo answered waits stops Waits = waits
+ComesTo answered waits stops (Stops stop) = stops stop
+
+-- a fact, where a request was answered
+abbrev pub IfAnswered : {X : Type 0} → Due X → Type 0 → Type 0
+IfAnswered Answered fact = fact
+IfAnswered Waits fact = Unit {0}
+IfAnswered (Stops stop) fact = Unit {0}
 
 -- it goes on, or has ended so
 abbrev pub GoesOnOrEnds : Type 0 → (How → Type 0) → Option How → Type 0
