@@ -15,18 +15,15 @@ ghost use Rattle.turn_lock.specs.Passes.{PassState};
 use crate::hall::Hall;
 use crate::served::{How, Served};
 use crate::turn::ask_once;
-use crate::writing::{send_fault, send_reply, status_reply};
+use crate::writing::{send_fault, send_reply};
 use cal_base::{Clock, Link, ReservedList, Steps};
-use cal_book::{Desk, Told};
+use cal_book::{Desk, Told, replies_have_reasons};
 use cal_model::{Event, Reply};
 use dav_request::{Asked, read_request};
-use http_wire::{Next, Wire, WireFault, WireRequest};
+use http_wire::{Next, REQUEST_LIMIT, Wire, WireFault, WireRequest, bare_reply};
 use std::sync::Wait;
 use std::sync::ledger::Ledger;
 use turn_lock::Pass;
-
-/// The most requests of a connection.
-pub(crate) const REQUEST_LIMIT: usize = 1_000;
 
 /// Why a session goes no further.
 #[derive(Drop)]
@@ -51,7 +48,7 @@ pub(crate) fn answer_due<B: Desk, L: Link, C: Clock, R: Wait, G: Ledger>(
     requires free { pass.old.holds_turn ≡ false }
     requires base { pass.old.base ≡ Some hall.now.users.now }
     requires room { request_limit ≤ length turns.old.items + turns.old.room }
-    requires under_way { (start : PassState Entry (List User)) × (before : LinkTold) × IsUnderWay hall.now.users.now (C.moment clock.old) start pass.old before (record { faults = L.faults link.old; left = L.left link.old; written = L.written link.old }) turns.old.items wire.old }
+    requires under_way { (start : PassState Entry (List User)) × (before : LinkTold) × (pass.old ≡ record start { seen = pass.old.seen; looks = pass.old.looks }) × IsUnderWay hall.now.users.now (C.moment clock.old) start pass.old before (record { faults = L.faults link.old; left = L.left link.old; written = L.written link.old }) turns.old.items wire.old }
     ensures pass { pass.new ≡ record pass.old { seen = pass.new.seen; looks = pass.new.looks } }
     ensures room { length turns.new.items + turns.new.room ≡ length turns.old.items + turns.old.room }
     ensures session { (start : PassState Entry (List User)) (before : LinkTold) → pass.old ≡ record start { seen = pass.old.seen; looks = pass.old.looks } → IsUnderWay hall.now.users.now (C.moment clock.old) start pass.old before (record { faults = L.faults link.old; left = L.left link.old; written = L.written link.old }) turns.old.items wire.old → GoesOnOrStops (IsWaiting hall.now.users.now (C.moment clock.old) start pass.new before (record { faults = L.faults link.new; left = L.left link.new; written = L.written link.new }) turns.new.items wire.new) (StopsSo hall.now.users.now (C.moment clock.old) start pass.new before (record { faults = L.faults link.new; left = L.left link.new; written = L.written link.new }) turns.new.items) result }
@@ -154,6 +151,7 @@ fn reply_to<B: Desk, R: Wait, G: Ledger>(
     ensures answered { EndsAt hall.now.users.now pass.old pass.new wire.now moment result }
     ensures known { IfOk result (λ given. 0 < length (reason given.1.status)) }
 {
+    replies_have_reasons();
     match read_request(hall.alloc, wire, hall.users) {
         Asked::Request { who, request } => {
             let event = Event {
@@ -168,7 +166,7 @@ fn reply_to<B: Desk, R: Wait, G: Ledger>(
             }
         }
         Asked::Refused(reply) => Ok((pass.seen_len(), reply)),
-        Asked::NoMemory => Ok((pass.seen_len(), status_reply(hall.alloc, 503))),
+        Asked::NoMemory => Ok((pass.seen_len(), bare_reply(hall.alloc, 503))),
     }
 }
 

@@ -10,12 +10,12 @@ ghost use Rattle.cal_session.specs.UnderWay.{IsUnderWay, IsWaiting, GoesOnOrEnds
 ghost use Rattle.http_wire.specs.Wires.{Stands};
 ghost use Rattle.turn_lock.specs.Passes.{PassState};
 
-use crate::answering::{REQUEST_LIMIT, Stop, answer_due};
+use crate::answering::{Stop, answer_due};
 use crate::hall::Hall;
 use crate::served::{Ended, How, OnEnd, Served};
 use cal_base::{Clock, Link, NoMemory, ReservedList, Steps};
 use cal_book::{Desk, journals_are_told};
-use http_wire::Wire;
+use http_wire::{REQUEST_LIMIT, Wire};
 use privileges::Users;
 use std::alloc::Global;
 use std::marker::Brand;
