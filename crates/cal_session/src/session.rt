@@ -86,16 +86,37 @@ fn serve_under<B: Desk, L: Link, C: Clock, R: Wait, G: Ledger>(
     let mut steps = Steps::<G>::open(blank);
     let mut turns = ReservedList::new(hall.alloc);
     let mut wire = Wire::new(hall.alloc);
-    let stop = match prepare(hall.alloc, &mut turns) {
+    let stop = serve_new(hall, pass, &mut wire, &mut turns, link, clock, &mut steps);
+    end_with(stop, turns)
+}
+
+/// Serves a connection of which nothing was read yet, where there is memory for its turns and reads.
+fn serve_new<B: Desk, L: Link, C: Clock, R: Wait, G: Ledger>(
+    hall: &Hall<'_, R, B>,
+    pass: &mut Pass<B>,
+    wire: &mut Wire,
+    turns: &mut ReservedList<Served>,
+    link: &mut L,
+    clock: &mut C,
+    steps: &mut Steps<G>,
+) -> Stop<B::Fault>
+    requires same { pass.old.lock ≡ hall.now.lock.now }
+    requires free { pass.old.holds_turn ≡ false }
+    requires base { pass.old.base ≡ Some hall.now.users.now }
+    requires new { Stands [] wire.old }
+    requires none { turns.old.items ≡ [] }
+    ensures pass { pass.new ≡ record pass.old { seen = pass.new.seen; looks = pass.new.looks } }
+    ensures session { StopsSo hall.now.users.now (C.moment clock.old) pass.old pass.new (record { faults = L.faults link.old; left = L.left link.old; written = L.written link.old }) (record { faults = L.faults link.new; left = L.left link.new; written = L.written link.new }) turns.new.items result }
+    ensures clock { C.moment clock.new ≡ C.moment clock.old }
+    ensures never_falls { L.faults link.old ≤ L.faults link.new }
+{
+    match prepare(hall.alloc, turns) {
         Ok(mut piece) => {
             let piece = piece.as_mut_slice();
-            serve_all(
-                hall, pass, &mut wire, piece, &mut turns, link, clock, &mut steps,
-            )
+            serve_all(hall, pass, wire, piece, turns, link, clock, steps)
         }
         Err(NoMemory) => Stop::Ended(How::NoMemory),
-    };
-    end_with(stop, turns)
+    }
 }
 
 /// Reads and answers until the session stops.
@@ -122,11 +143,12 @@ fn serve_all<B: Desk, L: Link, C: Clock, R: Wait, G: Ledger>(
     ensures never_falls { L.faults link.old ≤ L.faults link.new }
 {
     'reading: loop {
-        if let Err(stop) = answer_due(hall, pass, wire, turns, link, clock, steps) {
-            return stop;
-        }
-        if let Some(how) = take_piece(hall.alloc, wire, piece, link) {
-            return Stop::Ended(how);
+        match answer_due(hall, pass, wire, turns, link, clock, steps) {
+            Err(stop) => return stop,
+            Ok(()) => match take_piece(hall.alloc, wire, piece, link) {
+                Some(how) => return Stop::Ended(how),
+                None => {}
+            },
         }
     }
 }
