@@ -215,7 +215,7 @@ module _ (users : List User) (told : Option ℤ) (start now next : PassState Ent
       by_result (Err (Ended ReadFault)) h = absurd h
       by_result (Err (Ended WriteFault)) h = absurd h
       by_result (Err (Ended NoMemory)) h = absurd h
-      by_result (Err (Broken fault)) h = absurd h
+      by_result (Err (Broken why)) h = absurd h
 
 -- A front of the reply to a fault was written
 
@@ -262,10 +262,6 @@ refused_in_part users told start now before link after turns stream rest why mom
     by_how ReadFault s = absurd s
 
 -- What is due
-
--- the pass goes on from a start
-pub further : (start now next : PassState Entry (List User)) → IsOn start now → IsOn now next → IsOn start next
-further start now next h g = g ∙ ap (λ (p : PassState Entry (List User)). record p { seen = next.seen; looks = next.looks }) h
 
 module _ (users : List User) (told : Option ℤ) (start now : PassState Entry (List User)) (before link : LinkTold) (turns : List Served) where
   -- an open connection has room for a further request

@@ -16,6 +16,8 @@ use Rattle.cal_session.specs.declared.served.How.{How}
 use Rattle.cal_session.specs.declared.served.How.TheVariants.{Closed, CutInRequest}
 use Rattle.cal_session.specs.declared.answering.Due.{Due}
 use Rattle.cal_session.specs.declared.answering.Due.TheVariants.{Answered, Waits, Stops}
+use Rattle.cal_session.specs.declared.served.OnEnd.{OnEnd}
+use Rattle.cal_session.specs.declared.served.OnEnd.TheVariants as on_end
 use Rattle.cal_session.specs.declared.answering.Stop.{Stop}
 use Rattle.cal_session.specs.declared.answering.Stop.TheVariants.{Ended, Broken}
 
@@ -45,6 +47,11 @@ pub record IsWaiting (users : List User) (told : Option ℤ) (pass now : PassSta
 abbrev pub StopsSo : {X : Type 0} → List User → Option ℤ → PassState Entry (List User) → PassState Entry (List User) → LinkTold → LinkTold → List Served → Stop X → Type 0
 StopsSo users told pass now before after turns (Ended how) = HasServed users told pass now before after turns how
 StopsSo users told pass now before after turns (Broken fault) = HasBroken users told pass now before after turns
+
+-- the end of a session that stopped so, with the turns that were noted
+abbrev pub IsEndWith : {X : Type 0} → Stop X → List Served → OnEnd X → Type 0
+IsEndWith (Ended how) turns end = end ≡ on_end.Ended (record { how = how; turns = turns })
+IsEndWith (Broken fault) turns end = end ≡ on_end.Broken fault turns
 
 -- by a result: it goes on, or has stopped
 abbrev pub GoesOnOrStops : {T X : Type 0} → Type 0 → (Stop X → Type 0) → Result T (Stop X) → Type 0

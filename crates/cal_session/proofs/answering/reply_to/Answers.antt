@@ -1,0 +1,34 @@
+use Rattle.std.proofs.Common.{◌≡◌, ℕ, List, ap, subst}
+use Rattle.turn_lock.specs.Passes.{PassState}
+use Rattle.cal_model.specs.History.Journal.{Entry}
+use Rattle.cal_model.specs.Users.UsersFile.{User}
+use Rattle.cal_book.specs.declared.desk.Told.{Told}
+use Rattle.cal_session.specs.AskedTurns.{AskedAt}
+use Rattle.cal_session.specs.Turns.{event_of}
+use Rattle.cal_session.proofs.ReplyLemmas.{replied, replied_known}
+use Rattle.cal_session.proofs.answering.reply_to.Goals as goal
+
+pub returns-in-Reply-clause-answered : goal.returns-in-Reply-clause-answered
+returns-in-Reply-clause-answered g c =
+    let users = c.args.hall.now.users.now in
+    let pass = c.args.pass.now in
+    let next = c.ask_once-at.new.pass in
+    let at = c.ask_once-at.result.0 in
+    let who = c.in-Request.who in
+    let request = c.in-Request.request in
+    let own = subst (λ (n : ℕ). AskedAt users pass at (event_of n who c.args.moment request) c.ask_once-at.result.1 next.seen) c.number.ensures c.ask_once-at.ensures.turn in
+    let turn = rw c.in-Reply.is at own in
+    replied users pass next c.args.wire.now c.args.moment who request at c.in-Reply.reply c.in-Request.ensures.asked turn
+    (ap (λ (p : PassState Entry (List User)). p.looks) c.ask_once-at.ensures.pass)
+
+pub returns-in-Reply-clause-known : goal.returns-in-Reply-clause-known
+returns-in-Reply-clause-known g c =
+    let users = c.args.hall.now.users.now in
+    let pass = c.args.pass.now in
+    let next = c.ask_once-at.new.pass in
+    let at = c.ask_once-at.result.0 in
+    let who = c.in-Request.who in
+    let request = c.in-Request.request in
+    let own = subst (λ (n : ℕ). AskedAt users pass at (event_of n who c.args.moment request) c.ask_once-at.result.1 next.seen) c.number.ensures c.ask_once-at.ensures.turn in
+    let turn = rw c.in-Reply.is at own in
+    replied_known users pass next c.args.wire.now c.args.moment who request at c.in-Reply.reply turn c.in-Request.ensures.bookable c.replies_have_reasons.ensures
