@@ -21,22 +21,22 @@ due-init g c = record {
 }
 
 pub answer_next-requires-clause-same : goal.answer_next-requires-clause-same
-answer_next-requires-clause-same g c = ap (λ (p : PassState Entry (List User)). p.lock) c.due.invariant.pass ∙ c.requires.same
+answer_next-requires-clause-same g c κs within = ap (λ (p : PassState Entry (List User)). p.lock) c.due.invariant.pass ∙ c.requires.same
 
 pub answer_next-requires-clause-free : goal.answer_next-requires-clause-free
-answer_next-requires-clause-free g c = ap (λ (p : PassState Entry (List User)). p.holds_turn) c.due.invariant.pass ∙ c.requires.free
+answer_next-requires-clause-free g c κs within = ap (λ (p : PassState Entry (List User)). p.holds_turn) c.due.invariant.pass ∙ c.requires.free
 
 pub answer_next-requires-clause-base : goal.answer_next-requires-clause-base
-answer_next-requires-clause-base g c = ap (λ (p : PassState Entry (List User)). p.base) c.due.invariant.pass ∙ c.requires.base
+answer_next-requires-clause-base g c κs within = ap (λ (p : PassState Entry (List User)). p.base) c.due.invariant.pass ∙ c.requires.base
 
 pub answer_next-requires-clause-few : goal.answer_next-requires-clause-few
-answer_next-requires-clause-few g c =
+answer_next-requires-clause-few g c κs within =
     let from = c.requires.under_way in
     let under = c.due.invariant.session from.0 from.1 from.2 from.3 in
     few_yet c.args.hall.now.users.now _ from.0 _ from.1 _ _ under.stream under.rest under.reached
 
 pub answer_next-requires-clause-room : goal.answer_next-requires-clause-room
-answer_next-requires-clause-room g c =
+answer_next-requires-clause-room g c κs within =
     let from = c.requires.under_way in
     let under = c.due.invariant.session from.0 from.1 from.2 from.3 in
     let few : length c.due.turns.items < request_limit = few_yet c.args.hall.now.users.now _ from.0 _ from.1 _ _ under.stream under.rest under.reached in
@@ -45,7 +45,7 @@ answer_next-requires-clause-room g c =
     omega (arith, few, same, room)
 
 pub answer_next-requires-clause-stands : goal.answer_next-requires-clause-stands
-answer_next-requires-clause-stands g c =
+answer_next-requires-clause-stands g c κs within =
     let from = c.requires.under_way in
     let under = c.due.invariant.session from.0 from.1 from.2 from.3 in
     (under.rest, under.stands)
