@@ -1,4 +1,4 @@
-use Rattle.std.proofs.Common.{◌≡◌, ◌≤◌, ◌+◌, ◌∙◌, ap, sym, subst, refl, rules, arith, List, Option, length}
+use Rattle.std.proofs.Common.{◌≡◌, ◌≤◌, ◌+◌, ◌∙◌, ap, sym, subst, refl, arith, List, Option, length}
 use Rattle.std.specs.Prelude.{ℤ}
 use Rattle.turn_lock.specs.Passes.{PassState}
 use Rattle.cal_model.specs.History.Journal.{Entry}
@@ -26,13 +26,9 @@ reading-init g c =
     }
 
 pub answer_due-requires-clause-under_way : goal.answer_due-requires-clause-under_way
-answer_due-requires-clause-under_way g c =
+answer_due-requires-clause-under_way g c lifetimes lives =
     let first : LinkTold = record { faults = g.L.Link.faults c.args.link.now; left = g.L.Link.left c.args.link.now; written = g.L.Link.written c.args.link.now } in
-    let link : LinkTold = record { faults = g.L.Link.faults c.reading.link; left = g.L.Link.left c.reading.link; written = g.L.Link.written c.reading.link } in
-    let pass = c.reading.pass in
-    let under : (start : PassState Entry (List User)) × (before : LinkTold) × (pass ≡ record start { seen = pass.seen; looks = pass.looks }) × IsUnderWay c.args.hall.now.users.now (g.C.Clock.moment c.reading.clock) start pass before link c.reading.turns.items c.reading.wire =
-    (c.args.pass.now, first, c.reading.invariant.pass, c.reading.invariant.session) in
-    search (rules, under)
+    (c.args.pass.now, first, c.reading.invariant.pass, c.reading.invariant.session)
 
 pub returns-in-Err-clause-session : goal.returns-in-Err-clause-session
 returns-in-Err-clause-session g c =
