@@ -25,22 +25,10 @@ reading-init g c =
       never_falls = omega arith;
     }
 
-pub answer_due-requires-clause-same : goal.answer_due-requires-clause-same
-answer_due-requires-clause-same g c = ap (λ (p : PassState Entry (List User)). p.lock) c.reading.invariant.pass ∙ c.requires.same
-
-pub answer_due-requires-clause-free : goal.answer_due-requires-clause-free
-answer_due-requires-clause-free g c = ap (λ (p : PassState Entry (List User)). p.holds_turn) c.reading.invariant.pass ∙ c.requires.free
-
-pub answer_due-requires-clause-base : goal.answer_due-requires-clause-base
-answer_due-requires-clause-base g c = ap (λ (p : PassState Entry (List User)). p.base) c.reading.invariant.pass ∙ c.requires.base
-
-pub answer_due-requires-clause-room : goal.answer_due-requires-clause-room
-answer_due-requires-clause-room g c = c.reading.invariant.room
-
 pub answer_due-requires-clause-under_way : goal.answer_due-requires-clause-under_way
-answer_due-requires-clause-under_way g c =
-    let link : LinkTold = record { faults = g.L.Link.faults c.args.link.now; left = g.L.Link.left c.args.link.now; written = g.L.Link.written c.args.link.now } in
-    (c.args.pass.now, link, c.reading.invariant.pass, c.reading.invariant.session)
+answer_due-requires-clause-under_way g c lifetimes lives =
+    let first : LinkTold = record { faults = g.L.Link.faults c.args.link.now; left = g.L.Link.left c.args.link.now; written = g.L.Link.written c.args.link.now } in
+    (c.args.pass.now, first, c.reading.invariant.pass, c.reading.invariant.session)
 
 pub returns-in-Err-clause-session : goal.returns-in-Err-clause-session
 returns-in-Err-clause-session g c =
