@@ -1,6 +1,6 @@
 -- The answer to one request: by a turn at the desk, or as it stands.
 use Rattle.std.proofs.Common.{◌≡◌, ◌≢◌, ℕ, ◌⊎◌, inl, inr, List, [], ◌∷◌, ◌++◌, length, map, refl, sym, ap, subst, ◌∙◌, Bool, true, false}
-use Rattle.std.specs.Prelude.{ℤ, filter, not, if◌then◌else◌}
+use Rattle.std.specs.Prelude.{ℤ, not, if◌then◌else◌}
 use Rattle.std.proofs.lemmas.List.{append-nil}
 use Rattle.std.proofs.lemmas.Bool.Decides.{eqb_tells}
 use Rattle.std.proofs.Math.Dec.{eqb}
@@ -18,7 +18,7 @@ use Rattle.cal_book.specs.EventSteps.{state_behind}
 use Rattle.cal_book.specs.ReplyReasons.{HasReason, RepliesHaveReasons}
 use Rattle.cal_book.specs.declared.desk.Told.TheVariants.{Reply, Broken}
 use Rattle.cal_session.specs.AskedTurns.{IsLater, AskedAt, AnsweredAt, BrokeAt, IsReplied, answer_of}
-use Rattle.cal_session.specs.Turns.{Answer, IsWithin, LooksUp, IsAlike, event_of, reply_in, entries_in, is_busy, is_given, places_given}
+use Rattle.cal_session.specs.Turns.{Answer, IsWithin, LooksUp, IsAlike, event_of, reply_in, entries_in, is_busy, is_given}
 
 within_one : (b : Bool) (a : Answer) → IsWithin (map (λ (answer : Answer). answer.turn.at) (if b then a ∷ [] else [])) (a.turn.at ∷ [])
 within_one true a = inl (refl, tt)
