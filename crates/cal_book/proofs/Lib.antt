@@ -4,6 +4,8 @@ pub mod HeldPieces
 pub mod HistoryLemmas
 pub mod WalkLemmas
 pub mod EventLemmas
+pub mod LegalLemmas
+pub mod ReasonLaws
 pub mod ChangeLemmas
 pub mod PublishLemmas
 pub mod RequestLemmas

@@ -265,6 +265,7 @@ impl Book {
         ensures pair { IfOk result (λ claim. option_map pair_of_claim claim ≡ next_claim self.old.work) }
         ensures work { OnOk result (self.new.work ≡ record self.old.work { out = out_after (next_claim self.old.work) self.old.work.out }) }
         ensures of_book { IfOk result (λ found. IfSome found (λ claim. IsClaimIn self.old.work.journal claim)) }
+        ensures spare { self.new.spare ≡ self.old.spare }
         ensures err { OnErr result (self.new ≡ self.old) }
     {
         next_is_of_work();

@@ -114,6 +114,7 @@ pub trait Desk: Keeps<Entry = JournalEntry, Base = Users> {
         ensures pair { IfOk result (λ claim. option_map pair_of_claim claim ≡ next_claim (book self.old).work) }
         ensures work { OnOk result ((book self.new).work ≡ record (book self.old).work { out = out_after (next_claim (book self.old).work) (book self.old).work.out }) }
         ensures of_book { IfOk result (λ found. IfSome found (λ claim. IsClaimIn (book self.old).work.journal claim)) }
+        ensures spare { (book self.new).spare ≡ (book self.old).spare }
         ensures err { OnErr result (book self.new ≡ book self.old) }
         ensures broken_kept { broken self.new ≡ broken self.old }
         ensures never_falls { faults self.old ≤ faults self.new };

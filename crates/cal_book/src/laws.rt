@@ -4,6 +4,7 @@ ghost use Rattle.cal_model.specs.History.Journal.{Entry};
 ghost use Rattle.cal_book.specs.EventSteps.{JournalsFollow};
 ghost use Rattle.cal_book.specs.LegalJournals.{LegalIsTold};
 ghost use Rattle.cal_book.specs.Publishing.{IsClaimIn};
+ghost use Rattle.cal_book.specs.ReplyReasons.{RepliesHaveReasons};
 ghost use Rattle.cal_book.specs.declared.claims.Claim.{Claim};
 
 /// The journal after an event is legal, and leads to the state after the event.
@@ -19,4 +20,9 @@ pub fn claims_stay()
 /// The test of legal journals, by which the lock knows them, tells them.
 pub fn journals_are_told()
     ensures { LegalIsTold }
+{}
+
+/// Each reply has a status with a reason phrase, so that its octets can be written.
+pub fn replies_have_reasons()
+    ensures { RepliesHaveReasons }
 {}

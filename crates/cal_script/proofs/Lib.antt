@@ -2,9 +2,7 @@ pub mod NumberLemmas
 pub mod HeadLemmas
 pub mod FrameLemmas
 pub mod ConnectionLemmas
-pub mod BodyLemmas
 pub mod ReadingLemmas
-pub mod ReasonLaws
 pub mod ReplyingLemmas
 pub mod SlotLemmas
 pub mod AnsweringLemmas

@@ -15,7 +15,6 @@ use Rattle.http_wire.specs.declared.wire.Next.TheVariants.{Request as NextReques
 use Rattle.http_wire.specs.declared.wire.Wire.{Wire}
 use Rattle.cal_script.specs.declared.connections.Connection.{Connection}
 use Rattle.cal_script.specs.Readings.{numbered, IsOpenReading, IsClosedReading, IsReading, Rests}
-use Rattle.cal_script.proofs.BodyLemmas.{request-short}
 use Rattle.cal_script.proofs.ConnectionLemmas.{numbered-push, answered_open, answered_front, answered_closed, still_open}
 
 -- Streams
@@ -120,8 +119,7 @@ pub due_short : (stream : List ℕ) (given : List Completed) (before : Connectio
     → ((octets : List ℕ) → Stands octets before.wire → NextIs (NextRequest wire) octets after) → IsReading stream given before → length wire.body ≤ body_limit
 due_short stream given before after wire e next reading =
     let open_ = open_case stream given before e reading in
-    let found = next open_.rest open_.stands in
-    request-short open_.rest wire found.0 found.1
+    (next open_.rest open_.stands).3
 
 ending_of : (octets : List ℕ) → (front octets ≡ idle) ⊎ (front octets ≡ cut) → (ending : Ending) × Ends octets ending × ((requests : List WireRequest) → is_open requests ≡ true → answered requests ending ≡ numbered requests)
 ending_of octets (inl e) = (ends_idle, e, λ requests open_. answered_open requests ends_idle open_ ∙ append-nil (numbered requests))

@@ -17,10 +17,9 @@ use Rattle.cal_model.specs.State.ServerState.{ServerState, directory_of}
 use Rattle.cal_model.specs.Transcripts.Transcript.{Answer, event_of, answer_to, IsAnswer}
 use Rattle.cal_model.specs.Users.UsersFile.{User}
 use Rattle.cal_book.specs.Cores.{Core, state_in}
-use Rattle.cal_book.specs.EventSteps.{entries_made, work_after}
-use Rattle.cal_book.proofs.EventLemmas.{journals-follow}
+use Rattle.cal_book.specs.EventSteps.{entries_made, work_after, JournalsFollow}
+use Rattle.cal_book.specs.ReplyReasons.{RepliesHaveReasons}
 use Rattle.cal_script.specs.Answering.{Grows}
-use Rattle.cal_script.proofs.ReasonLaws.{reply-reason, busy-reason}
 
 -- what the book says of a reply, and of itself after it
 pub record IsBooked (users : List User) (work : Work) (connection who moment : ℕ) (request : Request) (reply : Reply) (new : Core) : Type 0 where
@@ -39,24 +38,24 @@ in_state : (users : List User) (state other : ServerState) (connection moment : 
 in_state users state other connection moment wire given e h = subst (λ s. IsAnswer users s connection moment wire given) (sym e) h
 
 booked_answer : (users : List User) (work : Work) (connection who moment : ℕ) (wire : WireRequest) (request : Request) (reply : Reply) (new : Core)
-    → IsLegal (directory_of users) work.journal → asked_of users wire ≡ asked who request → IsBookable users who request → IsBooked users work connection who moment request reply new
+    → JournalsFollow → IsLegal (directory_of users) work.journal → asked_of users wire ≡ asked who request → IsBookable users who request → IsBooked users work connection who moment request reply new
     → IsAnswer users (replay (directory_of users) work.journal) connection moment wire (record { reply = reply; server = state_in new })
-booked_answer users work connection who moment wire request reply new legal asks bookable h = elim (eqb_tells reply.status 503) [
+booked_answer users work connection who moment wire request reply new follow legal asks bookable h = elim (eqb_tells reply.status 503) [
   | inl same ↦ inr (ap₂ (λ (r : Reply) (s : ServerState). record { reply = r; server = s }) (h.busy same.1)
       (state_with new users h.users_is ∙ ap (λ (w : Work). replay (directory_of users) w.journal) (h.kept same.1)))
   | inr other ↦ inl (ap₂ (λ (r : Reply) (s : ServerState). record { reply = r; server = s }) (h.replied other.1)
       (state_with new users h.users_is ∙ (ap (λ (w : Work). replay (directory_of users) w.journal) (h.worked other.1)
-      ∙ (journals-follow users work.journal (event_of connection who moment request) legal bookable.size).1))
+      ∙ (follow users work.journal (event_of connection who moment request) legal bookable.size).1))
       ∙ sym (ap (answer_to users (replay (directory_of users) work.journal) connection moment) asks))
 ]
 
 pub answered_by_book : (users : List User) (old : Core) (connection who moment : ℕ) (wire : WireRequest) (request : Request) (reply : Reply) (new : Core)
-    → old.users ≡ users → IsLegal (directory_of users) old.work.journal → asked_of users wire ≡ asked who request → IsBookable users who request
+    → JournalsFollow → old.users ≡ users → IsLegal (directory_of users) old.work.journal → asked_of users wire ≡ asked who request → IsBookable users who request
     → IsBooked users old.work connection who moment request reply new
     → IsAnswer users (state_in old) connection moment wire (record { reply = reply; server = state_in new })
-answered_by_book users old connection who moment wire request reply new e legal asks bookable h =
+answered_by_book users old connection who moment wire request reply new follow e legal asks bookable h =
     in_state users (state_in old) (replay (directory_of users) old.work.journal) connection moment wire _ (state_with old users e)
-    (booked_answer users old.work connection who moment wire request reply new legal asks bookable h)
+    (booked_answer users old.work connection who moment wire request reply new follow legal asks bookable h)
 
 pub booked_goes_on : (users : List User) (work : Work) (connection who moment : ℕ) (request : Request) (reply : Reply) (new : Core)
     → IsBooked users work connection who moment request reply new → (new.work.out ≡ work.out) × Grows work.journal new.work.journal
@@ -69,11 +68,11 @@ booked_goes_on users work connection who moment request reply new h = elim (eqb_
 ]
 
 pub booked_reason : (users : List User) (work : Work) (connection who moment : ℕ) (request : Request) (reply : Reply) (new : Core)
-    → IsBookable users who request → IsBooked users work connection who moment request reply new → 0 < length (reason reply.status)
-booked_reason users work connection who moment request reply new bookable h = elim (eqb_tells reply.status 503) [
-  | inl same ↦ subst (λ (r : Reply). 0 < length (reason r.status)) (sym (h.busy same.1)) busy-reason
+    → RepliesHaveReasons → IsBookable users who request → IsBooked users work connection who moment request reply new → 0 < length (reason reply.status)
+booked_reason users work connection who moment request reply new reasons bookable h = elim (eqb_tells reply.status 503) [
+  | inl same ↦ subst (λ (r : Reply). 0 < length (reason r.status)) (sym (h.busy same.1)) reasons.busy
   | inr other ↦ subst (λ (r : Reply). 0 < length (reason r.status)) (sym (h.replied other.1))
-      (reply-reason users (directory_of users) (replay (directory_of users) work.journal) (event_of connection who moment request) bookable)
+      (reasons.answered users (directory_of users) (replay (directory_of users) work.journal) (event_of connection who moment request) bookable)
 ]
 
 -- a book whose room alone has changed since

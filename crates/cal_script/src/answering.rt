@@ -1,7 +1,7 @@
 //! Answering what the octets of one frame complete on their connection.
 ghost use Rattle.std.specs.Prelude.{◌≡◌, ◌≤◌, ◌<◌, ◌++◌, ℕ, List, length, OnOk, OnErr, IsErrOf, pos, take};
 ghost use Rattle.cal_base.specs.World.Outside.{Rose, Adds};
-ghost use Rattle.cal_model.specs.Streams.WireLimits.{body_limit};
+ghost use Rattle.cal_model.specs.Streams.WireLimits.{body_limit, request_limit};
 ghost use Rattle.cal_model.specs.Transcripts.ScriptFrames.{reply_frame};
 ghost use Rattle.cal_model.specs.Replies.WireReplies as spec;
 ghost use Rattle.cal_model.specs.Words.Limits.{last_moment};
@@ -11,10 +11,10 @@ ghost use Rattle.cal_script.specs.Readings.{Rests};
 use crate::connections::{Connection, Due};
 use crate::frame::Arrival;
 use crate::reply_frame::write_frame;
-use crate::replying::{answer, fault_octets};
+use crate::replying::{answer, seconds};
 use crate::server::Server;
 use cal_base::{Sink, Steps};
-use http_wire::{WireFault, WireRequest};
+use http_wire::{WireFault, WireRequest, write_fault};
 use std::alloc::Global;
 use std::sync::ledger::Ledger;
 
@@ -73,14 +73,14 @@ fn answer_request<O: Sink, L: Ledger>(
     alloc: Global,
     server: &mut Server,
     arrival: Arrival<'_>,
-    before: u32,
+    before: usize,
     wire: WireRequest,
     output: &mut O,
     steps: &mut Steps<L>,
 ) -> Result<(), Stop>
     requires server { IsServer server.old }
     requires moment { arrival.moment ≤ last_moment }
-    requires before { before < 1_000 }
+    requires before { before < request_limit }
     requires body { length wire.body ≤ body_limit }
     ensures whole { OnOk result (WroteAnswer server.old.users arrival.entry.connection arrival.entry.moment before wire (state_of server.old) (state_of server.new) (O.written output.old) (O.written output.new)) }
     ensures in_part { OnErr result (WroteAnswerInPart server.old.users arrival.entry.connection arrival.entry.moment before wire (state_of server.old) (O.written output.old) (O.written output.new)) }
@@ -108,7 +108,7 @@ fn answer_fault<O: Sink>(
     ensures fault { IsErrOf result Stop.Output → Rose (O.faults output.old) (O.faults output.new) }
     ensures never_falls { O.faults output.old ≤ O.faults output.new }
 {
-    let Ok(octets) = fault_octets(alloc, why, arrival.moment) else {
+    let Ok(octets) = write_fault(alloc, why, seconds(arrival.moment)) else {
         return Err(Stop::NoMemory);
     };
     write_frame(alloc, arrival.connection, octets.as_slice(), output)

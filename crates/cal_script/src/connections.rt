@@ -1,19 +1,16 @@
 //! Connections: what the octets that come on one complete.
-ghost use Rattle.std.specs.Prelude.{◌≡◌, ◌<◌};
-ghost use Rattle.cal_model.specs.Streams.StreamRequests as spec;
+ghost use Rattle.std.specs.Prelude.{◌<◌};
+ghost use Rattle.cal_model.specs.Streams.WireLimits.{request_limit};
 
 use cal_base::NoMemory;
-use http_wire::{Next, Wire, WireFault, WireRequest};
+use http_wire::{Next, Wire, WireFault, WireRequest, closes_after};
 use std::alloc::Global;
-
-/// The most requests of a connection.
-const REQUEST_LIMIT: u32 = 1_000;
 
 /// What the octets of a connection complete next.
 #[derive(Drop)]
 pub(crate) enum Due {
     /// A request, and how many were answered before it.
-    Request(u32, WireRequest),
+    Request(usize, WireRequest),
     /// A fault, behind which nothing is read any more.
     Fault(WireFault),
     /// Nothing more.
@@ -27,10 +24,10 @@ pub(crate) enum Due {
 pub(crate) struct Connection {
     wire: Wire,
     /// How many requests were answered. While it is open they are fewer than a connection has.
-    answered: u32,
+    answered: usize,
     /// Whether a reply said that it closes. Behind that nothing is read.
     closed: bool,
-    ghost few: { answered < 1_000 },
+    ghost few: { answered < request_limit },
 }
 
 impl Connection {
@@ -88,13 +85,4 @@ impl Connection {
             Next::NoMemory => Due::NoMemory,
         }
     }
-}
-
-/// Whether the reply to a request says that the connection closes (RFC 9112, 9.6), where so many
-/// were answered before it: the request asks so, or it is the last that a connection has.
-pub(crate) fn closes_after(before: u32, request: &WireRequest) -> bool
-    requires { before < 1_000 }
-    ensures { result ≡ spec.closes_after before request.now }
-{
-    request.close || REQUEST_LIMIT <= before + 1
 }

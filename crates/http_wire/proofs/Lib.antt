@@ -12,5 +12,6 @@ pub mod LineSteps
 pub mod TrailerSteps
 pub mod HeadPlaces
 pub mod Beginning
+pub mod ShortBodies
 pub mod WireLaws
 pub mod IdleFronts

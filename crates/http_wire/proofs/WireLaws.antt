@@ -13,6 +13,7 @@ use Rattle.http_wire.specs.declared.wire.Next.{Next}
 use Rattle.http_wire.specs.declared.wire.Next.TheVariants.{Request, Need, Fault, NoMemory}
 use Rattle.http_wire.specs.WireStates.{front_of}
 use Rattle.http_wire.specs.Wires.{wire_front, Stands, Leads, NextIs}
+use Rattle.http_wire.proofs.ShortBodies.{bodies-short}
 
 pub head_stands : (stage : Stage) (at n new_at : ℕ) (octets new_octets : List ℕ) → stage ≡ Head → new_at ≡ at + n → new_octets ≡ octets → (more : List ℕ) → front (drop n (drop at octets) ++ more) ≡ front_of stage (drop new_at new_octets ++ more)
 head_stands stage at n new_at octets new_octets is place same more =
@@ -37,7 +38,9 @@ head_begins stage at n new_at octets new_octets unread r part is there place sam
     ∙ ap (λ l. front_of (Body r part) (drop new_at l ++ more)) (sym same)
 
 pub answers_are_read : (answer : Next) (octets : List ℕ) (old new : Wire) → Leads answer (wire_front old) new → Stands octets old → NextIs answer octets new
-answers_are_read (Request r) octets old new h s = (h.0, ap front (sym (append-nil octets)) ∙ s [] ∙ h.1 [] ∙ ap (request r) (append-nil h.0), h.2)
+answers_are_read (Request r) octets old new h s =
+    let begins : front octets ≡ request r h.0 = ap front (sym (append-nil octets)) ∙ s [] ∙ h.1 [] ∙ ap (request r) (append-nil h.0) in
+    (h.0, begins, h.2, bodies-short octets r h.0 begins)
 answers_are_read Need octets old new h s =
     let here = ap front (sym (append-nil octets)) ∙ s [] in
     (⊎_elim (λ a. inl (here ∙ a)) (λ b. inr (here ∙ b)) h.0, λ more. s more ∙ h.1 more)

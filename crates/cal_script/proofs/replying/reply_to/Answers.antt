@@ -5,7 +5,6 @@ use mir.Val.{to_z}
 use Rattle.cal_model.specs.Requests.AskedRequests.{asked, asked_of}
 use Rattle.cal_model.specs.Requests.BookableRequests.{IsBookable}
 use Rattle.cal_model.specs.Users.UsersFile.{User}
-use Rattle.cal_script.proofs.ReasonLaws.{refused-reason, busy-reason}
 use Rattle.cal_script.proofs.ReplyingLemmas.{IsBooked, booked_since, in_time, answered_by_book, booked_goes_on, booked_reason}
 use Rattle.cal_script.proofs.replying.reply_to.Goals as goal
 use Rattle.cal_script.proofs.replying.reply_to.Given as given
@@ -24,7 +23,7 @@ bookable g c = subst (λ (users : List User). IsBookable users c.in-Request.who 
 pub returns-in-Request-clause-answer : goal.returns-in-Request-clause-answer
 returns-in-Request-clause-answer g c =
     answered_by_book c.args.server.now.users c.args.server.now.book c.args.connection c.in-Request.who c.args.moment c.args.wire.now c.in-Request.request c.request.result c.request.new.self
-    c.requires.server.users c.requires.server.legal
+    c.journals_follow.ensures c.requires.server.users c.requires.server.legal
     (subst (λ (users : List User). asked_of users c.args.wire.now ≡ asked c.in-Request.who c.in-Request.request) c.deref.ensures c.in-Request.ensures.asked) (bookable g c) (booked g c)
 
 pub returns-in-Request-clause-goes_on : goal.returns-in-Request-clause-goes_on
@@ -33,10 +32,10 @@ returns-in-Request-clause-goes_on g c =
     record { users = refl; out = on.0; grows = on.1 }
 
 pub returns-in-Request-clause-known : goal.returns-in-Request-clause-known
-returns-in-Request-clause-known g c = booked_reason c.args.server.now.users _ _ _ _ _ _ _ (bookable g c) (booked g c)
+returns-in-Request-clause-known g c = booked_reason c.args.server.now.users _ _ _ _ _ _ _ c.replies_have_reasons.ensures (bookable g c) (booked g c)
 
 pub returns-in-Refused-clause-known : goal.returns-in-Refused-clause-known
-returns-in-Refused-clause-known g c = refused-reason _ _ _ c.in-Refused.ensures.asked
+returns-in-Refused-clause-known g c = c.replies_have_reasons.ensures.refused_before _ _ _ c.in-Refused.ensures.asked
 
 pub returns-in-NoMemory-clause-known : goal.returns-in-NoMemory-clause-known
-returns-in-NoMemory-clause-known g c = rw c.status_reply.ensures busy-reason
+returns-in-NoMemory-clause-known g c = rw c.bare_reply.ensures c.replies_have_reasons.ensures.busy

@@ -48,6 +48,7 @@ use Rattle.cal_model.specs.Requests.BookableRequests.{Suits, refusals_of, IsBook
 use Rattle.cal_model.specs.Requests.Methods.{has_method, method_of}
 use Rattle.cal_model.specs.Users.Credentials.{authenticated}
 use Rattle.cal_model.specs.Users.UsersFile.{User}
+use Rattle.cal_book.specs.ReplyReasons.{HasReason, RepliesHaveReasons}
 
 -- a status is another one
 abbrev pub Fine : ℕ → Type 0
@@ -449,11 +450,11 @@ unfolding reason
 known-reason status fine = found-reason reasons (λ known. known == status) reasons-some fine
 
 -- the reply to a request that can be booked has a reason
-pub reply-reason : (users : List User) (directory : Directory) (state : ServerState) (event : Event) → IsBookable users event.who event.request → 0 < length (reason (reply_to directory state event).status)
+reply-reason : (users : List User) (directory : Directory) (state : ServerState) (event : Event) → IsBookable users event.who event.request → HasReason (reply_to directory state event)
 reply-reason users directory state event bookable =
     known-reason _ (reply_to-status directory state event (suits-fine event.request.method event.request.content bookable.suits))
 
-pub busy-reason : 0 < length (reason 503)
+busy-reason : 0 < length (reason 503)
 busy-reason = known-reason 503 refl
 
 -- and so has one that is refused before any state is looked at
@@ -482,5 +483,8 @@ asked-fine : (users : List User) (wire : WireRequest) → RefusedFine (asked_of 
 unfolding asked_of
 asked-fine users wire = user-fine users wire (authenticated users wire.authorization)
 
-pub refused-reason : (users : List User) (wire : WireRequest) (reply : Reply) → asked_of users wire ≡ refused reply → 0 < length (reason reply.status)
+refused-reason : (users : List User) (wire : WireRequest) (reply : Reply) → asked_of users wire ≡ refused reply → HasReason reply
 refused-reason users wire reply e = known-reason reply.status (subst RefusedFine e (asked-fine users wire))
+
+pub replies_have_reasons : RepliesHaveReasons
+replies_have_reasons = record { answered = reply-reason; refused_before = refused-reason; busy = busy-reason }

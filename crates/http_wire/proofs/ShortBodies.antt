@@ -97,5 +97,5 @@ front_short : (octets : List ℕ) → Short (front octets)
 unfolding front
 front_short octets = found_short octets (head_size octets) refl
 
-pub request-short : (octets : List ℕ) (first : WireRequest) (rest : List ℕ) → front octets ≡ request first rest → length first.body ≤ body_limit
-request-short octets first rest e = subst Short e (front_short octets)
+pub bodies-short : (octets : List ℕ) (first : WireRequest) (rest : List ℕ) → front octets ≡ request first rest → length first.body ≤ body_limit
+bodies-short octets first rest e = subst Short e (front_short octets)

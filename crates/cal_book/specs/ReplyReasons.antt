@@ -1,0 +1,21 @@
+-- Each reply can be written: its status has a reason phrase (RFC 9112, 4).
+use Rattle.std.specs.Prelude.{◌≡◌, ◌<◌, List, length}
+use Rattle.cal_model.specs.declared.reply.Reply.{Reply}
+use Rattle.cal_model.specs.declared.request.Event.{Event}
+use Rattle.cal_model.specs.declared.wire.WireRequest.{WireRequest}
+use Rattle.cal_model.specs.Replies.BareReplies.{bare_reply}
+use Rattle.cal_model.specs.Replies.Statuses.{reason}
+use Rattle.cal_model.specs.Requests.AskedRequests.{refused, asked_of}
+use Rattle.cal_model.specs.Requests.BookableRequests.{IsBookable}
+use Rattle.cal_model.specs.Serving.EventReplies.{reply_to}
+use Rattle.cal_model.specs.State.ServerState.{Directory, ServerState}
+use Rattle.cal_model.specs.Users.UsersFile.{User}
+
+abbrev pub HasReason : Reply → Type 0
+HasReason reply = 0 < length (reason reply.status)
+
+-- The reply to a request that a book can be asked has one, and so have that to a request which is refused before any book is asked, and that where memory is wanting.
+pub record RepliesHaveReasons : Type 0 where
+  pub answered : (users : List User) (directory : Directory) (state : ServerState) (event : Event) → IsBookable users event.who event.request → HasReason (reply_to directory state event)
+  pub refused_before : (users : List User) (wire : WireRequest) (reply : Reply) → asked_of users wire ≡ refused reply → HasReason reply
+  pub busy : HasReason (bare_reply 503)
