@@ -712,8 +712,12 @@ def reporting():
     ])
 
 
-def filled():
-    # MKCALENDAR without a body costs 256 and a PUT its body and 256, so that the last PROPPATCH is made shorter by these
+def full_home():
+    """A home that has accepted 33,554,432 octets, and what it then refuses: 507 comes behind all else, and deletions are made.
+
+    MKCALENDAR without a body costs 256, and a PUT its body and 256, so the last PROPPATCH is the shorter by these. It is no
+    case of the gate, which would go over 33 MB twice: `bench/limits.py` runs it.
+    """
     displayname = update("<D:displayname>p</D:displayname>")
 
     def spends(cost):
@@ -744,7 +748,6 @@ def filled():
 
 
 def homes():
-    runs("a home that has no room, after 33,554,432 octets of changes: 507 comes behind all else that refuses a change, and deletions are made", filled())
     runs("a home of 64 calendars", [(request("MKCALENDAR", f"{HOME}c{n}/"), reply(201)) for n in range(63)] + [
         (request("MKCALENDAR", HOME + "c63/"), reply(507)), (request("MKCALENDAR", HOME + "c62/"), refused("<D:resource-must-be-null/>")),
         (request("DELETE", HOME + "c62/"), reply(204)), (request("MKCALENDAR", HOME + "c63/"), reply(201)),

@@ -9,7 +9,7 @@ import os, re, subprocess, sys, tempfile
 
 sys.path.insert(0, os.path.dirname(os.path.abspath(__file__)))
 from cases import (
-    CALENDAR, HOME, PASSWORDS, ace, calendar, event, expanded, frame, grants, make, propfind, put, query, report, request, todo, update, NAMES, BOB, NY, TOP, E1,
+    CALENDAR, HOME, PASSWORDS, ace, calendar, event, exchange, expanded, frame, full_home, grants, make, propfind, put, query, report, request, todo, update, whole, NAMES, BOB, NY, TOP, E1,
 )
 
 PROGRAM = os.path.abspath(sys.argv[1] if len(sys.argv) > 1 else os.path.join(TOP, "crates/caldav_server/out/caldav_server"))
@@ -182,6 +182,11 @@ def homes():
 
     full = [spends(1_048_576)] * 31
     both("octets that a home accepts", full + [spends(1_048_576)], full + [spends(1_048_575), request("ACL", CALENDAR, grants())], 207, 507)
+    steps = full_home()
+    _, _, told = run(b"".join(whole(asked) for asked, _ in steps))
+    fine = told == [octets for _, octets in steps]
+    print(f"{'fine' if fine else 'WRONG':6} what a full home refuses")
+    FAULTS.extend([] if fine else ["a full home"])
     last("a deletion in a full home", [put("a.ics", E1)] + full + [spends(1_048_576 - 256 - len(E1)), request("DELETE", CALENDAR + "a.ics")], 204)
 
 
