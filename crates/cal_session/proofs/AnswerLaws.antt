@@ -1,8 +1,8 @@
 -- A session goes on by an answer, or stops at one: its reply was written, or a front of it; or the desk broke.
-use Rattle.std.proofs.Common.{◌≡◌, ℕ, ◌+◌, ◌<◌, ◌≤◌, ◌⊎◌, inl, inr, List, [], ◌∷◌, ◌++◌, length, map, take, arith, refl, sym, ap, subst, ◌∙◌, true, false, Bool, Option, Some, None}
+use Rattle.std.proofs.Common.{◌≡◌, ℕ, ◌+◌, ◌<◌, ◌≤◌, ◌⊎◌, inl, inr, List, [], ◌∷◌, ◌++◌, length, take, arith, refl, sym, ap, subst, ◌∙◌, true, false, Option, Some}
 use Rattle.std.specs.Prelude.{ℤ, Result, Ok, Err}
 use Rattle.std.proofs.lemmas.List.{append-nil, append_assoc, length-append}
-use Rattle.cal_base.specs.World.Outside.{Rose, Takes, Adds}
+use Rattle.cal_base.specs.World.Outside.{Takes, Adds}
 use Rattle.turn_lock.specs.Passes.{PassState}
 use Rattle.turn_lock.specs.Journals.{IsFollowedByOthers}
 use Rattle.cal_model.specs.declared.wire.WireFault.{WireFault}
@@ -20,7 +20,7 @@ use Rattle.http_wire.specs.Wires.{NextIs}
 use Rattle.http_wire.specs.declared.wire.Next.TheVariants.{Need}
 use Rattle.http_wire.specs.declared.wire.Wire.{Wire}
 use Rattle.cal_session.specs.AskedTurns.{AnsweredAt, BrokeAt}
-use Rattle.cal_session.specs.Connections.{requests_of, replies_of, replies_from, AnsweredAll, AnsweredSome}
+use Rattle.cal_session.specs.Connections.{requests_of, replies_of, AnsweredAll, AnsweredSome}
 use Rattle.cal_session.specs.Sessions.{LinkTold, HasRun, HasServed, HasBroken, IsCutShort}
 use Rattle.cal_session.specs.Turns.{Answer, IsToldMoment, LooksUp, entries_in}
 use Rattle.cal_session.specs.UnderWay.{IsReached, IsUnderWay, IsWaiting, StopsSo, GoesOnOrStops}
@@ -31,7 +31,7 @@ use Rattle.cal_session.specs.declared.served.Served.{Served}
 use Rattle.cal_session.specs.declared.served.How.{How}
 use Rattle.cal_session.specs.declared.served.How.TheVariants.{Closed, CutInRequest, Limit, WireRefused, ReadFault, WriteFault, NoMemory}
 use Rattle.cal_session.proofs.SessionLaws.{IsOn, run_more, all_front, answered_some, answered_before, answered_all, rose_since}
-use Rattle.cal_session.proofs.StepLemmas.{adds_on, replies_further, map_further, map_len, looks_on, looks_none}
+use Rattle.cal_session.proofs.StepLemmas.{adds_on, replies_further, map_further, map_len, looks_on}
 use Rattle.cal_session.proofs.StreamLemmas.{open_parts, served_closed, spells_more, spells_on, still_open}
 use Rattle.cal_session.proofs.TurnLaws.{session_later}
 

@@ -1,26 +1,25 @@
 -- What a desk tells in a turn, by its journal before and after.
-use Rattle.std.proofs.Common.{◌≡◌, ◌≢◌, ℕ, ◌⊎◌, ⊎_elim, inl, inr, List, [], ◌∷◌, ◌++◌, length, refl, sym, ap, subst, ◌∙◌, Bool, true, false}
+use Rattle.std.proofs.Common.{◌≡◌, ◌≢◌, ℕ, ◌⊎◌, inl, inr, List, [], refl, sym, ap, ◌∙◌, Bool, true, false}
 use Rattle.std.specs.List.{AllByRecursion}
 use Rattle.std.proofs.lemmas.List.{append-nil}
 use Rattle.std.proofs.lemmas.Bool.Decides.{eqb_tells}
 use Rattle.std.proofs.Math.Dec.{eqb}
 use Rattle.turn_lock.specs.Journals.{IsFollowedByOwn}
 use Rattle.turn_lock.proofs.Histories.{all_as}
-use Rattle.cal_model.specs.declared.reply.Reply.{Reply as ReplyData}
 use Rattle.cal_model.specs.declared.request.Event.{Event}
 use Rattle.cal_model.specs.History.Journal.{Entry}
 use Rattle.cal_model.specs.Replies.BareReplies.{bare_reply}
 use Rattle.cal_model.specs.Serving.EventReplies.{reply_to}
 use Rattle.cal_model.specs.Serving.Outcomes.{is_reading}
 use Rattle.cal_model.specs.Sight.LookingAlike.{LookAlike}
-use Rattle.cal_model.specs.State.ServerState.{ServerState, directory_of}
+use Rattle.cal_model.specs.State.ServerState.{ServerState}
 use Rattle.cal_model.specs.Users.UsersFile.{User}
 use Rattle.cal_book.specs.Cores.{Core, directory_in, state_in}
 use Rattle.cal_book.specs.Desks.{IfReply, WhereBroken, IsLeftBroken}
 use Rattle.cal_book.specs.EventSteps.{entries_made, journal_after, state_behind, work_after}
 use Rattle.cal_book.specs.declared.desk.Told.{Told}
 use Rattle.cal_book.specs.declared.desk.Told.TheVariants.{Reply, Broken}
-use Rattle.cal_session.specs.AskedTurns.{IsReplied, IsTold}
+use Rattle.cal_session.specs.AskedTurns.{IsTold}
 use Rattle.cal_session.proofs.TurnLaws.{own_made}
 
 -- an answer by the book's clauses is one by the journal

@@ -1,34 +1,32 @@
 -- A session under way goes on, or ends, by each thing that can happen.
-use Rattle.std.proofs.Common.{◌≡◌, ℕ, zero, suc, ◌+◌, ◌-◌, ◌<◌, ◌≤◌, Bool, ◌⊎◌, inl, inr, List, [], ◌∷◌, ◌++◌, length, map, take, arith, refl, sym, ap, subst, ◌∙◌, true, false, Option, Some}
+use Rattle.std.proofs.Common.{◌≡◌, ℕ, suc, ◌-◌, ◌<◌, ◌≤◌, Bool, ◌⊎◌, inl, inr, List, [], ◌∷◌, ◌++◌, length, take, arith, refl, sym, ap, subst, ◌∙◌, true, false, Option, Some}
 use Rattle.std.specs.Prelude.{ℤ, if◌then◌else◌}
-use Rattle.std.specs.List.{AllByRecursion}
 use Rattle.std.specs.Prelude.{leb}
 use Rattle.std.proofs.lemmas.Bool.{leb-true, leb-false}
-use Rattle.std.proofs.lemmas.List.{append-nil, append_assoc, length-append}
+use Rattle.std.proofs.lemmas.List.{append-nil}
 use Rattle.cal_base.specs.World.Outside.{Rose, Takes, Adds}
 use Rattle.turn_lock.specs.Passes.{PassState}
-use Rattle.turn_lock.specs.Journals.{IsFollowedByOthers}
 use Rattle.turn_lock.proofs.Histories.{all_both}
 use Rattle.cal_model.specs.declared.wire.WireFault.{WireFault}
 use Rattle.cal_model.specs.declared.wire.WireRequest.{WireRequest}
 use Rattle.cal_model.specs.History.Journal.{Entry}
-use Rattle.cal_model.specs.Replies.WireReplies.{answer_octets, fault_octets}
-use Rattle.cal_model.specs.Streams.StreamRequests.{Ending, ends_idle, ends_cut, ends_at, IsStream, Spells, Begins, Ends, Front, front, idle, cut, fault, up_to_close}
+use Rattle.cal_model.specs.Replies.WireReplies.{fault_octets}
+use Rattle.cal_model.specs.Streams.StreamRequests.{Ending, ends_idle, ends_cut, ends_at, Spells, Begins, Ends, front, idle, cut, fault, up_to_close}
 use Rattle.cal_model.specs.Streams.WireLimits.{request_limit}
 use Rattle.cal_model.proofs.Streams.ReadingLaws.{streams_are_read, streams_grow}
 use Rattle.http_wire.specs.Wires.{Stands}
 use Rattle.http_wire.specs.declared.wire.Wire.{Wire}
 use Rattle.cal_model.specs.Transcripts.ConnectionAnswers.{is_open}
 use Rattle.cal_model.specs.Users.UsersFile.{User}
-use Rattle.cal_session.specs.AskedTurns.{IsLater, AnsweredAt}
+use Rattle.cal_session.specs.AskedTurns.{AnsweredAt}
 use Rattle.cal_session.specs.Connections.{requests_of, replies_of, AnsweredAll, AnsweredSome, IsFrontOfReplies}
 use Rattle.cal_session.specs.Sessions.{LinkTold, HasRun, HasServed, MetEnd}
 use Rattle.cal_session.specs.UnderWay.{IsReached, IsUnderWay, IsWaiting, EndsAtEnd}
 use Rattle.cal_session.specs.declared.served.How.{How}
 use Rattle.cal_session.specs.declared.served.How.TheVariants.{Closed, CutInRequest, Limit, WireRefused, ReadFault, WriteFault, NoMemory}
-use Rattle.cal_session.specs.Turns.{Answer, IsSession, IsToldMoment, AreToldMoments}
+use Rattle.cal_session.specs.Turns.{Answer, IsSession, IsToldMoment}
 use Rattle.cal_session.specs.declared.served.Served.{Served}
-use Rattle.cal_session.proofs.StepLemmas.{adds_on, takes_on, takes_none, replies_further, map_further, looks_on}
+use Rattle.cal_session.proofs.StepLemmas.{adds_on, takes_on, map_further, looks_on}
 use Rattle.cal_session.proofs.StreamLemmas.{open_parts, served_front, served_open, spells_on}
 use Rattle.cal_session.proofs.TurnLaws.{session_later, one_here}
 

@@ -1,5 +1,5 @@
 -- A session before its first request, and from one time on to the next.
-use Rattle.std.proofs.Common.{◌≡◌, ℕ, List, [], arith, refl, sym, ap, subst, ◌∙◌, inl, true, Option}
+use Rattle.std.proofs.Common.{List, [], arith, refl, sym, ap, subst, ◌∙◌, inl, Option}
 use Rattle.std.specs.Prelude.{ℤ}
 use Rattle.turn_lock.specs.Passes.{PassState}
 use Rattle.http_wire.specs.Wires.{Stands}

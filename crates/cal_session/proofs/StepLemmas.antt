@@ -1,14 +1,12 @@
 -- What is taken, written, looked up and noted goes on by one answer.
-use Rattle.std.proofs.Common.{◌≡◌, ℕ, zero, suc, ◌+◌, ◌⊎◌, inl, inr, List, [], ◌∷◌, ◌++◌, length, map, arith, refl, sym, ap, subst, ◌∙◌, Bool, true, false, Option, Some, None}
-use Rattle.std.specs.Prelude.{filter, not, if◌then◌else◌, ℤ}
-use Rattle.std.specs.List.{AllByRecursion}
-use Rattle.std.proofs.lemmas.List.{append-nil, append_assoc, length-append}
+use Rattle.std.proofs.Common.{◌≡◌, ℕ, ◌+◌, inl, inr, List, [], ◌∷◌, ◌++◌, length, map, arith, refl, sym, ap, subst, ◌∙◌, Option, Some, None}
+use Rattle.std.specs.Prelude.{filter}
+use Rattle.std.proofs.lemmas.List.{append-nil, append_assoc}
 use Rattle.std.proofs.lemmas.List.Elements.{filter-append}
 use Rattle.cal_base.specs.World.Outside.{Takes, Adds}
-use Rattle.cal_model.specs.declared.wire.WireRequest.{WireRequest}
 use Rattle.cal_model.specs.Replies.WireReplies.{answer_octets}
 use Rattle.cal_model.specs.Users.UsersFile.{User}
-use Rattle.cal_session.specs.Connections.{replies_from, replies_of, requests_of}
+use Rattle.cal_session.specs.Connections.{replies_from, replies_of}
 use Rattle.cal_session.specs.Turns.{Answer, is_given, places_given, IsWithin, LooksUp}
 
 -- Octets

@@ -1,6 +1,6 @@
 -- A session under way: all that the octets so far complete in front of a place was answered.
 -- Given: as in Sessions; and the wire, or what is left of the octets behind the requests that were answered.
-use Rattle.std.specs.Prelude.{◌≡◌, ◌⊎◌, ℕ, ◌≤◌, true, List, [], length, Result, Ok, Err, Option, Some, None, ℤ}
+use Rattle.std.specs.Prelude.{◌≡◌, ◌⊎◌, ℕ, ◌≤◌, true, List, Result, Ok, Err, Option, Some, None, ℤ}
 use Rattle.http_wire.specs.Wires.{Stands}
 use Rattle.http_wire.specs.declared.wire.Wire.{Wire}
 use Rattle.turn_lock.specs.Passes.{PassState}

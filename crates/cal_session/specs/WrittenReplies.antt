@@ -4,9 +4,9 @@ use Rattle.cal_base.specs.World.Outside.{Rose, Adds}
 use Rattle.cal_model.specs.declared.wire.WireRequest.{WireRequest}
 use Rattle.cal_model.specs.Streams.WireLimits.{request_limit}
 use Rattle.cal_session.specs.declared.answering.Stop.{Stop}
-use Rattle.cal_session.specs.declared.answering.Stop.TheVariants.{Ended, Broken}
+use Rattle.cal_session.specs.declared.answering.Stop.TheVariants.{Ended}
 use Rattle.cal_session.specs.declared.served.How.{How}
-use Rattle.cal_session.specs.declared.served.How.TheVariants.{Closed, CutInRequest, Limit, WireRefused, ReadFault, WriteFault, NoMemory}
+use Rattle.cal_session.specs.declared.served.How.TheVariants.{Closed, Limit, WriteFault, NoMemory}
 
 -- all were written; or a write failed, or memory was missing, and a front of them was
 abbrev pub IsSent : List ℕ → Option (List ℕ) → Option (List ℕ) → ℕ → ℕ → Option How → Type 0

@@ -1,5 +1,5 @@
 use Rattle.std.proofs.Common.{rules, ◌≡◌, ◌++◌, ◌∷◌, [], ℕ, List, refl, sym, ap, subst, to_z-of_z, FitsSigned, w64, Some}
-use Rattle.std.specs.Prelude.{ℤ, Option}
+use Rattle.std.specs.Prelude.{ℤ}
 use Rattle.cal_base.specs.Lists.Reserved.{Reserved}
 use Rattle.cal_base.specs.World.Outside.{Adds}
 use Rattle.cal_model.specs.Replies.WireReplies.{answer_octets}

@@ -1,4 +1,4 @@
-use Rattle.std.proofs.Common.{rules, ◌≡◌, to_z-of_z, FitsSigned, w64, subst, Some}
+use Rattle.std.proofs.Common.{rules, to_z-of_z, FitsSigned, w64, subst, Some}
 use Rattle.std.specs.Prelude.{ℤ}
 use Rattle.cal_model.specs.Replies.WireReplies.{fault_octets}
 use Rattle.cal_session.specs.WrittenReplies.{IsSent}

@@ -1,9 +1,8 @@
-use Rattle.std.proofs.Common.{rules, ◌≡◌, ℕ, List, ap, subst, to_z, of_z, to_z-of_z, FitsSigned, w64}
+use Rattle.std.proofs.Common.{rules, ℕ, List, ap, subst, to_z, of_z, to_z-of_z, FitsSigned, w64}
 use Rattle.std.specs.Prelude.{ℤ}
 use Rattle.turn_lock.specs.Passes.{PassState}
 use Rattle.cal_model.specs.History.Journal.{Entry}
 use Rattle.cal_model.specs.Users.UsersFile.{User}
-use Rattle.cal_book.specs.declared.desk.Told.{Told}
 use Rattle.cal_session.specs.AskedTurns.{AskedAt}
 use Rattle.cal_session.specs.Turns.{event_of}
 use Rattle.cal_session.proofs.ReplyLemmas.{replied, replied_known}

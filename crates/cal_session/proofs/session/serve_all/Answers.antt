@@ -1,8 +1,5 @@
-use Rattle.std.proofs.Common.{◌≡◌, ◌≤◌, ◌+◌, ◌∙◌, ap, sym, subst, refl, arith, List, Option, length}
+use Rattle.std.proofs.Common.{◌∙◌, sym, subst, refl, arith, List, Option}
 use Rattle.std.specs.Prelude.{ℤ}
-use Rattle.turn_lock.specs.Passes.{PassState}
-use Rattle.cal_model.specs.History.Journal.{Entry}
-use Rattle.cal_model.specs.Users.UsersFile.{User}
 use Rattle.cal_session.specs.Sessions.{LinkTold, HasServed}
 use Rattle.cal_session.specs.UnderWay.{IsUnderWay, StopsSo}
 use Rattle.cal_session.specs.declared.served.Served.{Served}

@@ -1,4 +1,3 @@
-use Rattle.cal_session.specs.Sessions.{LinkTold}
 use Rattle.cal_session.proofs.StartLaws.{ended_on}
 use Rattle.cal_session.proofs.session.serve_under.Goals as goal
 

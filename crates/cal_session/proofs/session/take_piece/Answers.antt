@@ -1,4 +1,4 @@
-use Rattle.std.proofs.Common.{◌≡◌, ℕ, [], take, subst}
+use Rattle.std.proofs.Common.{ℕ, [], take, subst}
 use Rattle.cal_base.specs.World.Outside.{Takes}
 use Rattle.cal_session.proofs.SessionLaws.{read_failed, read_ended, read_fed, read_wanting}
 use Rattle.cal_session.proofs.session.take_piece.Goals as goal
