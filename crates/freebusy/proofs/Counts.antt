@@ -1,5 +1,5 @@
 -- A class is open at a moment exactly where some of its times covers the moment: of the times that end after they start, those that have started and not ended.
-use Rattle.std.proofs.Common.{◌≡◌, ℕ, ◌+◌, Bool, true, false, cond, ◌&&◌, ◌||◌, List, [], ◌∷◌, map, reverse, Option, Some, None, refl, sym, ap, subst, ◌∙◌, nat_lt, arith}
+use Rattle.std.proofs.Common.{◌≡◌, ℕ, ◌+◌, Bool, true, false, cond, ◌&&◌, ◌||◌, List, [], ◌∷◌, map, reverse, Option, Some, refl, sym, ap, ◌∙◌, nat_lt, arith}
 use Rattle.std.specs.Prelude.{ℤ, ◌<ℤ◌, int_le, int_lt, filter}
 use Rattle.std.specs.List.{count_by, list_any}
 use Rattle.std.proofs.lemmas.Int.{ints}
@@ -119,26 +119,3 @@ pub runs-are : (rows : List BusyRow) (classes : Classes) (range : Range) (found 
 runs-are rows classes range found turned are swept is =
     ap (map time_of_run) is ∙ swept
     ∙ runs_of_classes-same (open_class classes) (class_at (times_of rows)) range (λ t from before. open_class-is rows classes are t)
-
-second : (b u n : Bool) → false ≡ b → true ≡ u → Some Unavailable ≡ greatest_open b u n
-second b u n closed some = rw (sym closed, sym some) refl
-
-third : (b u n : Bool) → false ≡ b → false ≡ u → true ≡ n → Some Tentative ≡ greatest_open b u n
-third b u n closed shut some = rw (sym closed, sym shut, sym some) refl
-
-none_of : (b u n : Bool) → false ≡ b → false ≡ u → false ≡ n → None ≡ greatest_open b u n
-none_of b u n closed shut free = rw (sym closed, sym shut, sym free) refl
-
-pub unavailable_is : (classes : Classes) (given at : ℤ) → given ≡ at → false ≡ is_open classes.busy given → true ≡ is_open classes.unavailable given → Some Unavailable ≡ open_class classes at
-unavailable_is classes given at same closed some =
-    subst (λ (t : ℤ). Some Unavailable ≡ open_class classes t) same (second (is_open classes.busy given) (is_open classes.unavailable given) (is_open classes.tentative given) closed some)
-
-pub tentative_is : (classes : Classes) (given at : ℤ) → given ≡ at → false ≡ is_open classes.busy given → false ≡ is_open classes.unavailable given → true ≡ is_open classes.tentative given
-    → Some Tentative ≡ open_class classes at
-tentative_is classes given at same closed shut some =
-    subst (λ (t : ℤ). Some Tentative ≡ open_class classes t) same (third (is_open classes.busy given) (is_open classes.unavailable given) (is_open classes.tentative given) closed shut some)
-
-pub none_is : (classes : Classes) (given at : ℤ) → given ≡ at → false ≡ is_open classes.busy given → false ≡ is_open classes.unavailable given → false ≡ is_open classes.tentative given
-    → None ≡ open_class classes at
-none_is classes given at same closed shut free =
-    subst (λ (t : ℤ). None ≡ open_class classes t) same (none_of (is_open classes.busy given) (is_open classes.unavailable given) (is_open classes.tentative given) closed shut free)

@@ -1,4 +1,4 @@
-mod Borders
+mod Passed
 mod Counts
 mod Partitions
 mod Stretches

@@ -93,13 +93,13 @@ seconds-some a b less =
     ap (λ (n : ℕ). pos n) (cond_true (int_lt a b) (nat_abs (b -ℤ a)) 0 (grind (arith, ints)))
     ∙ pos-nat_abs (b -ℤ a) (omega (arith, ints))
 
-seconds-is : (a b : ℤ) → a ≤ℤ b → pos (seconds_between a b) ≡ b -ℤ a
+pub seconds-is : (a b : ℤ) → a ≤ℤ b → pos (seconds_between a b) ≡ b -ℤ a
 seconds-is a b low = by_lt_z a b
     (λ less. seconds-some a b less)
     (λ more. ap (λ (n : ℕ). pos n) (seconds-none a b more) ∙ omega (arith, ints))
 
 -- a stretch of no second
-no_stretch : (f : ℤ → Option Class) (from to high : ℤ) → to ≤ℤ from → to ≤ℤ high → (from ≤ℤ to) ⊎ (to ≡ high) → runs_between f to high ≡ runs_between f from high
+pub no_stretch : (f : ℤ → Option Class) (from to high : ℤ) → to ≤ℤ from → to ≤ℤ high → (from ≤ℤ to) ⊎ (to ≡ high) → runs_between f to high ≡ runs_between f from high
 no_stretch f from to high none below edge = ⊎_elim
     (λ low. let same : to ≡ from = omega (arith, ints) in ap (λ (z : ℤ). runs_between f z high) same)
     (λ last.

@@ -1,11 +1,10 @@
 -- The moments at which times start and end, in rising order, and the class that they give a moment: a class is open where more of its times have started than ended.
-use Rattle.std.specs.Prelude.{ℕ, Bool, true, false, ◌&&◌, List, ◌++◌, map, filter, Option, Some, None, ℤ, int_le, int_lt, nat_lt}
+use Rattle.std.specs.Prelude.{ℕ, Bool, true, false, ◌&&◌, List, map, filter, Option, Some, None, ℤ, int_le, int_lt, nat_lt}
 use Rattle.std.specs.List.{count_by}
 use Rattle.std.specs.List.Sorted.{IsSorted, IsPermutation}
 use Rattle.std.specs.Ordering.{int_cmp}
 use Rattle.cal_model.specs.declared.object.Class.{Class}
 use Rattle.cal_model.specs.declared.object.Class.TheVariants.{Busy, Unavailable, Tentative}
-use Rattle.cal_model.specs.declared.row.Range.{Range}
 use Rattle.cal_model.specs.Busy.BusyRuns.{same_class}
 use Rattle.freebusy.specs.declared.busy.BusyRow.{BusyRow}
 use Rattle.freebusy.specs.declared.ends.Ends.{Ends}
@@ -34,13 +33,6 @@ pub record AreClassesOf (rows : List BusyRow) (found : Classes) : Type 0 where
   pub busy : AreEndsOf Busy rows found.busy
   pub unavailable : AreEndsOf Unavailable rows found.unavailable
   pub tentative : AreEndsOf Tentative rows found.tentative
-
--- between the start and the end of a range
-abbrev pub is_within : Range → ℤ → Bool
-is_within range at = int_lt range.start.0 at && int_lt at range.end.0
-
-abbrev pub borders_of : Range → List BusyRow → List ℤ
-borders_of range rows = filter (is_within range) (map (λ (row : BusyRow). row.start) rows ++ map (λ (row : BusyRow). row.end) rows)
 
 pub record AreRising (moments : Ends) : Type 0 where
   pub starts : IsSorted int_cmp moments.starts

@@ -4,7 +4,7 @@ ghost use Rattle.std.specs.Prelude.{◌≡◌, IfOk, map};
 ghost use Rattle.cal_model.specs.Busy.BusyRuns.{runs};
 ghost use Rattle.freebusy.specs.Times.{time_of_run, times_of};
 
-use crate::ends::{borders_of, classes_of};
+use crate::ends::classes_of;
 use crate::sweep::{sweep, turned_round};
 use cal_base::{List, NoMemory};
 use cal_model::{Class, Range};
@@ -35,7 +35,6 @@ pub fn busy_runs(alloc: Global, rows: &List<BusyRow>, range: Range) -> Result<Li
     ensures { IfOk result (λ found. map time_of_run found ≡ runs (times_of rows.now) range) }
 {
     let classes = classes_of(alloc, rows)?;
-    let borders = borders_of(alloc, rows, range)?;
-    let found = sweep(alloc, &classes, borders, range)?;
+    let found = sweep(alloc, &classes, range)?;
     Ok(turned_round(found))
 }

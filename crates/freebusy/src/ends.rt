@@ -1,15 +1,12 @@
 //! The moments at which times start and end, in order, and what they say of the class of a moment.
 
-ghost use Rattle.std.specs.Prelude.{◌≡◌, ◌++◌, IfOk, ℤ, int_le, map, filter};
-ghost use Rattle.std.specs.List.{count_by};
-ghost use Rattle.std.specs.List.Sorted.{IsSorted};
-ghost use Rattle.std.specs.Ordering.{int_cmp};
+ghost use Rattle.std.specs.Prelude.{◌≡◌, IfOk, List, ℤ, map, filter};
 ghost use Rattle.freebusy.specs.declared.busy.BusyRow.{BusyRow};
 ghost use Rattle.freebusy.specs.Ends as spec;
 
 use crate::busy::BusyRow;
 use cal_base::{List, NoMemory};
-use cal_model::{Class, Range};
+use cal_model::Class;
 use std::alloc::{AllocError, Global};
 
 /// The moments at which the times of a class start, and those at which they end, each in rising
@@ -107,69 +104,4 @@ pub(crate) fn classes_of(alloc: Global, rows: &List<BusyRow>) -> Result<Classes,
         unavailable,
         tentative,
     })
-}
-
-/// Whether a moment lies between the start and the end of a range.
-fn is_within(range: Range, at: i64) -> bool
-    ensures { result ≡ spec.is_within range at }
-{
-    range.start.0 < at && at < range.end.0
-}
-
-/// The moments within a range at which some time starts or ends, the starts before the ends.
-fn unsorted_borders(alloc: Global, rows: &[BusyRow], range: Range) -> Result<Vec<i64>, AllocError>
-    ensures { IfOk result (λ v. v.items ≡ spec.borders_of range rows.now) }
-{
-    let starts = rows.iter().map(|row| row.start);
-    let ends = rows.iter().map(|row| row.end);
-    starts
-        .chain(ends)
-        .filter(|at| is_within(range, *at))
-        .collect(alloc)
-}
-
-/// The moments within a range at which some time starts or ends, in rising order.
-pub(crate) fn borders_of(
-    alloc: Global,
-    rows: &List<BusyRow>,
-    range: Range,
-) -> Result<List<i64>, NoMemory>
-    ensures { IfOk result (λ (xs : List ℤ). spec.IsSortedOf (spec.borders_of range rows.now) xs) }
-{
-    match unsorted_borders(alloc, rows.as_slice(), range) {
-        Ok(borders) => sorted(borders),
-        Err(_) => Err(NoMemory),
-    }
-}
-
-/// How many of some moments in rising order lie at a moment or before it.
-fn count_until(moments: &[i64], at: i64) -> usize
-    requires { IsSorted int_cmp moments.now }
-    ensures { result ≡ count_by (λ (x : ℤ). int_le x at) moments.now }
-{
-    moments.partition_point(|x| *x <= at)
-}
-
-/// Whether some time of a class covers a moment.
-fn is_open(ends: &Ends, at: i64) -> bool
-    requires { spec.AreRising ends.now }
-    ensures { result ≡ spec.is_open ends.now at }
-{
-    count_until(ends.ends.as_slice(), at) < count_until(ends.starts.as_slice(), at)
-}
-
-/// The greatest class that is open at a moment.
-pub(crate) fn class_at(classes: &Classes, at: i64) -> Option<Class>
-    requires { spec.AreAllRising classes.now }
-    ensures { result ≡ spec.open_class classes.now at }
-{
-    if is_open(&classes.busy, at) {
-        Some(Class::Busy)
-    } else if is_open(&classes.unavailable, at) {
-        Some(Class::Unavailable)
-    } else if is_open(&classes.tentative, at) {
-        Some(Class::Tentative)
-    } else {
-        None
-    }
 }

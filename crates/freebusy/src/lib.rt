@@ -7,6 +7,7 @@
 
 mod busy;
 mod ends;
+mod left;
 mod sweep;
 
 pub use busy::{BusyRow, Run, busy_runs};

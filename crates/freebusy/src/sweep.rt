@@ -7,7 +7,8 @@ ghost use Rattle.freebusy.specs.Sweep as spec;
 ghost use Rattle.freebusy.specs.Times.{time_of_run};
 
 use crate::busy::Run;
-use crate::ends::{Classes, class_at};
+use crate::ends::Classes;
+use crate::left::{border, left_back, left_before, open_class};
 use cal_base::{List, NoMemory};
 use cal_model::{Class, Range};
 use cal_moment::Utc;
@@ -53,26 +54,20 @@ fn add_stretch(
     }
 }
 
-/// The runs of a range, the last one first, by the borders between which the class stays.
-pub(crate) fn sweep(
-    alloc: Global,
-    classes: &Classes,
-    borders: List<i64>,
-    range: Range,
-) -> Result<List<Run>, NoMemory>
-    requires rising { ends.AreAllRising classes.now }
-    requires borders { spec.AreBorders (ends.open_class classes.now) range borders }
+/// The runs of a range, the last one first: from each moment at which some time starts or ends up to the
+/// next one the class stays.
+pub(crate) fn sweep(alloc: Global, classes: &Classes, range: Range) -> Result<List<Run>, NoMemory>
+    requires { ends.AreAllRising classes.now }
     ensures { IfOk result (λ found. spec.in_order found ≡ runs_of_classes (ends.open_class classes.now) range) }
 {
-    let mut borders = borders;
-    let mut found = List::new(alloc);
-    let mut upper = range.end.0;
-    while let Some(border) = borders.pop() {
-        add_stretch(&mut found, class_at(classes, border), border, upper)?;
-        upper = border;
-    }
     let first = range.start.0;
-    add_stretch(&mut found, class_at(classes, first), first, upper)?;
+    let mut found = List::new(alloc);
+    let mut left = left_before(classes, range.end.0);
+    'stretches: while first < left.upper {
+        let from = border(classes, left, first);
+        add_stretch(&mut found, open_class(left), from, left.upper)?;
+        left = left_back(classes, left, from);
+    }
     Ok(found)
 }
 

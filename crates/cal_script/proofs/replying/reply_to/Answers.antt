@@ -1,5 +1,5 @@
-use Rattle.std.proofs.Common.{◌≡◌, ◌∙◌, List, rules, refl, subst, FitsSigned, w64}
-use Rattle.std.proofs.lemmas.Int.{to_z-of_z}
+use Rattle.std.proofs.Common.{◌≡◌, List, refl, subst, rules, to_z-of_z, FitsSigned, ◌∙◌}
+use mir.Syntax.{w64}
 use mir.Val.{to_z, of_z}
 use Rattle.cal_model.specs.Requests.AskedRequests.{asked, asked_of}
 use Rattle.cal_model.specs.Requests.BookableRequests.{IsBookable}
@@ -14,7 +14,7 @@ booked g c =
     let fits : FitsSigned w64 c.seconds.result = search (rules, c.seconds.type_inv) in
     booked_since _ c.args.server.now.book c.reserve.new.self c.args.connection c.in-Request.who c.args.moment c.in-Request.request c.request.result c.request.new.self
     c.requires.server.users c.reserve.ensures.users c.reserve.ensures.work
-    (in_time c.reserve.new.self c.args.connection c.in-Request.who c.args.moment (to_z w64 (of_z w64 c.seconds.result)) c.in-Request.request c.request.result c.request.new.self (to_z-of_z w64 c.seconds.result fits ∙ c.seconds.ensures.value)
+    (in_time c.reserve.new.self c.args.connection c.in-Request.who c.args.moment (to_z w64 (of_z w64 c.seconds.result)) c.in-Request.request c.request.result c.request.new.self (to_z-of_z fits ∙ c.seconds.ensures.value)
     c.request.ensures.users c.request.ensures.reply c.request.ensures.work c.request.ensures.busy)
 
 bookable : (g : given.Over) (c : goal.Joined-event-6 g) → IsBookable c.args.server.now.users c.in-Request.who c.in-Request.request

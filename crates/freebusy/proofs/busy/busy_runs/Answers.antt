@@ -1,9 +1,8 @@
-use Rattle.freebusy.proofs.Borders.{borders-are}
-use Rattle.freebusy.proofs.Counts.{runs-are}
+use Rattle.freebusy.proofs.Counts.{rising-are, runs-are}
 use Rattle.freebusy.proofs.busy.busy_runs.Goals as goal
 
-pub sweep-requires-clause-borders : goal.sweep-requires-clause-borders
-sweep-requires-clause-borders c = borders-are c.args.rows.now c.in_ok-classes.classes c.args.range c.in_ok-borders.borders c.in_ok-classes.ensures c.in_ok-borders.ensures
+pub sweep-requires : goal.sweep-requires
+sweep-requires c = rising-are c.args.rows.now c.in_ok-classes.classes c.in_ok-classes.ensures
 
 pub returns : goal.returns
 returns c =

@@ -1,11 +1,12 @@
-use Rattle.std.proofs.Common.{length}
 use Rattle.freebusy.specs.Ends.{open_class}
+use Rattle.freebusy.specs.Left.{AreLeft}
 use Rattle.freebusy.specs.Sweep.{in_order}
+use Rattle.freebusy.proofs.Stretches.{seconds_between}
 use Rattle.freebusy.proofs.Sweeping.{IsSwept}
 use Rattle.freebusy.proofs.sweep.sweep.Given as goal
 
-abbrev pub invariant-loop-border : goal.invariant-loop-border
-invariant-loop-border l = IsSwept (open_class l.classes) l.range.start.0 l.range.end.0 l.borders l.upper (in_order l.found)
+abbrev pub invariant-stretches : goal.invariant-stretches
+invariant-stretches l = IsSwept (open_class l.classes) l.fn.range.start.0 l.fn.range.end.0 l.left.upper (in_order l.found) × AreLeft l.classes l.left
 
-abbrev pub decreases-loop-border : goal.decreases-loop-border
-decreases-loop-border l = length l.borders
+abbrev pub decreases-stretches : goal.decreases-stretches
+decreases-stretches l = seconds_between l.fn.range.start.0 l.left.upper
