@@ -1,6 +1,6 @@
 -- A session goes on by an answer, or stops at one: its reply was written, or a front of it; or the desk broke.
 use Rattle.std.proofs.Common.{◌≡◌, ℕ, ◌+◌, ◌<◌, ◌≤◌, ◌⊎◌, inl, inr, List, [], ◌∷◌, ◌++◌, length, map, take, arith, refl, sym, ap, subst, ◌∙◌, true, false, Bool, Option, Some, None}
-use Rattle.std.specs.Prelude.{ℤ}
+use Rattle.std.specs.Prelude.{ℤ, Result, Ok, Err}
 use Rattle.std.proofs.lemmas.List.{append-nil, append_assoc, length-append}
 use Rattle.cal_base.specs.World.Outside.{Rose, Takes, Adds}
 use Rattle.turn_lock.specs.Passes.{PassState}
@@ -16,16 +16,21 @@ use Rattle.cal_model.specs.Transcripts.ConnectionAnswers.{is_open}
 use Rattle.cal_model.specs.Users.UsersFile.{User}
 use Rattle.cal_model.proofs.Streams.ReadingLaws.{streams_are_read}
 use Rattle.cal_book.specs.EventSteps.{state_behind}
+use Rattle.http_wire.specs.Wires.{NextIs}
+use Rattle.http_wire.specs.declared.wire.Next.TheVariants.{Need}
+use Rattle.http_wire.specs.declared.wire.Wire.{Wire}
 use Rattle.cal_session.specs.AskedTurns.{AnsweredAt, BrokeAt}
 use Rattle.cal_session.specs.Connections.{requests_of, replies_of, replies_from, AnsweredAll, AnsweredSome}
 use Rattle.cal_session.specs.Sessions.{LinkTold, HasRun, HasServed, HasBroken, IsCutShort}
 use Rattle.cal_session.specs.Turns.{Answer, IsToldMoment, LooksUp, entries_in}
-use Rattle.cal_session.specs.UnderWay.{IsReached}
-use Rattle.cal_session.specs.WrittenReplies.{IsSent}
+use Rattle.cal_session.specs.UnderWay.{IsReached, IsUnderWay, IsWaiting, StopsSo, GoesOnOrStops}
+use Rattle.cal_session.specs.WrittenReplies.{IsSent, GoesOnBehind}
+use Rattle.cal_session.specs.declared.answering.Stop.{Stop}
+use Rattle.cal_session.specs.declared.answering.Stop.TheVariants.{Ended, Broken}
 use Rattle.cal_session.specs.declared.served.Served.{Served}
 use Rattle.cal_session.specs.declared.served.How.{How}
 use Rattle.cal_session.specs.declared.served.How.TheVariants.{Closed, CutInRequest, Limit, WireRefused, ReadFault, WriteFault, NoMemory}
-use Rattle.cal_session.proofs.SessionLaws.{IsOn, run_more, answered_some, answered_before, answered_all, rose_since}
+use Rattle.cal_session.proofs.SessionLaws.{IsOn, run_more, all_front, answered_some, answered_before, answered_all, rose_since}
 use Rattle.cal_session.proofs.StepLemmas.{adds_on, replies_further, map_further, map_len, looks_on, looks_none}
 use Rattle.cal_session.proofs.StreamLemmas.{open_parts, served_closed, spells_more, spells_on, still_open}
 use Rattle.cal_session.proofs.TurnLaws.{session_later}
@@ -180,6 +185,38 @@ module _ (users : List User) (told : Option ℤ) (start now next : PassState Ent
         ended = (sym (replies_further r.answers a), record { ending = all.0; answered = all.1; full = (let n = length-append r.answers (a ∷ []) in omega (arith, n, last)) });
       }
 
+  -- Both, where so many turns were noted before
+
+  count : (r : IsReached users told start now before link turns stream rest) → length turns ≡ length r.answers
+  count r = ap length r.run.turns_are ∙ map_len (λ (answer : Answer). answer.turn) r.answers
+
+  pub stops_short : (r : IsReached users told start now before link turns stream rest) (a : Answer) (how : How) → IsOn start now → Begins rest a.wire behind → AnsweredAt users now next a → IsToldMoment told a.turn.moment
+      → after.left ≡ link.left → IsSent (answer_octets (length turns) a.wire a.reply a.turn.moment) link.written after.written link.faults after.faults (Some how) → link.faults ≤ after.faults
+      → HasServed users told start next before after (turns ++ a.turn ∷ []) how
+  stops_short r a how on begins x dated left sent falls =
+      cut_short r a how on begins x dated left (subst (λ n. IsSent (answer_octets n a.wire a.reply a.turn.moment) link.written after.written link.faults after.faults (Some how)) (count r) sent) falls
+
+  -- the reply was written, and the session goes on behind it, or stops there
+  pub goes_behind : {X : Type 0} → (r : IsReached users told start now before link turns stream rest) (a : Answer) (result : Result (Unit {0}) (Stop X)) → IsOn start now → Begins rest a.wire behind → AnsweredAt users now next a → IsToldMoment told a.turn.moment
+      → after.left ≡ link.left → Adds link.written (answer_octets (length turns) a.wire a.reply a.turn.moment) after.written → link.faults ≤ after.faults → GoesOnBehind (length turns) a.wire result
+      → GoesOnOrStops (IsReached users told start next before after (turns ++ a.turn ∷ []) stream behind) (StopsSo users told start next before after (turns ++ a.turn ∷ [])) result
+  goes_behind r a result on begins x dated left added falls g = by_result result (subst (λ n. GoesOnBehind n a.wire result) (count r) g)
+    where
+      all : Adds link.written (answer_octets (length r.answers) a.wire a.reply a.turn.moment) after.written
+      all = subst (λ n. Adds link.written (answer_octets n a.wire a.reply a.turn.moment) after.written) (count r) added
+
+      by_result : {Y : Type 0} → (result : Result (Unit {0}) (Stop Y)) → GoesOnBehind (length r.answers) a.wire result
+          → GoesOnOrStops (IsReached users told start next before after (turns ++ a.turn ∷ []) stream behind) (StopsSo users told start next before after (turns ++ a.turn ∷ [])) result
+      by_result (Ok nothing) h = reached_more r a on begins x dated left all falls h.0 h.1
+      by_result (Err (Ended Limit)) h = meets_limit r a on begins x dated left all h
+      by_result (Err (Ended Closed)) h = closes r a on begins x dated left all h.0 h.1
+      by_result (Err (Ended CutInRequest)) h = absurd h
+      by_result (Err (Ended (WireRefused why))) h = absurd h
+      by_result (Err (Ended ReadFault)) h = absurd h
+      by_result (Err (Ended WriteFault)) h = absurd h
+      by_result (Err (Ended NoMemory)) h = absurd h
+      by_result (Err (Broken why)) h = absurd h
+
 -- A front of the reply to a fault was written
 
 pub refused_in_part : (users : List User) (told : Option ℤ) (start now : PassState Entry (List User)) (before link after : LinkTold) (turns : List Served) (stream rest : List ℕ) (why : WireFault) (moment : ℤ) (how : How)
@@ -223,3 +260,28 @@ refused_in_part users told start now before link after turns stream rest why mom
     by_how Limit s = absurd s
     by_how (WireRefused again) s = absurd s
     by_how ReadFault s = absurd s
+
+-- What is due
+
+module _ (users : List User) (told : Option ℤ) (start now : PassState Entry (List User)) (before link : LinkTold) (turns : List Served) where
+  -- an open connection has room for a further request
+  pub few_yet : (stream rest : List ℕ) → IsReached users told start now before link turns stream rest → length turns < request_limit
+  few_yet stream rest r =
+      let parts = open_parts (requests_of r.answers) r.still_open in
+      let noted = ap length r.run.turns_are ∙ map_len (λ (answer : Answer). answer.turn) r.answers in
+      let asked = map_len (λ (answer : Answer). answer.wire) r.answers in
+      omega (arith, parts.1, noted, asked)
+
+  pub waits : (old new : Wire) (w : IsUnderWay users told start now before link turns old) → NextIs Need w.rest new → IsWaiting users told start now before link turns new
+  waits old new w is = record { stream = w.stream; rest = w.rest; reached = w.reached; stands = is.1; waits = is.0 }
+
+  pub wants_memory : (wire : Wire) → IsUnderWay users told start now before link turns wire → HasServed users told start now before link turns NoMemory
+  wants_memory wire w =
+      let some = answered_some w.stream w.rest w.reached.answers w.reached.spelled w.reached.still_open in
+      record {
+        stream = w.stream;
+        answers = w.reached.answers;
+        printed = replies_of w.reached.answers;
+        run = w.reached.run;
+        ended = record { missing = some.0; answered = some.1; front = inl (all_front w.reached.answers) };
+      }

@@ -14,6 +14,10 @@ use Rattle.cal_session.specs.Turns.{Answer}
 use Rattle.cal_session.specs.declared.served.Served.{Served}
 use Rattle.cal_session.specs.declared.served.How.{How}
 use Rattle.cal_session.specs.declared.served.How.TheVariants.{Closed, CutInRequest}
+use Rattle.cal_session.specs.declared.answering.Due.{Due}
+use Rattle.cal_session.specs.declared.answering.Due.TheVariants.{Answered, Waits, Stops}
+use Rattle.cal_session.specs.declared.served.OnEnd.{OnEnd}
+use Rattle.cal_session.specs.declared.served.OnEnd.TheVariants as on_end
 use Rattle.cal_session.specs.declared.answering.Stop.{Stop}
 use Rattle.cal_session.specs.declared.answering.Stop.TheVariants.{Ended, Broken}
 
@@ -44,10 +48,27 @@ abbrev pub StopsSo : {X : Type 0} → List User → Option ℤ → PassState Ent
 StopsSo users told pass now before after turns (Ended how) = HasServed users told pass now before after turns how
 StopsSo users told pass now before after turns (Broken fault) = HasBroken users told pass now before after turns
 
+-- the end of a session that stopped so, with the turns that were noted
+abbrev pub IsEndWith : {X : Type 0} → Stop X → List Served → OnEnd X → Type 0
+IsEndWith (Ended how) turns end = end ≡ on_end.Ended (record { how = how; turns = turns })
+IsEndWith (Broken fault) turns end = end ≡ on_end.Broken fault turns
+
 -- by a result: it goes on, or has stopped
 abbrev pub GoesOnOrStops : {T X : Type 0} → Type 0 → (Stop X → Type 0) → Result T (Stop X) → Type 0
 GoesOnOrStops goes_on stops (Ok nothing) = goes_on
 GoesOnOrStops goes_on stops (Err stop) = stops stop
+
+-- by what comes of the octets that are there: a request was answered, or none is whole, or it has stopped
+abbrev pub ComesTo : {X : Type 0} → Type 0 → Type 0 → (Stop X → Type 0) → Due X → Type 0
+ComesTo answered waits stops Answered = answered
+ComesTo answered waits stops Waits = waits
+ComesTo answered waits stops (Stops stop) = stops stop
+
+-- a fact, where a request was answered
+abbrev pub IfAnswered : {X : Type 0} → Due X → Type 0 → Type 0
+IfAnswered Answered fact = fact
+IfAnswered Waits fact = Unit {0}
+IfAnswered (Stops stop) fact = Unit {0}
 
 -- it goes on, or has ended so
 abbrev pub GoesOnOrEnds : Type 0 → (How → Type 0) → Option How → Type 0

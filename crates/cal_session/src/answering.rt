@@ -9,24 +9,22 @@ ghost use Rattle.cal_model.specs.Users.UsersFile.{User};
 ghost use Rattle.cal_session.specs.AskedTurns.{EndsAt};
 ghost use Rattle.cal_session.specs.Sessions.{LinkTold, HasServed};
 ghost use Rattle.cal_session.specs.WrittenReplies.{GoesOnBehind};
-ghost use Rattle.cal_session.specs.UnderWay.{IsReached, IsUnderWay, IsWaiting, StopsSo, GoesOnOrStops};
+ghost use Rattle.cal_session.specs.UnderWay.{IsReached, IsUnderWay, IsWaiting, StopsSo, ComesTo, GoesOnOrStops, IfAnswered};
+ghost use Rattle.http_wire.specs.Wires.{Stands};
 ghost use Rattle.turn_lock.specs.Passes.{PassState};
 
 use crate::hall::Hall;
 use crate::served::{How, Served};
 use crate::turn::ask_once;
-use crate::writing::{send_fault, send_reply, status_reply};
+use crate::writing::{send_fault, send_reply};
 use cal_base::{Clock, Link, ReservedList, Steps};
-use cal_book::{Desk, Told};
+use cal_book::{Desk, Told, replies_have_reasons};
 use cal_model::{Event, Reply};
 use dav_request::{Asked, read_request};
-use http_wire::{Next, Wire, WireFault, WireRequest};
+use http_wire::{Next, REQUEST_LIMIT, Wire, WireFault, WireRequest, bare_reply};
 use std::sync::Wait;
 use std::sync::ledger::Ledger;
 use turn_lock::Pass;
-
-/// The most requests of a connection.
-pub(crate) const REQUEST_LIMIT: usize = 1_000;
 
 /// Why a session goes no further.
 #[derive(Drop)]
@@ -51,7 +49,7 @@ pub(crate) fn answer_due<B: Desk, L: Link, C: Clock, R: Wait, G: Ledger>(
     requires free { pass.old.holds_turn ≡ false }
     requires base { pass.old.base ≡ Some hall.now.users.now }
     requires room { request_limit ≤ length turns.old.items + turns.old.room }
-    requires under_way { (start : PassState Entry (List User)) × (before : LinkTold) × IsUnderWay hall.now.users.now (C.moment clock.old) start pass.old before (record { faults = L.faults link.old; left = L.left link.old; written = L.written link.old }) turns.old.items wire.old }
+    requires under_way { (start : PassState Entry (List User)) × (before : LinkTold) × (pass.old ≡ record start { seen = pass.old.seen; looks = pass.old.looks }) × IsUnderWay hall.now.users.now (C.moment clock.old) start pass.old before (record { faults = L.faults link.old; left = L.left link.old; written = L.written link.old }) turns.old.items wire.old }
     ensures pass { pass.new ≡ record pass.old { seen = pass.new.seen; looks = pass.new.looks } }
     ensures room { length turns.new.items + turns.new.room ≡ length turns.old.items + turns.old.room }
     ensures session { (start : PassState Entry (List User)) (before : LinkTold) → pass.old ≡ record start { seen = pass.old.seen; looks = pass.old.looks } → IsUnderWay hall.now.users.now (C.moment clock.old) start pass.old before (record { faults = L.faults link.old; left = L.left link.old; written = L.written link.old }) turns.old.items wire.old → GoesOnOrStops (IsWaiting hall.now.users.now (C.moment clock.old) start pass.new before (record { faults = L.faults link.new; left = L.left link.new; written = L.written link.new }) turns.new.items wire.new) (StopsSo hall.now.users.now (C.moment clock.old) start pass.new before (record { faults = L.faults link.new; left = L.left link.new; written = L.written link.new }) turns.new.items) result }
@@ -60,15 +58,55 @@ pub(crate) fn answer_due<B: Desk, L: Link, C: Clock, R: Wait, G: Ledger>(
     ensures never_falls { L.faults link.old ≤ L.faults link.new }
 {
     'due: loop {
-        match wire.next(hall.alloc) {
-            Next::Need => return Ok(()),
-            Next::NoMemory => return Err(Stop::Ended(How::NoMemory)),
-            Next::Fault(why) => return Err(Stop::Ended(refuse(hall, why, link, clock))),
-            Next::Request(request) => {
-                let answered = answer_request(hall, pass, &request, turns, link, clock, steps);
-                if answered.is_err() {
-                    return answered;
-                }
+        match answer_next(hall, pass, wire, turns, link, clock, steps) {
+            Due::Answered => {}
+            Due::Waits => return Ok(()),
+            Due::Stops(stop) => return Err(stop),
+        }
+    }
+}
+
+/// What comes of the octets that are there.
+enum Due<X> {
+    /// A request was whole, and was answered.
+    Answered,
+    /// None is whole.
+    Waits,
+    Stops(Stop<X>),
+}
+
+/// Answers the next request, if it is whole.
+fn answer_next<B: Desk, L: Link, C: Clock, R: Wait, G: Ledger>(
+    hall: &Hall<'_, R, B>,
+    pass: &mut Pass<B>,
+    wire: &mut Wire,
+    turns: &mut ReservedList<Served>,
+    link: &mut L,
+    clock: &mut C,
+    steps: &mut Steps<G>,
+) -> Due<B::Fault>
+    requires same { pass.old.lock ≡ hall.now.lock.now }
+    requires free { pass.old.holds_turn ≡ false }
+    requires base { pass.old.base ≡ Some hall.now.users.now }
+    requires few { length turns.old.items < request_limit }
+    requires room { 0 < turns.old.room }
+    requires stands { (octets : List ℕ) × Stands octets wire.old }
+    ensures pass { pass.new ≡ record pass.old { seen = pass.new.seen; looks = pass.new.looks } }
+    ensures room { length turns.new.items + turns.new.room ≡ length turns.old.items + turns.old.room }
+    ensures session { (start : PassState Entry (List User)) (before : LinkTold) → pass.old ≡ record start { seen = pass.old.seen; looks = pass.old.looks } → IsUnderWay hall.now.users.now (C.moment clock.old) start pass.old before (record { faults = L.faults link.old; left = L.left link.old; written = L.written link.old }) turns.old.items wire.old → ComesTo (IsUnderWay hall.now.users.now (C.moment clock.old) start pass.new before (record { faults = L.faults link.new; left = L.left link.new; written = L.written link.new }) turns.new.items wire.new) (IsWaiting hall.now.users.now (C.moment clock.old) start pass.new before (record { faults = L.faults link.new; left = L.left link.new; written = L.written link.new }) turns.new.items wire.new) (StopsSo hall.now.users.now (C.moment clock.old) start pass.new before (record { faults = L.faults link.new; left = L.left link.new; written = L.written link.new }) turns.new.items) result }
+    ensures longer { IfAnswered result (length turns.new.items ≡ length turns.old.items + 1) }
+    ensures clock { C.moment clock.new ≡ C.moment clock.old }
+    ensures allowance { L.allowance link.new ≡ L.allowance link.old }
+    ensures never_falls { L.faults link.old ≤ L.faults link.new }
+{
+    match wire.next(hall.alloc) {
+        Next::Need => Due::Waits,
+        Next::NoMemory => Due::Stops(Stop::Ended(How::NoMemory)),
+        Next::Fault(why) => Due::Stops(Stop::Ended(refuse(hall, why, link, clock))),
+        Next::Request(request) => {
+            match answer_request(hall, pass, &request, turns, link, clock, steps) {
+                Ok(()) => Due::Answered,
+                Err(stop) => Due::Stops(stop),
             }
         }
     }
@@ -154,6 +192,7 @@ fn reply_to<B: Desk, R: Wait, G: Ledger>(
     ensures answered { EndsAt hall.now.users.now pass.old pass.new wire.now moment result }
     ensures known { IfOk result (λ given. 0 < length (reason given.1.status)) }
 {
+    replies_have_reasons();
     match read_request(hall.alloc, wire, hall.users) {
         Asked::Request { who, request } => {
             let event = Event {
@@ -162,13 +201,14 @@ fn reply_to<B: Desk, R: Wait, G: Ledger>(
                 moment,
                 request,
             };
-            match ask_once(hall, pass, &event, steps) {
-                (at, Told::Reply(reply)) => Ok((at, reply)),
-                (_, Told::Broken(fault)) => Err(fault),
+            let (at, told) = ask_once(hall, pass, &event, steps);
+            match told {
+                Told::Reply(reply) => Ok((at, reply)),
+                Told::Broken(fault) => Err(fault),
             }
         }
         Asked::Refused(reply) => Ok((pass.seen_len(), reply)),
-        Asked::NoMemory => Ok((pass.seen_len(), status_reply(hall.alloc, 503))),
+        Asked::NoMemory => Ok((pass.seen_len(), bare_reply(hall.alloc, 503))),
     }
 }
 

@@ -1,21 +1,21 @@
 //! One session, over any desk.
-ghost use Rattle.std.specs.Prelude.{◌≡◌, ◌≤◌, ◌<◌, ℕ, ℤ, List, false, length, Option, Some, IfOk, OnOk, IsNone};
+ghost use Rattle.std.specs.Prelude.{◌≡◌, ◌≤◌, ◌<◌, ℕ, ℤ, List, [], false, length, Option, Some, IfOk, OnOk, IsNone};
 ghost use Rattle.cal_model.specs.History.Journal.{Entry, IsLegal};
 ghost use Rattle.cal_model.specs.State.ServerState.{directory_of};
 ghost use Rattle.cal_model.specs.Streams.StreamRequests.{front};
 ghost use Rattle.cal_model.specs.Streams.WireLimits.{request_limit};
 ghost use Rattle.cal_model.specs.Users.UsersFile.{User};
 ghost use Rattle.cal_session.specs.Sessions.{LinkTold, HasServed, HasServedOn};
-ghost use Rattle.cal_session.specs.UnderWay.{IsUnderWay, IsWaiting, GoesOnOrEnds, EndsAtEnd};
+ghost use Rattle.cal_session.specs.UnderWay.{IsUnderWay, IsWaiting, GoesOnOrEnds, EndsAtEnd, StopsSo, IsEndWith};
 ghost use Rattle.http_wire.specs.Wires.{Stands};
 ghost use Rattle.turn_lock.specs.Passes.{PassState};
 
-use crate::answering::{REQUEST_LIMIT, Stop, answer_due};
+use crate::answering::{Stop, answer_due};
 use crate::hall::Hall;
 use crate::served::{Ended, How, OnEnd, Served};
 use cal_base::{Clock, Link, NoMemory, ReservedList, Steps};
-use cal_book::Desk;
-use http_wire::Wire;
+use cal_book::{Desk, journals_are_told};
+use http_wire::{REQUEST_LIMIT, Wire};
 use privileges::Users;
 use std::alloc::Global;
 use std::marker::Brand;
@@ -58,8 +58,9 @@ pub fn serve_on<B: Desk, L: Link, C: Clock, R: Wait>(
         users,
     };
     let end = serve_under::<B, L, C, R, Brand>(&hall, pass, link, clock, Blank::new(1));
-    // A look at what was seen, which tells a proof that it is legal.
+    // A look at what was seen, and the law of the test that it passes, tell a proof that it is legal.
     let _seen = pass.seen_len();
+    journals_are_told();
     end
 }
 
@@ -84,30 +85,83 @@ fn serve_under<B: Desk, L: Link, C: Clock, R: Wait, G: Ledger>(
 {
     let mut steps = Steps::<G>::open(blank);
     let mut turns = ReservedList::new(hall.alloc);
-    let Ok(mut piece) = prepare(hall.alloc, &mut turns) else {
-        return end_with(How::NoMemory, turns);
-    };
     let mut wire = Wire::new(hall.alloc);
-    'reading: loop {
-        match answer_due(hall, pass, &mut wire, &mut turns, link, clock, &mut steps) {
-            Ok(()) => {}
-            Err(Stop::Ended(how)) => return end_with(how, turns),
-            Err(Stop::Broken(fault)) => return OnEnd::Broken(fault, turns.into_list()),
+    let stop = serve_new(hall, pass, &mut wire, &mut turns, link, clock, &mut steps);
+    end_with(stop, turns)
+}
+
+/// Serves a connection of which nothing was read yet, where there is memory for its turns and reads.
+fn serve_new<B: Desk, L: Link, C: Clock, R: Wait, G: Ledger>(
+    hall: &Hall<'_, R, B>,
+    pass: &mut Pass<B>,
+    wire: &mut Wire,
+    turns: &mut ReservedList<Served>,
+    link: &mut L,
+    clock: &mut C,
+    steps: &mut Steps<G>,
+) -> Stop<B::Fault>
+    requires same { pass.old.lock ≡ hall.now.lock.now }
+    requires free { pass.old.holds_turn ≡ false }
+    requires base { pass.old.base ≡ Some hall.now.users.now }
+    requires new { Stands [] wire.old }
+    requires none { turns.old.items ≡ [] }
+    ensures pass { pass.new ≡ record pass.old { seen = pass.new.seen; looks = pass.new.looks } }
+    ensures session { StopsSo hall.now.users.now (C.moment clock.old) pass.old pass.new (record { faults = L.faults link.old; left = L.left link.old; written = L.written link.old }) (record { faults = L.faults link.new; left = L.left link.new; written = L.written link.new }) turns.new.items result }
+    ensures clock { C.moment clock.new ≡ C.moment clock.old }
+    ensures never_falls { L.faults link.old ≤ L.faults link.new }
+{
+    match prepare(hall.alloc, turns) {
+        Ok(mut piece) => {
+            let piece = piece.as_mut_slice();
+            serve_all(hall, pass, wire, piece, turns, link, clock, steps)
         }
-        if let Some(how) = take_piece(hall.alloc, &mut wire, piece.as_mut_slice(), link) {
-            return end_with(how, turns);
+        Err(NoMemory) => Stop::Ended(How::NoMemory),
+    }
+}
+
+/// Reads and answers until the session stops.
+fn serve_all<B: Desk, L: Link, C: Clock, R: Wait, G: Ledger>(
+    hall: &Hall<'_, R, B>,
+    pass: &mut Pass<B>,
+    wire: &mut Wire,
+    piece: &mut [u8],
+    turns: &mut ReservedList<Served>,
+    link: &mut L,
+    clock: &mut C,
+    steps: &mut Steps<G>,
+) -> Stop<B::Fault>
+    requires same { pass.old.lock ≡ hall.now.lock.now }
+    requires free { pass.old.holds_turn ≡ false }
+    requires base { pass.old.base ≡ Some hall.now.users.now }
+    requires place { 0 < length piece.old }
+    requires new { Stands [] wire.old }
+    requires none { turns.old.items ≡ [] }
+    requires room { request_limit ≤ turns.old.room }
+    ensures pass { pass.new ≡ record pass.old { seen = pass.new.seen; looks = pass.new.looks } }
+    ensures session { StopsSo hall.now.users.now (C.moment clock.old) pass.old pass.new (record { faults = L.faults link.old; left = L.left link.old; written = L.written link.old }) (record { faults = L.faults link.new; left = L.left link.new; written = L.written link.new }) turns.new.items result }
+    ensures clock { C.moment clock.new ≡ C.moment clock.old }
+    ensures never_falls { L.faults link.old ≤ L.faults link.new }
+{
+    'reading: loop {
+        match answer_due(hall, pass, wire, turns, link, clock, steps) {
+            Err(stop) => return stop,
+            Ok(()) => match take_piece(hall.alloc, wire, piece, link) {
+                Some(how) => return Stop::Ended(how),
+                None => {}
+            },
         }
     }
 }
 
 /// An end with the turns so far.
-fn end_with<X>(how: How, turns: ReservedList<Served>) -> OnEnd<X>
-    ensures { result ≡ OnEnd.Ended (record { how = how; turns = turns.items }) }
+fn end_with<X>(stop: Stop<X>, turns: ReservedList<Served>) -> OnEnd<X>
+    ensures { IsEndWith stop turns.items result }
 {
-    OnEnd::Ended(Ended {
-        how,
-        turns: turns.into_list(),
-    })
+    let turns = turns.into_list();
+    match stop {
+        Stop::Ended(how) => OnEnd::Ended(Ended { how, turns }),
+        Stop::Broken(fault) => OnEnd::Broken(fault, turns),
+    }
 }
 
 /// Makes room for the turns, and a place for the octets of one read.

@@ -12,8 +12,8 @@ invariant-due g l = record {
   pass : l.pass ≡ record l.fn.pass { seen = l.pass.seen; looks = l.pass.looks };
   room : length l.turns.items + l.turns.room ≡ length l.fn.turns.items + l.fn.turns.room;
   session : (start : PassState Entry (List User)) (before : LinkTold) → l.fn.pass ≡ record start { seen = l.fn.pass.seen; looks = l.fn.pass.looks }
-      → IsUnderWay l.hall.now.users.now (g.C.Clock.moment l.fn.clock) start l.fn.pass before (record { faults = g.L.Link.faults l.fn.link; left = g.L.Link.left l.fn.link; written = g.L.Link.written l.fn.link }) l.fn.turns.items l.fn.wire
-      → IsUnderWay l.hall.now.users.now (g.C.Clock.moment l.fn.clock) start l.pass before (record { faults = g.L.Link.faults l.link; left = g.L.Link.left l.link; written = g.L.Link.written l.link }) l.turns.items l.wire;
+      → IsUnderWay l.hall.users.now (g.C.Clock.moment l.fn.clock) start l.fn.pass before (record { faults = g.L.Link.faults l.fn.link; left = g.L.Link.left l.fn.link; written = g.L.Link.written l.fn.link }) l.fn.turns.items l.fn.wire
+      → IsUnderWay l.hall.users.now (g.C.Clock.moment l.clock) start l.pass before (record { faults = g.L.Link.faults l.link; left = g.L.Link.left l.link; written = g.L.Link.written l.link }) l.turns.items l.wire;
   clock : g.C.Clock.moment l.clock ≡ g.C.Clock.moment l.fn.clock;
   allowance : g.L.Link.allowance l.link ≡ g.L.Link.allowance l.fn.link;
   never_falls : g.L.Link.faults l.fn.link ≤ g.L.Link.faults l.link;
