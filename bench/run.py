@@ -2,7 +2,7 @@
 """Times the programs over generated input, and prints the figures. It needs Python 3, and Debian's package `time` for the memory.
 
 Build the programs once before: `rt run` in crates/caldav_server and in each crate whose name ends in _bench.
-Words name the parts that are to run (scripts, lines, values, objects, rules, rows, filters, bodies, requests, wire, busy, index, turns); without a word all do.
+Words name the parts that are to run (scripts, growth, expansions, lines, values, objects, rules, rows, filters, bodies, requests, wire, busy, index, claims, turns); without a word all do.
 """
 import datetime, os, re, resource, subprocess, sys, tempfile, time
 
@@ -11,6 +11,7 @@ SERVER = os.path.join(TOP, "crates/caldav_server/out/caldav_server")
 BUSY = os.path.join(TOP, "crates/busy_bench/out/busy_bench")
 LINES = os.path.join(TOP, "crates/lines_bench/out/lines_bench")
 INDEX = os.path.join(TOP, "crates/index_bench/out/index_bench")
+CLAIMS = os.path.join(TOP, "crates/claims_bench/out/claims_bench")
 TURNS = os.path.join(TOP, "crates/turns_bench/out/turns_bench")
 BODIES = os.path.join(TOP, "crates/xml_bench/out/xml_bench")
 REQUESTS = os.path.join(TOP, "crates/elements_bench/out/elements_bench")
@@ -111,13 +112,18 @@ def run(program, words, text):
     return seconds, memory, output
 
 
+def script_words(folder):
+    """The words of a script of the users, whose file is written into a folder."""
+    users = os.path.join(folder, "users")
+    with open(users, "wb") as file:
+        file.write(USERS)
+    return ["script", "--users", users]
+
+
 def scripts():
     print(f"{'script':44} {'seconds':>8} {'us each':>9} {'MiB':>6} {'octets each':>12} {'shown':>7}")
     with tempfile.TemporaryDirectory() as folder:
-        users = os.path.join(folder, "users")
-        with open(users, "wb") as file:
-            file.write(USERS)
-        words = ["script", "--users", users]
+        words = script_words(folder)
         for count in (1000, 5000):
             puts = b"".join(put(n) for n in range(count))
             for pieces, work in (("no pieces", b""), ("all pieces", WORK * (count * HORIZON))):
@@ -137,6 +143,35 @@ def scripts():
                     octets = (len(output) - len(before)) // times
                     shown = output.count(b"<D:response>") // times
                     print(f"{f'{label}, {count} objects, {pieces}':44} {seconds:8.3f} {each:9.0f} {memory:6.1f} {octets:12d} {shown:7d}")
+
+
+def growth():
+    print(f"{'the last thousand of so many PUTs':44} {'us each':>8}")
+    with tempfile.TemporaryDirectory() as folder:
+        words = script_words(folder)
+        for count in (1000, 2000, 4000, 8000, 15000):
+            scripts_of = [b"".join(put(n) for n in range(many)) for many in (count - 1000, count)]
+            before, after = (min(processor_run(SERVER, words, script)[0] for _ in range(5)) for script in scripts_of)
+            print(f"{count:44d} {(after - before) * 1000:8.1f}")
+
+
+def expansions():
+    print(f"{'expand of so many years of a daily meeting':44} {'us each':>9} {'octets':>9} {'ns an octet':>12}")
+    meeting = [
+        b"BEGIN:VCALENDAR", b"VERSION:2.0", b"PRODID:-//a//EN", b"BEGIN:VEVENT", b"UID:daily", b"DTSTAMP:20250101T000000Z",
+        b"DTSTART:20250101T090000Z", b"DURATION:PT15M", b"RRULE:FREQ=DAILY", b"SUMMARY:Stand-up", b"LOCATION:Room 1", b"END:VEVENT", b"END:VCALENDAR", b"",
+    ]
+    front = request(b"PUT", CALENDAR + b"daily.ics", b"\r\n".join(meeting), b"text/calendar", connection=0) + WORK * HORIZON
+    with tempfile.TemporaryDirectory() as folder:
+        words = script_words(folder)
+        base = min(processor_run(SERVER, words, front)[0] for _ in range(3))
+        for years in (1, 2, 4, 8):
+            span = (b"20250101T000000Z", b"%d0101T000000Z" % (2025 + years))
+            text = query(*span, data=b'<C:calendar-data><C:expand start="%s" end="%s"/></C:calendar-data>' % span)
+            runs = [processor_run(SERVER, words, front + text * 50) for _ in range(3)]
+            each = (min(seconds for seconds, _, _ in runs) - base) / 50
+            octets = len(runs[0][2].split(b"reply 15 ")[1])
+            print(f"{years:44d} {each * 1e6:9.0f} {octets:9d} {each / octets * 1e9:12.1f}")
 
 
 def lines():
@@ -179,6 +214,18 @@ def index():
             label = f"{objects} objects, {windows} windows, {rows} rows"
             figures = " ".join(f"{taken / pieces * 1e9:8.0f}" for taken in each)
             print(f"{label:34} {pieces:8d} {figures} {most:6.1f}")
+
+
+def claims():
+    print(f"{'claims':44} {'pairs':>8} {'seconds':>8} {'us each':>8} {'MiB':>6}")
+    for thousands, tens in ((1, 0), (10, 0), (20, 0), (40, 0), (10, 2)):
+        runs = [processor_run(CLAIMS, [], bytes([48 + thousands, 48 + tens])) for _ in range(3)]
+        seconds, memory = min(taken for taken, _, _ in runs), max(most for _, most, _ in runs)
+        published = int(runs[0][2].split()[0])
+        if published != thousands * 1000 * HORIZON:
+            sys.exit(f"{CLAIMS} answered {runs[0][2]}")
+        label = f"{thousands * 1000} objects, {tens * 10} rows a piece"
+        print(f"{label:44} {published:8d} {seconds:8.3f} {seconds / published * 1e6:8.3f} {memory:6.1f}")
 
 
 def turns():
@@ -289,7 +336,7 @@ def calendar(zone, *events):
     return b"\r\n".join([*parts, b"END:VCALENDAR", b""])
 
 
-def filled(size, before, after, piece):
+def numbered(size, before, after, piece):
     """A text of at most so many octets: what stands before, as many pieces as fit, each by its number, and what stands after."""
     parts, room, number = [before], size - len(before) - len(after), 0
     while True:
@@ -325,23 +372,23 @@ def object_kinds(size):
         return content(b"BEGIN:VTIMEZONE", b"TZID:%d" % number, b"BEGIN:STANDARD", b"DTSTART:19700101T000000", b"TZOFFSETFROM:+0000", b"TZOFFSETTO:+0000", b"END:STANDARD", b"END:VTIMEZONE")
 
     return {
-        "overrides with some ten lines each": filled(size, begin + master, only_end, moved),
-        "overrides of three lines": filled(size, begin + master, only_end, lambda n: content(b"BEGIN:VEVENT", b"UID:a", b"RECURRENCE-ID:" + days[n], b"END:VEVENT")),
-        "components without lines": filled(size, begin + event, end, lambda n: content(b"BEGIN:A", b"END:A")),
-        "alarms": filled(size, begin + event, end, lambda n: content(b"BEGIN:VALARM", b"ACTION:AUDIO", b"TRIGGER:-PT%dM" % n, b"END:VALARM")),
-        "zones without use": filled(size, begin, event + end, zone),
-        "onsets of one zone, as RDATEs": filled(
+        "overrides with some ten lines each": numbered(size, begin + master, only_end, moved),
+        "overrides of three lines": numbered(size, begin + master, only_end, lambda n: content(b"BEGIN:VEVENT", b"UID:a", b"RECURRENCE-ID:" + days[n], b"END:VEVENT")),
+        "components without lines": numbered(size, begin + event, end, lambda n: content(b"BEGIN:A", b"END:A")),
+        "alarms": numbered(size, begin + event, end, lambda n: content(b"BEGIN:VALARM", b"ACTION:AUDIO", b"TRIGGER:-PT%dM" % n, b"END:VALARM")),
+        "zones without use": numbered(size, begin, event + end, zone),
+        "onsets of one zone, as RDATEs": numbered(
             size, begin + content(b"BEGIN:VTIMEZONE", b"TZID:0", b"BEGIN:STANDARD", b"DTSTART:19700101T000000", b"TZOFFSETFROM:+0000", b"TZOFFSETTO:+0100") + b"RDATE:19710101T000000",
             b"\r\n" + content(b"END:STANDARD", b"END:VTIMEZONE") + event + end, lambda n: b"," + days[n][:15],
         ),
-        "lines without a value": filled(size, begin + event, end, lambda n: b"A:\r\n"),
-        "one line of parameters": filled(size, begin + event + b"A", b":\r\n" + end, lambda n: b";A=b"),
-        "one parameter of many values": filled(size, begin + event + b"A;A=b", b":\r\n" + end, lambda n: b",b"),
-        "one line folded at each octet": filled(size, begin + event + b"A:", b"\r\n" + end, lambda n: b"\r\n b"),
-        "one RDATE of many dates": filled(size, begin + event + b"RDATE:" + days[1], b"\r\n" + end, lambda n: b"," + days[n + 2]),
-        "one EXDATE of one date again": filled(size, begin + event + b"EXDATE:" + days[1], b"\r\n" + end, lambda n: b"," + days[1]),
-        "RDATEs of periods": filled(size, begin + event, end, lambda n: content(b"RDATE;VALUE=PERIOD:" + days[n] + b"/PT1H")),
-        "categories": filled(size, begin + event + b"CATEGORIES:a", b"\r\n" + end, lambda n: b",a"),
+        "lines without a value": numbered(size, begin + event, end, lambda n: b"A:\r\n"),
+        "one line of parameters": numbered(size, begin + event + b"A", b":\r\n" + end, lambda n: b";A=b"),
+        "one parameter of many values": numbered(size, begin + event + b"A;A=b", b":\r\n" + end, lambda n: b",b"),
+        "one line folded at each octet": numbered(size, begin + event + b"A:", b"\r\n" + end, lambda n: b"\r\n b"),
+        "one RDATE of many dates": numbered(size, begin + event + b"RDATE:" + days[1], b"\r\n" + end, lambda n: b"," + days[n + 2]),
+        "one EXDATE of one date again": numbered(size, begin + event + b"EXDATE:" + days[1], b"\r\n" + end, lambda n: b"," + days[1]),
+        "RDATEs of periods": numbered(size, begin + event, end, lambda n: content(b"RDATE;VALUE=PERIOD:" + days[n] + b"/PT1H")),
+        "categories": numbered(size, begin + event + b"CATEGORIES:a", b"\r\n" + end, lambda n: b",a"),
     }
 
 
@@ -457,8 +504,8 @@ def wire():
 
 
 PARTS = {
-    "scripts": (scripts, SERVER), "lines": (lines, LINES), "values": (values, VALUES), "objects": (objects, OBJECTS), "rules": (rules, RULES), "rows": (rows, ROWS), "filters": (filters, FILTERS),
-    "bodies": (bodies, BODIES), "requests": (requests, REQUESTS), "wire": (wire, WIRE), "busy": (busy, BUSY), "index": (index, INDEX), "turns": (turns, TURNS),
+    "scripts": (scripts, SERVER), "growth": (growth, SERVER), "expansions": (expansions, SERVER), "lines": (lines, LINES), "values": (values, VALUES), "objects": (objects, OBJECTS), "rules": (rules, RULES), "rows": (rows, ROWS), "filters": (filters, FILTERS),
+    "bodies": (bodies, BODIES), "requests": (requests, REQUESTS), "wire": (wire, WIRE), "busy": (busy, BUSY), "index": (index, INDEX), "claims": (claims, CLAIMS), "turns": (turns, TURNS),
 }
 chosen = sys.argv[1:] or list(PARTS)
 for name in chosen:

@@ -1,0 +1,838 @@
+#!/usr/bin/env python3
+"""Writes the cases of the programs script_cases and book_cases, and what each of them has to give, from the rules of docs/.
+
+    bench/cases.py            writes stdin and stdout of these crates
+    bench/cases.py --check    says whether they are what it would write
+
+What is to come is made here from the rules: the octets of each reply by docs/REPLIES.md, the order of refusals by
+docs/STATE_AND_LIMITS.md and docs/REQUESTS.md. Nothing is taken from the program. It needs Python 3 alone.
+"""
+import base64, hashlib, os, re, sys
+
+TOP = os.path.dirname(os.path.dirname(os.path.abspath(__file__)))
+MOMENT = 1741600000
+DATE = "Mon, 10 Mar 2025 09:46:40 GMT"
+HOME = "/calendars/alice/"
+CALENDAR = HOME + "calendar/"
+SPACES = re.compile(rb"~(\d+)~")
+
+
+def whole(text):
+    """A text with the spaces that a number between two tildes stands for."""
+    return SPACES.sub(lambda found: b" " * int(found[1]), text)
+
+
+# Replies
+
+REASONS = {
+    200: "OK", 201: "Created", 204: "No Content", 207: "Multi-Status", 304: "Not Modified", 400: "Bad Request", 401: "Unauthorized",
+    403: "Forbidden", 404: "Not Found", 405: "Method Not Allowed", 412: "Precondition Failed", 413: "Content Too Large",
+    415: "Unsupported Media Type", 424: "Failed Dependency", 431: "Request Header Fields Too Large", 501: "Not Implemented",
+    505: "HTTP Version Not Supported", 507: "Insufficient Storage",
+}
+OF_HOME, OF_CALENDAR = "OPTIONS, PROPFIND", "OPTIONS, PROPFIND, PROPPATCH, REPORT, MKCALENDAR, ACL, DELETE"
+OF_OBJECT = "OPTIONS, GET, HEAD, PUT, DELETE, PROPFIND"
+XML, TEXT = "application/xml; charset=utf-8", "text/calendar; charset=utf-8"
+OPENED = '<?xml version="1.0" encoding="utf-8"?>\n<D:%s xmlns:D="DAV:" xmlns:C="urn:ietf:params:xml:ns:caldav">'
+
+
+def reply(status, body=b"", media=None, etag=None, allow=None, close=False, head=False):
+    fields = ["Date: " + DATE]
+    fields += ["Allow: " + allow] if allow else []
+    fields += ["DAV: 1, access-control, calendar-access"] if allow and status == 200 else []
+    fields += ['WWW-Authenticate: Basic realm="caldav"'] if status == 401 else []
+    fields += [f'ETag: "{etag}"'] if etag else []
+    fields += ["Content-Type: " + media] if media else []
+    fields += ["Connection: close"] if close else []
+    fields += [f"Content-Length: {len(body)}"] if status not in (204, 304) else []
+    lines = [f"HTTP/1.1 {status} {REASONS[status]}"] + fields + ["", ""]
+    return "\r\n".join(lines).encode() + (b"" if head else body)
+
+
+def refused(condition, **how):
+    """403 with a condition."""
+    return reply(403, (OPENED % "error" + condition + "</D:error>").encode(), XML, **how)
+
+
+def reply_body(octets):
+    return octets.split(b"\r\n\r\n", 1)[1]
+
+
+def needs(path, privilege, **how):
+    return refused(
+        f"<D:need-privileges><D:resource><D:href>{path}</D:href><D:privilege><{privilege}/></D:privilege></D:resource></D:need-privileges>", **how
+    )
+
+
+def found(*responses):
+    """207 with responses: an href, and for each status the elements of its properties."""
+    text = OPENED % "multistatus"
+    if not responses:
+        return reply(207, (text[:-1] + "/>").encode(), XML)
+    for href, of_status in responses:
+        text += f"<D:response><D:href>{href}</D:href>"
+        for status, props in of_status:
+            text += f"<D:propstat><D:prop>{props}</D:prop><D:status>HTTP/1.1 {status} {REASONS[status]}</D:status></D:propstat>"
+        text += "</D:response>"
+    return reply(207, (text + "</D:multistatus>").encode(), XML)
+
+
+def etag(octets):
+    return hashlib.sha256(whole(octets)).hexdigest()
+
+
+def data(octets):
+    """Calendar data in a reply."""
+    text = octets.decode().replace("&", "&amp;").replace("<", "&lt;").replace(">", "&gt;").replace("\r", "&#13;")
+    return f"<C:calendar-data>{text}</C:calendar-data>"
+
+
+# Requests
+
+PASSWORDS = {name: base64.b64encode(f"{name}:abc".encode()).decode() for name in ("alice", "bob", "carol")}
+
+
+def request(method, path, body=None, who="alice", media=None, coding=None, depth=None, if_match=None, if_none=None, more=(), version="1.1"):
+    fields = ["Host: h"]
+    fields += ["Authorization: Basic " + PASSWORDS[who]] if who else []
+    fields += ["Content-Type: " + media] if media else []
+    fields += ["Content-Encoding: " + coding] if coding else []
+    fields += ["Depth: " + depth] if depth else []
+    fields += ["If-Match: " + if_match] if if_match else []
+    fields += ["If-None-Match: " + if_none] if if_none else []
+    fields += more
+    fields += [f"Content-Length: {len(whole(body))}"] if body is not None else []
+    return "\r\n".join([f"{method} {path} HTTP/{version}"] + fields + ["", ""]).encode() + (body or b"")
+
+
+def put(name, body, path=CALENDAR, **how):
+    return request("PUT", path + name, body, media="text/calendar", **how)
+
+
+def stored(octets, status=201):
+    return reply(status, etag=etag(octets))
+
+
+def frame(octets, connection=0):
+    return b"bytes %d %d %d\n%s\n" % (connection, MOMENT, len(whole(octets)), octets)
+
+
+def answer(octets, connection=0):
+    return b"reply %d %d\n%s\n" % (connection, len(octets), octets)
+
+
+def exchange(steps, connection=0):
+    """The frames of requests, and those of their replies."""
+    return b"".join(frame(asked, connection) for asked, _ in steps), b"".join(answer(told, connection) for _, told in steps)
+
+
+# Calendar objects
+
+def lines(*texts):
+    return b"".join(text.encode() + b"\r\n" for text in texts)
+
+
+def calendar(*inner):
+    return lines("BEGIN:VCALENDAR", "VERSION:2.0", "PRODID:-//a//EN", *inner, "END:VCALENDAR")
+
+
+def event(uid, *inner):
+    return calendar("BEGIN:VEVENT", "UID:" + uid, "DTSTAMP:20250101T000000Z", *inner, "END:VEVENT")
+
+
+def todo(uid, *inner):
+    return calendar("BEGIN:VTODO", "UID:" + uid, "DTSTAMP:20250101T000000Z", *inner, "END:VTODO")
+
+
+E1 = event("one", "DTSTART:20250310T090000Z", "DTEND:20250310T100000Z", "SUMMARY:Stand-up")
+assert len(E1) == 191
+E2 = event("two", "DTSTART:20250311T090000Z", "DTEND:20250311T100000Z")
+NY = (
+    "BEGIN:VTIMEZONE", "TZID:NY",
+    "BEGIN:DAYLIGHT", "DTSTART:16010101T020000", "RRULE:FREQ=YEARLY;BYDAY=2SU;BYMONTH=3", "TZOFFSETFROM:-0500", "TZOFFSETTO:-0400", "END:DAYLIGHT",
+    "BEGIN:STANDARD", "DTSTART:16010101T020000", "RRULE:FREQ=YEARLY;BYDAY=1SU;BYMONTH=11", "TZOFFSETFROM:-0400", "TZOFFSETTO:-0500", "END:STANDARD",
+    "END:VTIMEZONE",
+)
+PLAN = calendar(
+    *NY, "BEGIN:VEVENT", "UID:meet", "DTSTART;TZID=NY:20250304T100000", "DTEND;TZID=NY:20250304T110000", "RRULE:FREQ=WEEKLY;COUNT=5",
+    "EXDATE;TZID=NY:20250318T100000", "SUMMARY:Plan", "END:VEVENT", "BEGIN:VEVENT", "UID:meet", "RECURRENCE-ID;TZID=NY:20250325T100000",
+    "DTSTART;TZID=NY:20250326T140000", "DTEND;TZID=NY:20250326T150000", "SUMMARY:Plan moved", "END:VEVENT",
+)
+PLANNED = calendar(
+    "BEGIN:VEVENT", "UID:meet", "DTSTART:20250304T150000Z", "RECURRENCE-ID:20250304T150000Z", "DTEND:20250304T160000Z", "SUMMARY:Plan", "END:VEVENT",
+    "BEGIN:VEVENT", "UID:meet", "DTSTART:20250311T140000Z", "RECURRENCE-ID:20250311T140000Z", "DTEND:20250311T150000Z", "SUMMARY:Plan", "END:VEVENT",
+    "BEGIN:VEVENT", "UID:meet", "RECURRENCE-ID:20250325T140000Z", "DTSTART:20250326T180000Z", "DTEND:20250326T190000Z", "SUMMARY:Plan moved", "END:VEVENT",
+)
+
+# Bodies
+
+NAMES = 'xmlns:D="DAV:" xmlns:C="urn:ietf:params:xml:ns:caldav"'
+ALL = ("16000101T000000Z", "21001231T235959Z")
+
+
+def attributes(start, end):
+    return (f' start="{start}"' if start else "") + (f' end="{end}"' if end else "")
+
+
+def query(start, end, asked="<D:getetag/><C:calendar-data/>", inner="", zone="", name=' name="VEVENT"'):
+    return (
+        f"<C:calendar-query {NAMES}><D:prop>{asked}</D:prop>{zone}<C:filter><C:comp-filter name=\"VCALENDAR\"><C:comp-filter{name}>"
+        f"<C:time-range{attributes(start, end)}/>{inner}</C:comp-filter></C:comp-filter></C:filter></C:calendar-query>"
+    ).encode()
+
+
+def expanded(start, end):
+    return query(start, end, f'<C:calendar-data><C:expand start="{start}" end="{end}"/></C:calendar-data>')
+
+
+def report(body, path=CALENDAR, **how):
+    return request("REPORT", path, body, media="application/xml", **how)
+
+
+def propfind(asked):
+    return f"<D:propfind {NAMES}><D:prop>{asked}</D:prop></D:propfind>".encode()
+
+
+def update(*names):
+    return f"<D:propertyupdate {NAMES}><D:set><D:prop>{''.join(names)}</D:prop></D:set></D:propertyupdate>".encode()
+
+
+def make(*names):
+    return f"<C:mkcalendar {NAMES}><D:set><D:prop>{''.join(names)}</D:prop></D:set></C:mkcalendar>".encode()
+
+
+def ace(principal, privilege="<C:read-free-busy/>", inner=""):
+    return f"<D:ace>{principal}{inner}<D:grant><D:privilege>{privilege}</D:privilege></D:grant></D:ace>"
+
+
+def grants(*aces):
+    return f"<D:acl {NAMES}>{''.join(aces)}</D:acl>".encode()
+
+
+BOB = "<D:principal><D:href>/principals/bob/</D:href></D:principal>"
+NOBODY = "<D:principal><D:href>/principals/nobody/</D:href></D:principal>"
+
+# Cases
+
+CASES, ANSWERS = [], []  # of scripts
+WALKS, TOLD = [], []
+
+
+def case(title, text, status, place, output, form="frames", read="-", write="-", words="script --users users"):
+    assert b"#" not in text and "#" not in title
+    CASES.append(f"#{title}\n{form} {read} {write} {words}\n".encode() + text)
+    ANSWERS.append(f"# {title}\nstatus {status} place {place}\n".encode() + output)
+
+
+def runs(title, steps, connection=0):
+    """A script that is read to its end."""
+    text, output = exchange(steps, connection)
+    case(title, text, 0, len(whole(text)), output)
+
+
+def ends():
+    """How scripts end."""
+    stranger = frame(b"OPTIONS / HTTP/1.1\r\nHost: h\r\n\r\n")
+    away = answer(reply(401))
+    assert len(stranger) == 54 and len(reply(401)) == 125
+    case("an empty script", b"", 0, 0, b"")
+    case("a request without credentials", stranger, 0, 54, away)
+    for words in ("", "script", "script --users", "script --user users", "script --users users users", "Script --users users", "--users users script"):
+        case(f"other words: {words or 'none'}", stranger, 2, 0, b"", words=words)
+    case("a users file with a bad second line", stranger, 3, 76, b"", words="script --users bad")
+    case("a users file of one octet too many", stranger, 3, 65536, b"", words="script --users long")
+    case("a users file of as many octets as one may have", stranger, 0, 54, away, words="script --users limit")
+    case("a users file that is not there", stranger, 4, 0, b"", words="script --users absent")
+    case("the first read fails", stranger, 4, 0, b"", read=0)
+    case("the second read fails", stranger, 4, 0, away, read=1)
+    case("the first write fails", stranger, 5, 0, b"", write=0)
+    for line in (b"bytes 16 0 0\n\n", b"bytes 0 01 0\n\n", b"bytes 0 253402300800 0\n\n", b"bytes 0 0 1048577\n", b"bytes 0 0\n\n", b"bytes  0 0 0\n\n",
+                 b"bytes 0 0 0 \n\n", b"bytes 00 0 0\n\n", b"bytes -1 0 0\n\n", b"claim 64\n", b"claim 00\n", b"claim\n", b"claims 0\n", b"Claim 0\n", b"\n", b"reply 0 0\n\n"):
+        case(f"a bad frame: {line.split(bytes([10]))[0].decode()}", line, 6, 0, b"")
+    for text in (b"b", b"bytes 0 0 0", b"bytes 0 0 0\n", b"bytes 0 0 1\nx", b"claim 0"):
+        case(f"an input that ends within a frame, at {len(text)}", text, 6, 0, b"")
+    case("a payload without its line feed", b"bytes 0 0 0\n\nbytes 0 0 1\nxy", 6, 13, b"")
+    case("a bad frame behind an answered one", stranger + b"bytes 16 0 0\n", 6, 54, away)
+    case("a bad frame behind workers' ones", b"claim 63\nexpand 63\npublish 63\nabandon 63\nclaim 07\n", 6, 41, b"")
+    case("the greatest numbers that a frame may have", b"bytes 15 253402300799 0\n\nabandon 63\n", 0, 36, b"")
+
+
+def cuttings():
+    """Octets in any cutting, with frames of workers between."""
+    steps = [
+        (put("one.ics", E1), stored(E1)),
+        (report(query("20250310T090000Z", "20250310T100000Z")), found((CALENDAR + "one.ics", [(200, f'<D:getetag>"{etag(E1)}"</D:getetag>' + data(E1))]))),
+        (put("meet.ics", PLAN), stored(PLAN)),
+        (report(expanded("20250301T000000Z", "20250329T000000Z")), None),
+    ]
+    assert len(steps[0][0]) == 335 and len(steps[0][1]) == 154 and len(steps[1][0]) == 458 and len(steps[1][1]) == 770
+    standing = event("one", "DTSTART:20250310T090000Z", "DTEND:20250310T100000Z", "SUMMARY:Stand-up")
+    steps[3] = (steps[3][0], found((CALENDAR + "meet.ics", [(200, data(PLANNED))]), (CALENDAR + "one.ics", [(200, data(standing))])))
+    octets = b"".join(asked for asked, _ in steps)
+    text, output = exchange(steps)
+    replies = [answer(told) for _, told in steps]
+    case("a meeting and a plan, a frame each", text, 0, len(text), output)
+    case("the same in one frame", frame(octets), 0, len(frame(octets)), output)
+    each = len(b"bytes 0 1741600000 1\nx\nclaim 0\nexpand 0\npublish 0\n")
+    case("the same octet by octet, with workers between", octets, 0, each * len(octets), output, form="octets")
+    ends_of = [each * sum(len(asked) for asked, _ in steps[:n + 1]) for n in range(4)]
+    for read in range((each * len(octets) + 65535) // 65536 + 1):
+        taken = sum(end <= min(65536 * read, each * len(octets)) for end in [end - each + 23 for end in ends_of])
+        case(f"and its read {read} fails", octets, 4, 0, b"".join(replies[:taken]), form="octets", read=read)
+    for write in range(4):
+        case(f"and its write {write} fails", octets, 5, 0, b"".join(replies[:write]), form="octets", write=write)
+    body = steps[0][0][-len(E1):]
+    head = steps[0][0][:-len(E1)].replace(b"Content-Length: 191", b"Transfer-Encoding: chunked")
+    chunked = head + b"64\r\n" + body[:100] + b"\r\n5b\r\n" + body[100:] + b"\r\n0\r\n\r\n"
+    runs("the meeting in chunks of 100 and of 91 octets", [(chunked, steps[0][1]), steps[1]])
+    case("a stream that is cut within a body", frame(steps[0][0][:300]), 0, len(frame(steps[0][0][:300])), b"")
+    for cut in range(0, len(chunked), 37):
+        text = frame(chunked[:cut], 3) + frame(request("GET", CALENDAR + "one.ics"))
+        case(f"a request that is cut at {cut} changes nothing", text, 0, len(text), answer(reply(404)))
+    options = request("OPTIONS", "/")
+    allowed = reply(200, allow=OF_HOME)
+    two = frame(options + request("OPTIONS", CALENDAR), 9)
+    case("two whole requests in one frame", two, 0, len(two), answer(allowed, 9) + answer(reply(200, allow=OF_CALENDAR), 9))
+    closing = request("OPTIONS", "/", more=["Connection: close"])
+    text = frame(closing) + frame(options) + frame(options, 1) + frame(closing + options, 2)
+    closed = reply(200, allow=OF_HOME, close=True)
+    case("a connection that was closed drops later octets", text, 0, len(text), answer(closed) + answer(allowed, 1) + answer(closed, 2))
+    old = request("OPTIONS", "/", version="1.0")
+    text = frame(old + options)
+    case("version 1.0 closes", text, 0, len(text), answer(closed))
+
+
+def streams():
+    """Faults of streams, each of which closes its connection."""
+    head = "PUT /calendars/alice/calendar/one.ics HTTP/1.1\r\n"
+    chunked = (head + "Authorization: Basic " + PASSWORDS["alice"] + "\r\nTransfer-Encoding: chunked\r\n\r\n").encode()
+    many = b"GET / HTTP/1.1\r\n" + b"a: b\r\n" * 101 + b"\r\n"
+    faults = [
+        ("a field twice", (head + "Depth: 0\r\nDepth: 0\r\n\r\n").encode(), 400),
+        ("a body's length of one too many", (head + "Content-Length: 1048577\r\n\r\n").encode(), 413),
+        ("101 fields", many, 431),
+        ("a head of 16,384 octets without an end", b"GET / HTTP/1.1\r\nX: ~16365~", 431),
+        ("version 2.0", b"GET / HTTP/2.0\r\n\r\n", 505),
+        ("a chunk line of nine digits", chunked + b"100000001\r\n", 400),
+        ("a chunk line of nine digits with a zero in front", chunked + b"000000001\r\n", 400),
+        ("a chunk of one octet too many", chunked + b"100001\r\n", 413),
+        ("no chunk line", chunked + b"5 \r\n", 400),
+        ("a chunk line of 257 octets", chunked + b"5;~253~", 400),
+        ("a chunk without its end", chunked + b"1\r\nxy", 400),
+    ]
+    text = b"".join(frame(octets, n) + frame(request("OPTIONS", "/"), n) for n, (_, octets, _) in enumerate(faults))
+    output = b"".join(answer(reply(status, close=True), n) for n, (_, _, status) in enumerate(faults))
+    case("faults of streams: " + ", ".join(name for name, _, _ in faults), text, 0, len(whole(text)), output)
+    fits = [b"GET / HTTP/1.1\r\n" + b"a: b\r\n" * 100 + b"\r\n", b"OPTIONS / HTTP/1.1\r\nX:~16358~\r\n\r\n"]
+    assert len(whole(fits[1])) == 16384
+    runs("a head of 100 fields, and one of 16,384 octets", [(octets, reply(401)) for octets in fits])
+
+
+def objects():
+    """Objects at their limits, and such as are seldom."""
+    span = ("20250101T000000Z", "20250101T010000Z")
+
+    def rule(text, uid, start="20250101T000000Z"):
+        return event(uid, "DTSTART:" + start, "RRULE:" + text)
+
+    def once(uid, text, start="20250101T000000Z"):
+        shown = event(uid, "DTSTART:" + start, "RECURRENCE-ID:" + start)
+        return report(expanded(*ALL)), [(put(uid + ".ics", rule(text, uid, start)), stored(rule(text, uid, start)))], (CALENDAR + uid + ".ics", [(200, data(shown))])
+
+    def zoned(uid, inner, start="DTSTART;TZID=Z:20250310T090000"):
+        return calendar("BEGIN:VTIMEZONE", "TZID:Z", "BEGIN:STANDARD", *inner, "END:STANDARD", "END:VTIMEZONE",
+                        "BEGIN:VEVENT", "UID:" + uid, "DTSTAMP:20250101T000000Z", start, "END:VEVENT")
+
+    bad = refused("<C:valid-calendar-data/>")
+    deep = event("d4", "DTSTART:20250101T000000Z", "BEGIN:VALARM", "BEGIN:X-A", "END:X-A", "END:VALARM")
+    deeper = event("d5", "DTSTART:20250101T000000Z", "BEGIN:VALARM", "BEGIN:X-A", "BEGIN:X-B", "END:X-B", "END:X-A", "END:VALARM")
+    eight = event("r8", "DTSTART:20250101T000000Z", *["RRULE:FREQ=DAILY;COUNT=2"] * 8)
+    nine = event("r9", "DTSTART:20250101T000000Z", *["RRULE:FREQ=DAILY;COUNT=2"] * 9)
+    wide = zoned("far", ["DTSTART:19700101T000000", "TZOFFSETFROM:+235959", "TZOFFSETTO:-235959"])
+    hourly = zoned("zh", ["DTSTART:16010101T000000", "RRULE:FREQ=HOURLY", "TZOFFSETFROM:+0000", "TZOFFSETTO:+0100"])
+    minutely = zoned("zm", ["DTSTART:16010101T000000", "RRULE:FREQ=MINUTELY;COUNT=2", "TZOFFSETFROM:+0000", "TZOFFSETTO:+0100"])
+    most = event("l0", "DTSTART:20250101T000000Z", "DURATION:P200000D")
+    more = event("l1", "DTSTART:20250101T000000Z", "DURATION:P200001D")
+    hours = "BYHOUR=" + ",".join(map(str, range(24)))
+    picks = event("p24", "DTSTART:20250101T000000Z", f"RRULE:FREQ=DAILY;COUNT=2;BYSETPOS=1;BYMINUTE=0;{hours}")
+    over = event("p48", "DTSTART:20250101T000000Z", f"RRULE:FREQ=DAILY;COUNT=2;BYSETPOS=1;BYMINUTE=0,30;{hours}")
+    runs("objects at their limits", [
+        (put("d4.ics", deep), stored(deep)), (put("d5.ics", deeper), bad),
+        (put("r8.ics", eight), stored(eight)), (put("r9.ics", nine), bad),
+        (put("far.ics", wide), stored(wide)),
+        (put("zh.ics", hourly), bad), (put("zm.ics", minutely), bad),
+        (put("l0.ics", most), stored(most)), (put("l1.ics", more), bad),
+        (put("p24.ics", picks), stored(picks)), (put("p48.ics", over), bad),
+        (report(query("20250311T085959Z", "20250311T090000Z", "<D:getetag/>")), found(
+            *[(CALENDAR + name, [(200, f'<D:getetag>"{etag(octets)}"</D:getetag>')]) for name, octets in (("far.ics", wide), ("l0.ics", most))])),
+        (report(query("20250311T085800Z", "20250311T085959Z", "<D:getetag/>")), found((CALENDAR + "l0.ics", [(200, f'<D:getetag>"{etag(most)}"</D:getetag>')]))),
+    ])
+    alone = calendar("BEGIN:VEVENT", "UID:alone", "RECURRENCE-ID:20250310T090000Z", "DTSTART:20250312T140000Z", "DTEND:20250312T150000Z", "END:VEVENT")
+    undated = event("undated", "SUMMARY:Some day")
+    runs("an override without a master, and an event without a start", [
+        (put("alone.ics", alone), stored(alone)), (put("undated.ics", undated), stored(undated)),
+        (report(expanded(*ALL)), found((CALENDAR + "alone.ics", [(200, data(alone))]))),
+        (report(query("20250312T140000Z", "20250312T140001Z", "<D:getetag/>")), found((CALENDAR + "alone.ics", [(200, f'<D:getetag>"{etag(alone)}"</D:getetag>')]))),
+        (report(query("20250310T000000Z", "20250312T140000Z", "<D:getetag/>")), found()),
+        (request("GET", CALENDAR + "undated.ics"), reply(200, undated, TEXT, etag(undated))),
+    ])
+    singles = [
+        once("february", "FREQ=YEARLY;BYMONTH=2;BYMONTHDAY=30"),
+        once("interval", "FREQ=YEARLY;INTERVAL=999999999"),
+        once("last", "FREQ=DAILY;COUNT=999999999", "21001231T000000Z"),
+    ]
+    runs("rules that give their start alone", [step for _, puts, _ in singles for step in puts] + [(singles[0][0], found(*[shown for _, _, shown in singles]))])
+    size = 262_144 - len(event("large", "DTSTART:20250101T000000Z", "X-NOTE:"))
+    large = event("large", "DTSTART:20250101T000000Z", f"X-NOTE:~{size}~")
+    larger = event("large", "DTSTART:20250101T000000Z", f"X-NOTE:~{size + 1}~")
+    assert len(whole(large)) == 262_144
+    runs("an object of as many octets as one may have, and of one more", [
+        (put("large.ics", larger), refused("<C:max-resource-size/>")), (put("large.ics", large), stored(large)),
+    ])
+
+    def nest(depth):
+        return "<a>" * (depth - 3) + "<a/>" + "</a>" * (depth - 3)
+
+    shown = found(("/", [(404, "<a/>")]))
+    runs("a body 32 deep, and 33 deep", [
+        (request("PROPFIND", "/", propfind(nest(32)), depth="0"), shown), (request("PROPFIND", "/", propfind(nest(33)), depth="0"), reply(400)),
+    ])
+
+
+# The order of refusals
+
+SETTING = [
+    (request("ACL", CALENDAR, grants(ace(BOB))), reply(200)),
+    (put("one.ics", E1), stored(E1)),
+    (put("two.ics", E2), stored(E2)),
+    (request("MKCALENDAR", HOME + "todos/", make('<C:supported-calendar-component-set><C:comp name="VTODO"/></C:supported-calendar-component-set>')), reply(201)),
+    (request("MKCALENDAR", HOME + "part/"), reply(201)),
+    (request("ACL", HOME + "part/", grants(ace(BOB, "<D:bind/>"))), reply(200)),
+    (put("there.ics", E1, HOME + "part/"), stored(E1)),
+]
+
+
+class Order:
+    """A method's refusals in their order: each alone, and each with the next one, of which the first is told."""
+
+    def __init__(self, method, path, done, **base):
+        self.base = dict(method=method, path=path, **base)
+        self.done, self.stages, self.steps = done, [], []
+
+    def add(self, name, told, **changes):
+        """A refusal, with what it changes in the request, and its reply, or what gives it for a path."""
+        self.stages.append((name, told, changes))
+
+    def asked(self, changes, told):
+        how = {**self.base, **changes}
+        for key in [key for key in how if how[key] is None and key != "who"]:
+            del how[key]
+        return request(**how), told(how["path"]) if callable(told) else told
+
+    def run(self, *both, never=()):
+        """`both` has the changes of pairs that touch the same part of a request; `never` the pairs that no request has."""
+        given = dict((pair, changes) for pair, changes in both)
+        for name, told, changes in self.stages:
+            self.steps.append(self.asked(changes, told))
+        for (first, told, changes), (second, _, others) in zip(self.stages, self.stages[1:]):
+            if (first, second) in never:
+                continue
+            if (first, second) in given:
+                merged = given.pop((first, second))
+            else:
+                assert not set(changes) & set(others), (self.base["method"], first, second)
+                merged = {**others, **changes}
+            self.steps.append(self.asked(merged, told))
+        assert not given, given
+        self.steps.append(self.asked({}, self.done))
+        names = ", ".join(name for name, _, _ in self.stages)
+        return runs(f"{self.base['method']} {self.base['path']}: {names}", SETTING + self.steps)
+
+
+def starts(order, shape=True, hidden=True):
+    order.add("stranger", reply(401), who=None)
+    if shape:
+        order.add("path without the method", reply(405, allow=OF_HOME), path=HOME)
+    if hidden:
+        order.add("hidden", reply(404), who="carol")
+
+
+def fields(order, media=True):
+    order.add("coding", reply(415), coding="gzip")
+    if media:
+        order.add("type", reply(415), media="text/plain")
+
+
+def methods():
+    unknown = [
+        ("an unknown method", request("POST", CALENDAR), reply(501)),
+        ("an unknown method on no path", request("MOVE", "/nowhere"), reply(501)),
+        ("an unknown method of a stranger", request("LOCK", CALENDAR, who=None), reply(401)),
+        ("a method in small letters", request("get", CALENDAR + "one.ics"), reply(501)),
+        ("no path", request("GET", "/nowhere"), reply(404)),
+        ("no path, with a body that is none", request("PROPFIND", "/nowhere", b"x"), reply(404)),
+        ("an unknown user", request("PROPFIND", "/principals/nobody/", depth="0"), reply(404)),
+        ("a path without the method, of an unknown user", request("GET", "/calendars/nobody/"), reply(405, allow=OF_HOME)),
+        ("an object's path without the method", request("REPORT", CALENDAR + "one.ics"), reply(405, allow=OF_OBJECT)),
+        ("a calendar's path without the method", request("PUT", CALENDAR, b"x"), reply(405, allow=OF_CALENDAR)),
+    ]
+    runs("all methods: " + ", ".join(name for name, _, _ in unknown), [(asked, told) for _, asked, told in unknown])
+
+
+def reading():
+    for method in ("GET", "HEAD"):
+        head = method == "HEAD"
+        order = Order(method, CALENDAR + "one.ics", reply(200, E1, TEXT, etag(E1), head=head))
+        order.add("stranger", reply(401, head=head), who=None)
+        order.add("path without the method", reply(405, allow=OF_HOME, head=head), path=HOME)
+        order.add("hidden", reply(404, head=head), who="carol")
+        order.add("privilege", lambda path: needs(path, "D:read", head=head), who="bob")
+        order.add("absent", reply(404, head=head), path=CALENDAR + "none.ics")
+        order.add("coding", reply(415, head=head), coding="gzip")
+        order.add("malformed", reply(400, head=head), if_none="x")
+        order.add("If-Match", reply(412, head=head), if_match='"0"')
+        order.add("If-None-Match", reply(304, etag=etag(E1), head=head), if_none="*")
+        order.run((("hidden", "privilege"), dict(who="carol")))
+    order = Order("OPTIONS", CALENDAR + "one.ics", reply(200, allow=OF_OBJECT), if_match='"0"')
+    starts(order, shape=False)
+    order.add("coding", reply(415), coding="gzip")
+    order.add("malformed", reply(400), if_none="x")
+    order.run((("stranger", "hidden"), dict(who=None, path="/calendars/nobody/calendar/one.ics")))
+    runs("OPTIONS: what is hidden in a home that is seen, and in one that is not", SETTING + [
+        (request("OPTIONS", HOME + "todos/", who="bob"), reply(200, allow=OF_CALENDAR)),
+        (request("OPTIONS", HOME + "none/", who="bob"), reply(200, allow=OF_CALENDAR)),
+        (request("OPTIONS", HOME, who="carol"), reply(404)),
+        (request("OPTIONS", "/calendars/carol/none/", who="carol"), reply(200, allow=OF_CALENDAR)),
+    ])
+    order = Order("PROPFIND", CALENDAR + "one.ics", found((CALENDAR + "one.ics", [(200, f'<D:getetag>"{etag(E1)}"</D:getetag>')])),
+                  body=propfind("<D:getetag/>"), media="text/xml", depth="0")
+    starts(order, shape=False)
+    order.add("privilege", lambda path: needs(path, "D:read"), who="bob")
+    order.add("absent", reply(404), path=CALENDAR + "none.ics")
+    fields(order)
+    order.add("body", reply(400), body=b"<D:propfind xmlns:D='DAV:'/>")
+    order.add("malformed", reply(400), if_none="x")
+    order.add("no Depth", refused("<D:propfind-finite-depth/>"), depth=None)
+    order.add("another Depth", reply(400), depth="2")
+    order.add("If-Match", reply(412), if_match='"0"')
+    order.add("If-None-Match", reply(412), if_none="*")
+    order.run(
+        (("stranger", "hidden"), dict(who=None, path="/calendars/nobody/calendar/one.ics")), (("hidden", "privilege"), dict(who="carol")),
+        never=[("no Depth", "another Depth")],
+    )
+
+
+def deleting():
+    order = Order("DELETE", CALENDAR + "one.ics", reply(204))
+    starts(order)
+    order.add("privilege", lambda path: needs(path, "D:unbind"), who="bob")
+    order.add("absent", reply(404), path=CALENDAR + "none.ics")
+    order.add("coding", reply(415), coding="gzip")
+    order.add("malformed", reply(400), if_none="x")
+    order.add("If-Match", reply(412), if_match='"0"')
+    order.add("If-None-Match", reply(412), if_none="*")
+    order.run((("hidden", "privilege"), dict(who="carol")))
+    order = Order("DELETE", CALENDAR, reply(204), if_match='"0"')
+    starts(order)
+    order.add("privilege", lambda path: needs(path, "D:unbind"), who="bob")
+    order.add("coding", reply(415), coding="gzip")
+    order.add("malformed", reply(400), if_none="x")
+    order.run((("hidden", "privilege"), dict(who="carol")))
+
+
+NEW = event("new", "DTSTART:20250312T090000Z", "DTEND:20250312T100000Z")
+
+
+def putting():
+    def refuses(name):
+        return refused(f"<C:{name}/>")
+
+    def conflict(name):
+        return refused(f"<C:no-uid-conflict><D:href>{CALENDAR}{name}</D:href></C:no-uid-conflict>")
+
+    def starting(moment, uid="new", *more):
+        return event(uid, "DTSTART:" + moment, *more)
+
+    order = Order("PUT", CALENDAR + "new.ics", stored(NEW), body=NEW, media="text/calendar")
+    starts(order)
+    order.add("privilege", lambda path: needs(path, "D:bind"), who="bob")
+    order.add("coding", reply(415), coding="gzip")
+    order.add("malformed", reply(400), if_none="x")
+    order.add("If-Match", reply(412), if_match='"0"')
+    order.add("If-None-Match", reply(412), if_none="*", path=CALENDAR + "one.ics")
+    order.add("supported-calendar-data", refuses("supported-calendar-data"), media="text/plain")
+    order.add("max-resource-size", refuses("max-resource-size"), body=event("new", "DTSTART:20250312T090000Z", "X-NOTE:~262144~"))
+    order.add("valid-calendar-data", refuses("valid-calendar-data"), body=b"x")
+    order.add("valid-calendar-object-resource", refuses("valid-calendar-object-resource"), body=calendar("METHOD:REQUEST", "BEGIN:VEVENT", "UID:new", "END:VEVENT"))
+    order.add("supported-calendar-component", refuses("supported-calendar-component"), path=HOME + "todos/new.ics")
+    order.add("min-date-time", refuses("min-date-time"), body=starting("15991231T235959Z"))
+    order.add("max-date-time", refuses("max-date-time"), body=starting("21010101T000000Z"))
+    order.add("max-instances", refuses("max-instances"), body=starting("20250101T000000Z", "new", "RRULE:FREQ=HOURLY"))
+    order.add("no-uid-conflict", conflict("two.ics"), body=starting("20250101T000000Z", "two"))
+    order.run(
+        (("hidden", "privilege"), dict(who="carol")),
+        (("max-resource-size", "valid-calendar-data"), dict(body=b"~262145~")),
+        (("valid-calendar-data", "valid-calendar-object-resource"), dict(body=calendar("METHOD:REQUEST", "DTSTART:x", "BEGIN:VEVENT", "UID:new", "END:VEVENT"))),
+        (("min-date-time", "max-date-time"), dict(body=starting("15991231T235959Z", "new", "RDATE:21010101T000000Z"))),
+        (("max-date-time", "max-instances"), dict(body=starting("20250101T000000Z", "new", "RRULE:FREQ=HOURLY", "RDATE:21010101T000000Z"))),
+        (("max-instances", "no-uid-conflict"), dict(body=starting("20250101T000000Z", "two", "RRULE:FREQ=MINUTELY;COUNT=2"))),
+    )
+    runs("PUT: other privileges, conditions and conflicts", SETTING + [
+        (put("there.ics", E1, HOME + "part/", who="bob"), needs(HOME + "part/there.ics", "D:write-content")),
+        (put("none.ics", E1, CALENDAR, who="bob"), needs(CALENDAR + "none.ics", "D:bind")),
+        (put("one.ics", E1, HOME + "none/"), reply(404)),
+        (put("one.ics", E1, "/calendars/nobody/calendar/"), reply(404)),
+        (put("one.ics", E1, if_none="*"), reply(412)),
+        (put("one.ics", E1, if_match='"0"'), reply(412)),
+        (put("one.ics", E1, if_match=f'W/"{etag(E1)}"'), reply(412)),
+        (put("one.ics", NEW), conflict("one.ics")),
+        (put("one.ics", starting("20250101T000000Z", "two")), conflict("two.ics")),
+        (put("new.ics", E1, HOME + "part/", who="bob"), refused("<C:no-uid-conflict/>")),
+        (put("one.ics", E1, if_match=f'"0", "{etag(E1)}"'), stored(E1, 204)),
+        (put("one.ics", E1, if_none='"0"'), stored(E1, 204)),
+        (request("GET", CALENDAR + "one.ics"), reply(200, E1, TEXT, etag(E1))),
+    ])
+
+
+def properties():
+    order = Order("PROPPATCH", CALENDAR, found((CALENDAR, [(200, "<D:displayname/>")])), body=update("<D:displayname>x</D:displayname>"), media="text/xml", if_match='"0"')
+    starts(order)
+    order.add("privilege", lambda path: needs(path, "D:write-properties"), who="bob")
+    fields(order)
+    order.add("body", reply(400), body=b"<D:propertyupdate xmlns:D='DAV:'/>")
+    order.add("malformed", reply(400), if_none="x")
+    order.add("setting", found((CALENDAR, [(403, "<D:getetag/>"), (424, "<D:displayname/>")])), body=update("<D:displayname>x</D:displayname>", "<D:getetag/>"))
+    order.run((("hidden", "privilege"), dict(who="carol")))
+    order = Order("MKCALENDAR", HOME + "work/", reply(201), if_match='"0"')
+    starts(order)
+    order.add("privilege", lambda path: needs(path, "D:bind"), who="bob")
+    fields(order)
+    order.add("body", reply(400), body=b"<C:mkcalendar xmlns:C='urn:ietf:params:xml:ns:caldav'/>")
+    order.add("malformed", reply(400), if_none="x")
+    order.add("there", refused("<D:resource-must-be-null/>"), path=CALENDAR)
+    order.add("setting", refused("<D:cannot-modify-protected-property/>"), body=make("<D:displayname>x</D:displayname>", "<D:getetag/>"))
+    order.run((("hidden", "privilege"), dict(who="carol")))
+
+
+def granting():
+    empty = "<D:principal/>"
+    odd = "<D:principal><D:self/></D:principal>"
+    bad = "<D:unlock/>"
+    deny = "<D:deny><D:privilege><D:read/></D:privilege></D:deny>"
+    short = "<ace><principal><all/></principal><grant><privilege><%s/></privilege></grant></ace>"
+
+    def many(last):
+        return f'<acl xmlns="DAV:">{short % "read" * 64}{short % last}</acl>'.encode()
+
+    order = Order("ACL", CALENDAR, reply(200), body=grants(ace(BOB)), media="text/xml", if_match='"0"')
+    starts(order)
+    order.add("privilege", lambda path: needs(path, "D:write-acl"), who="bob")
+    fields(order)
+    order.add("body", reply(400), body=grants(f"<D:ace>{BOB}</D:ace>"))
+    order.add("grant-only", refused("<D:grant-only/>"), body=grants(ace(BOB, inner=deny)))
+    order.add("no-invert", refused("<D:no-invert/>"), body=grants(ace("", inner=f"<D:invert>{BOB}</D:invert>")))
+    order.add("recognized-principal", refused("<D:recognized-principal/>"), body=grants(ace(NOBODY)))
+    order.add("allowed-principal", refused("<D:allowed-principal/>"), body=grants(ace(odd)))
+    order.add("not-supported-privilege", refused("<D:not-supported-privilege/>"), body=grants(ace(BOB, bad)))
+    order.add("limited-number-of-aces", refused("<D:limited-number-of-aces/>"), body=many("read"))
+    order.add("malformed", reply(400), if_none="x")
+    order.run(
+        (("hidden", "privilege"), dict(who="carol")),
+        (("body", "grant-only"), dict(body=grants(ace(BOB, inner=deny), f"<D:ace>{BOB}</D:ace>"))),
+        (("grant-only", "no-invert"), dict(body=grants(ace(BOB, inner=deny + f"<D:invert>{BOB}</D:invert>")))),
+        (("no-invert", "recognized-principal"), dict(body=grants(ace(NOBODY, inner=f"<D:invert>{BOB}</D:invert>")))),
+        (("allowed-principal", "not-supported-privilege"), dict(body=grants(ace(empty, bad)))),
+        (("not-supported-privilege", "limited-number-of-aces"), dict(body=many("unlock"))),
+        never=[("recognized-principal", "allowed-principal")],
+    )
+
+
+def reporting():
+    month = ("20250301T000000Z", "20250401T000000Z")
+    early, late = ("15991231T000000Z", "20250401T000000Z"), ("20250301T000000Z", "21010101T000000Z")
+    nameless = "<C:prop-filter/>"
+    dated = f'<C:prop-filter name="SUMMARY"><C:time-range{attributes(*month)}/></C:prop-filter>'
+    collated = '<C:prop-filter name="SUMMARY"><C:text-match collation="x">a</C:text-match></C:prop-filter>'
+    old = '<C:calendar-data version="3.0"/>'
+    zone = "<C:timezone>x</C:timezone>"
+    of_one = found((CALENDAR + "one.ics", [(200, f'<D:getetag>"{etag(E1)}"</D:getetag>')]), (CALENDAR + "two.ics", [(200, f'<D:getetag>"{etag(E2)}"</D:getetag>')]))
+
+    def asks(*faults, span=month, asked="<D:getetag/>"):
+        return query(*span, asked + "".join(f for f in faults if f == old), "".join(f for f in faults if f in (nameless, dated, collated)), "".join(f for f in faults if f == zone))
+
+    def refuses(name, space="C"):
+        return refused(f"<{space}:{name}/>")
+
+    order = Order("REPORT", CALENDAR, of_one, body=asks(), media="text/xml", if_match='"0"')
+    starts(order)
+    fields(order)
+    order.add("body", reply(400), body=b"x")
+    order.add("supported-report", refuses("supported-report", "D"), body=b"<a/>")
+    order.add("nameless", reply(400), body=asks(nameless))
+    order.add("valid-filter", refuses("valid-filter"), body=asks(span=("", "")))
+    order.add("supported-filter", refuses("supported-filter"), body=asks(dated))
+    order.add("supported-collation", refuses("supported-collation"), body=asks(collated))
+    order.add("supported-calendar-data", refuses("supported-calendar-data"), body=asks(old))
+    order.add("malformed", reply(400), if_none="x")
+    order.add("privilege", lambda path: needs(path, "D:read"), who="bob")
+    order.add("zone", refuses("valid-calendar-data"), body=asks(zone))
+    order.add("min-date-time", refuses("min-date-time"), body=asks(span=early))
+    order.add("max-date-time", refuses("max-date-time"), body=asks(span=late))
+    order.run(
+        (("body", "supported-report"), dict(body=b"<a/>x")),
+        (("nameless", "valid-filter"), dict(body=asks(nameless, span=("", "")))),
+        (("valid-filter", "supported-filter"), dict(body=asks(dated, span=("", "")))),
+        (("supported-filter", "supported-collation"), dict(body=asks(collated, dated))),
+        (("supported-collation", "supported-calendar-data"), dict(body=asks(collated, old))),
+        (("zone", "min-date-time"), dict(body=asks(zone, span=early))),
+        (("min-date-time", "max-date-time"), dict(body=asks(span=("15991231T000000Z", "21010101T000000Z")))),
+        never=[("supported-report", "nameless")],
+    )
+    busy = f"<C:free-busy-query {NAMES}><C:time-range%s/></C:free-busy-query>"
+    several = f"<C:calendar-multiget {NAMES}><D:prop><D:getetag/></D:prop>%s</C:calendar-multiget>"
+    href = f"<D:href>{CALENDAR}one.ics</D:href>"
+
+    def expands(first, second, limit=""):
+        return report(query(*second, f'<C:calendar-data><C:expand{attributes(*first)}/>{limit}</C:calendar-data>'))
+
+    runs("REPORT: other reports, and ranges of several kinds", SETTING + [
+        (report((busy % attributes(*month)).encode(), who="carol"), reply(404)),
+        (report((busy % attributes(*month)).encode(), HOME + "part/", who="bob"), needs(HOME + "part/", "C:read-free-busy")),
+        (report((busy % "").encode(), HOME + "part/", who="bob"), refuses("valid-filter")),
+        (report(f"<C:free-busy-query {NAMES}/>".encode()), reply(400)),
+        (report((busy % attributes(*early)).encode()), refuses("min-date-time")),
+        (report((busy % attributes(*late)).encode()), refuses("max-date-time")),
+        (report((several % "").encode()), reply(400)),
+        (report((several % href).encode(), who="bob"), needs(CALENDAR, "D:read")),
+        (report((several % href).encode(), who="carol"), reply(404)),
+        (report((several % href).encode()), found((CALENDAR + "one.ics", [(200, f'<D:getetag>"{etag(E1)}"</D:getetag>')]))),
+        (expands(late, early), refuses("max-date-time")),
+        (expands(early, late), refuses("min-date-time")),
+        (expands(month, early, f"<C:limit-freebusy-set{attributes(*late)}/>"), refuses("max-date-time")),
+    ])
+
+
+def filled():
+    # MKCALENDAR without a body costs 256 and a PUT its body and 256, so that the last PROPPATCH is made shorter by these
+    displayname = update("<D:displayname>p</D:displayname>")
+
+    def spends(cost):
+        return (request("PROPPATCH", HOME + "part/", b"~%d~" % (cost - 256 - len(displayname)) + displayname), found((HOME + "part/", [(200, "<D:displayname/>")])))
+
+    last = 1_048_576 - 256 - (len(E1) + 256)
+    over = request("PROPPATCH", HOME + "part/", displayname)
+    conflict = refused(f"<C:no-uid-conflict><D:href>{HOME}part/one.ics</D:href></C:no-uid-conflict>")
+    return [
+        (request("MKCALENDAR", HOME + "part/"), reply(201)),
+        (put("one.ics", E1, HOME + "part/"), stored(E1)),
+        *[spends(1_048_576)] * 31,
+        spends(last),
+        (over, reply(507)),
+        (request("PROPPATCH", HOME + "part/", update("<D:getetag/>")), found((HOME + "part/", [(403, "<D:getetag/>")]))),
+        (put("new.ics", NEW, HOME + "part/"), reply(507)),
+        (put("one.ics", E1, HOME + "part/"), reply(507)),
+        (put("new.ics", E1, HOME + "part/"), conflict),
+        (request("ACL", HOME + "part/", grants()), reply(507)),
+        (request("MKCALENDAR", HOME + "more/"), reply(507)),
+        (request("MKCALENDAR", HOME + "more/", make("<D:getetag/>")), refused("<D:cannot-modify-protected-property/>")),
+        (request("MKCALENDAR", HOME + "part/"), refused("<D:resource-must-be-null/>")),
+        (put("one.ics", E1, "/calendars/bob/calendar/", who="bob"), stored(E1)),
+        (request("DELETE", HOME + "part/one.ics"), reply(204)),
+        (request("DELETE", HOME + "part/"), reply(204)),
+        (put("new.ics", NEW), reply(507)),
+    ]
+
+
+def homes():
+    runs("a home that has no room, after 33,554,432 octets of changes: 507 comes behind all else that refuses a change, and deletions are made", filled())
+    runs("a home of 64 calendars", [(request("MKCALENDAR", f"{HOME}c{n}/"), reply(201)) for n in range(63)] + [
+        (request("MKCALENDAR", HOME + "c63/"), reply(507)), (request("MKCALENDAR", HOME + "c62/"), refused("<D:resource-must-be-null/>")),
+        (request("DELETE", HOME + "c62/"), reply(204)), (request("MKCALENDAR", HOME + "c63/"), reply(201)),
+    ])
+
+
+def walk(title, steps):
+    """A walk through a book: for each step its letter, the request that it answers, if it answers one, and what is printed."""
+    letters = "".join(letter for letter, _, _ in steps)
+    octets = b"".join(asked for _, asked, _ in steps)
+    assert b"#" not in octets
+    WALKS.append(f"#{title}\n{letters}\n".encode() + octets)
+    TOLD.append(f"# {title}\n".encode() + b"".join(told + b"\n" for _, _, told in steps))
+
+
+def books():
+    """What a script does not show: which piece is claimed, what becomes of it, and how many entries there are."""
+    def daily(start, count):
+        return event("one", "DTSTART:" + start, f"RRULE:FREQ=DAILY;COUNT={count}")
+
+    # 1741600000 lies in window 314, so the horizon begins with window 310: 27 April to 29 June 2024
+    first, second = daily("20240501T090000Z", 3), daily("20240601T090000Z", 2)
+    shown = report(query("20240427T000000Z", "20240630T000000Z"))
+
+    def asks(asked, status, body=b""):
+        return ("a", asked, f"answered {status}".encode() + (b"\n" + body if body else b""))
+
+    def shows(octets):
+        told = found((CALENDAR + "one.ics", [(200, f'<D:getetag>"{etag(octets)}"</D:getetag>' + data(octets))]))
+        return asks(shown, 207, reply_body(told))
+
+    def does(letter, told):
+        return (letter, b"", told.encode())
+
+    def claims(origin, window):
+        return does("c", f"claimed {origin} in window {window}")
+
+    published = does("p", "published")
+    walk("an object is replaced while it is expanded: its rows are not kept", [
+        asks(put("one.ics", first), 201), claims(0, 310), asks(put("one.ics", second), 204), does("e", "3 rows"), does("p", "stale, now 1"), shows(second),
+        claims(1, 310), does("e", "2 rows"), published, shows(second), claims(1, 311), does("n", "2 entries"),
+    ])
+    walk("an object is replaced and put back: its rows are not kept, though they are the same", [
+        asks(put("one.ics", first), 201), claims(0, 310), asks(put("one.ics", second), 204), asks(put("one.ics", first), 204),
+        does("e", "3 rows"), does("p", "stale, now 2"), shows(first), claims(2, 310), does("e", "3 rows"), published, shows(first), does("n", "3 entries"),
+    ])
+    walk("an object is deleted while it is expanded, and another put in its place", [
+        asks(put("one.ics", first), 201), claims(0, 310), asks(request("DELETE", CALENDAR + "one.ics"), 204), does("e", "3 rows"), does("p", "stale, gone"),
+        does("c", "nothing is open"), asks(shown, 207, reply_body(found())), asks(put("one.ics", first), 201), claims(2, 310), does("n", "3 entries"),
+    ])
+    walk("a claim that is given up is open again, with its rows and without", [
+        does("c", "nothing is open"), asks(put("one.ics", first), 201), claims(0, 310), does("b", "given up"), claims(0, 310), does("e", "3 rows"),
+        does("b", "given up"), does("p", "no rows"), claims(0, 310), does("e", "3 rows"), published, does("e", "no claim"), does("b", "no claim"), shows(first),
+    ])
+    walk("a deletion for which room was made", [
+        asks(put("one.ics", first), 201), does("r", "room"), asks(request("DELETE", CALENDAR + "one.ics"), 204), does("r", "room"),
+        asks(request("DELETE", CALENDAR + "one.ics"), 404), does("r", "room"), asks(request("DELETE", CALENDAR), 204), does("n", "3 entries"),
+    ])
+    walk("all pieces of the horizon, and then none is open", [
+        asks(put("one.ics", first), 201),
+        *[step for window in range(310, 323) for step in (claims(0, window), does("e", "3 rows" if window == 310 else "0 rows"), published)],
+        does("c", "nothing is open"), shows(first), asks(put("two.ics", E2), 201), claims(1, 310), does("n", "2 entries"),
+    ])
+    walk("what is refused leaves no entry", [
+        asks(put("one.ics", first), 201), asks(put("one.ics", second, if_none="*"), 412), asks(put("one.ics", second, if_match='"0"'), 412),
+        asks(put("two.ics", second), 403, reply_body(refused(f"<C:no-uid-conflict><D:href>{CALENDAR}one.ics</D:href></C:no-uid-conflict>"))),
+        asks(request("DELETE", CALENDAR + "none.ics"), 404), asks(request("PROPPATCH", CALENDAR, update("<D:getetag/>")), 207, reply_body(found((CALENDAR, [(403, "<D:getetag/>")])))),
+        asks(request("ACL", CALENDAR, grants(ace(NOBODY))), 403, reply_body(refused("<D:recognized-principal/>"))), does("n", "1 entries"), shows(first),
+        asks(request("ACL", CALENDAR, grants(ace(BOB))), 200), asks(put("one.ics", first, who="bob"), 403, reply_body(needs(CALENDAR + "one.ics", "D:bind"))), does("n", "2 entries"),
+    ])
+
+
+def main():
+    for part in (ends, cuttings, streams, objects, methods, reading, deleting, putting, properties, granting, reporting, homes, books):
+        part()
+    for crate, given, told in (("script_cases", CASES, ANSWERS), ("book_cases", WALKS, TOLD)):
+        texts = {"stdin": b"".join(given), "stdout": b"".join(told)}
+        for name, text in texts.items():
+            path = os.path.join(TOP, "crates", crate, name)
+            if "--check" in sys.argv:
+                with open(path, "rb") as file:
+                    if file.read() != text:
+                        sys.exit(f"{path} is not what the rules give")
+            else:
+                with open(path, "wb") as file:
+                    file.write(text)
+        print(f"{crate}: {len(given)} cases, {len(texts['stdin'])} and {len(texts['stdout'])} octets")
+
+
+if __name__ == "__main__":
+    main()
