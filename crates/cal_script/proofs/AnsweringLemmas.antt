@@ -1,5 +1,5 @@
 -- How answering what the octets of a frame complete goes on, and how it ends.
-use Rattle.std.proofs.Common.{◌≡◌, ℕ, ◌≤◌, Bool, List, [], ◌∷◌, ◌++◌, take, drop, refl, sym, ap, subst, ◌∙◌, append_assoc, arith, Option, Some, None, inl, inr}
+use Rattle.std.proofs.Common.{◌≡◌, ℕ, ◌≤◌, Bool, true, false, List, [], ◌∷◌, ◌++◌, take, drop, refl, sym, ap, subst, ◌∙◌, append_assoc, arith, Option, Some, None, inl, inr}
 use Rattle.std.specs.Prelude.{pos}
 use Rattle.std.proofs.lemmas.Bool.Decides.{leb_tells}
 use Rattle.std.proofs.lemmas.List.{append-nil, take-append-drop}
@@ -19,7 +19,8 @@ use Rattle.cal_model.specs.Users.UsersFile.{User}
 use Rattle.cal_script.specs.declared.connections.Connection.{Connection}
 use Rattle.cal_script.specs.Answering.{Grows, GoesOn, answer_frame, IsAnswered, WroteAnswer, WroteAnswerInPart, WroteAll, WroteInPart, WroteBefore, StopsBy, IsStoppedBy}
 use Rattle.cal_script.specs.declared.answering.Stop.{Stop}
-use Rattle.cal_script.specs.declared.answering.Stop.TheVariants.{Unwritten, Broken}
+use Rattle.cal_script.specs.declared.answering.Stop.TheVariants.{Unwritten as Stopped, Broken}
+use Rattle.cal_script.specs.declared.answering.Unwritten.{Unwritten}
 use Rattle.cal_script.specs.Readings.{IsReading, Rests}
 use Rattle.cal_model.proofs.Transcripts.ConnectionAnswerLaws.{streams_complete, completions_stay}
 use Rattle.cal_script.proofs.ReadingLemmas.{more_to_come}
@@ -295,11 +296,25 @@ rose_since first second third h g (inr full) = elim (leb_tells second first) [
 
 -- a stop is handed on
 pub stops_on : {X : Type 0} (stop : Stop X) (short broken short_of broken_of : Type 0) → (short → short_of) → (broken → broken_of) → StopsBy stop short broken → StopsBy stop short_of broken_of
-stops_on (Unwritten why) short broken short_of broken_of f g h = f h
+stops_on (Stopped why) short broken short_of broken_of f g h = f h
 stops_on (Broken fault) short broken short_of broken_of f g h = g h
 
 -- the desk is left as the last of several turns leaves it
 pub broken_on : {X : Type 0} (stop : Stop X) (before now after : Bool) (count counted counted_now : ℕ) → now ≡ before → count ≤ counted → counted ≤ counted_now
     → IsStoppedBy stop now counted after counted_now → IsStoppedBy stop before count after counted_now
-broken_on (Unwritten why) before now after count counted counted_now e h g k = k ∙ e
+broken_on (Stopped why) before now after count counted counted_now e h g k = k ∙ e
 broken_on (Broken fault) before now after count counted counted_now e h g k = (k.0, λ unbroken. rose_since count counted counted_now h g (k.1 (e ∙ unbroken)))
+
+-- what a stop was decides what holds
+pub stopped_short : {X : Type 0} (stop : Stop X) (why : Unwritten) (short broken : Type 0) → stop ≡ Stopped why → StopsBy stop short broken → short
+stopped_short stop why short broken e h = subst (λ s. StopsBy s short broken) e h
+
+pub stopped_broken : {X : Type 0} (stop : Stop X) (fault : X) (short broken : Type 0) → stop ≡ Broken fault → StopsBy stop short broken → broken
+stopped_broken stop fault short broken e h = subst (λ s. StopsBy s short broken) e h
+
+pub stopped_same : {X : Type 0} (stop : Stop X) (why : Unwritten) (before after : Bool) (count counted : ℕ) → stop ≡ Stopped why → IsStoppedBy stop before count after counted → after ≡ before
+stopped_same stop why before after count counted e h = subst (λ s. IsStoppedBy s before count after counted) e h
+
+pub stopped_by : {X : Type 0} (stop : Stop X) (fault : X) (before after : Bool) (count counted : ℕ) → stop ≡ Broken fault → IsStoppedBy stop before count after counted
+    → (after ≡ true) × (before ≡ false → Rose count counted)
+stopped_by stop fault before after count counted e h = subst (λ s. IsStoppedBy s before count after counted) e h

@@ -243,10 +243,6 @@ gave_up kept rest (Claimed claim) out held = ended_front kept rest (Claimed clai
 gave_up kept rest (Expanded expanded) out held = ended_front kept rest (Expanded expanded) (pair_of_claim expanded.claim) out refl held
 
 -- no slot is left
-pub none_left : (slots : List Slot) → length slots ≡ 0 → slots ≡ []
-none_left [] e = refl
-none_left (slot ∷ slots) e = absurd (omega (arith, e))
-
 pub all_kept : (kept out : List Pair) → All (IsKeptOrHeld kept []) out → All (Contains kept) out
 all_kept kept out held i d within = by (held i d within) where
   by : IsKeptOrHeld kept [] (get_or out i d) → Contains kept (get_or out i d)

@@ -34,7 +34,7 @@ returns-in-NoMemory-clause-stopped g c = λ stream rests.
     (λ given reading. c.in-NoMemory.ensures.due (stream ++ c.args.arrival.payload.now) given reading)
 
 pub answer_request-requires-clause-body : goal.answer_request-requires-clause-body
-answer_request-requires-clause-body g c κs =
+answer_request-requires-clause-body g c κs bounds =
     let far = c.due.invariant.far c.requires.reads.0 c.requires.reads.1 in
     c.in-Request.ensures.short (c.requires.reads.0 ++ c.args.arrival.payload.now) (far.done ++ far.more) far.reading
 

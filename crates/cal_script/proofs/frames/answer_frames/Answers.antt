@@ -1,13 +1,13 @@
 use Rattle.std.proofs.Common.{arith, ◌∙◌}
 use Rattle.cal_script.proofs.AnsweredLemmas.{place_rises, answered_start, answered_next, cut_off, broke_off}
-use Rattle.cal_script.proofs.AnsweringLemmas.{rose_since}
+use Rattle.cal_script.proofs.AnsweringLemmas.{rose_since, stopped_short, stopped_broken, stopped_same, stopped_by}
 use Rattle.cal_script.proofs.frames.answer_frames.Goals as goal
 
 pub take_turn-requires-clause-sound : goal.take_turn-requires-clause-sound
-take_turn-requires-clause-sound g c κs = (c.requires.sound.0, c.frames.invariant.sound c.requires.sound.0 c.requires.sound.1)
+take_turn-requires-clause-sound g c κs bounds = (c.requires.sound.0, c.frames.invariant.sound c.requires.sound.0 c.requires.sound.1)
 
 pub take_turn-requires-clause-stands : goal.take_turn-requires-clause-stands
-take_turn-requires-clause-stands g c κs =
+take_turn-requires-clause-stands g c κs bounds =
     let far = c.frames.invariant.answered c.requires.stands.0 c.requires.stands.1 in
     (far.whole.after, far.whole.stands)
 
@@ -31,25 +31,35 @@ frames-preserved g c = record {
 
 pub returns-in-Err-Unwritten-Output-clause-answered : goal.returns-in-Err-Unwritten-Output-clause-answered
 returns-in-Err-Unwritten-Output-clause-answered g c = λ standing stands.
-    cut_off _ c.frames.at c.args.octets.now _ c.in-Whole.rest.now _ standing _ _ _ _ c.behind.ensures (c.frames.invariant.answered standing stands) c.in-Whole.ensures c.in-Err-Unwritten-Output.ensures.stopped
+    cut_off _ c.frames.at c.args.octets.now _ c.in-Whole.rest.now _ standing _ _ _ _ c.behind.ensures (c.frames.invariant.answered standing stands) c.in-Whole.ensures
+    (stopped_short c.in-Err-Unwritten-Output.field-0 _ _ _ c.in-Err-Unwritten-Output.field-0-is c.in-Err-Unwritten-Output.ensures.stopped)
 
 pub returns-in-Err-Unwritten-Output-clause-sound : goal.returns-in-Err-Unwritten-Output-clause-sound
 returns-in-Err-Unwritten-Output-clause-sound g c = λ kept sound. c.in-Err-Unwritten-Output.ensures.sound kept (c.frames.invariant.sound kept sound)
 
+pub returns-in-Err-Unwritten-Output-clause-broken : goal.returns-in-Err-Unwritten-Output-clause-broken
+returns-in-Err-Unwritten-Output-clause-broken g c = stopped_same c.in-Err-Unwritten-Output.field-0 _ _ _ _ _ c.in-Err-Unwritten-Output.field-0-is c.in-Err-Unwritten-Output.ensures.broken ∙ c.frames.invariant.broken
+
 pub returns-in-Err-Unwritten-NoMemory-clause-answered : goal.returns-in-Err-Unwritten-NoMemory-clause-answered
 returns-in-Err-Unwritten-NoMemory-clause-answered g c = λ standing stands.
-    cut_off _ c.frames.at c.args.octets.now _ c.in-Whole.rest.now _ standing _ _ _ _ c.behind.ensures (c.frames.invariant.answered standing stands) c.in-Whole.ensures c.in-Err-Unwritten-NoMemory.ensures.stopped
+    cut_off _ c.frames.at c.args.octets.now _ c.in-Whole.rest.now _ standing _ _ _ _ c.behind.ensures (c.frames.invariant.answered standing stands) c.in-Whole.ensures
+    (stopped_short c.in-Err-Unwritten-NoMemory.field-0 _ _ _ c.in-Err-Unwritten-NoMemory.field-0-is c.in-Err-Unwritten-NoMemory.ensures.stopped)
 
 pub returns-in-Err-Unwritten-NoMemory-clause-sound : goal.returns-in-Err-Unwritten-NoMemory-clause-sound
 returns-in-Err-Unwritten-NoMemory-clause-sound g c = λ kept sound. c.in-Err-Unwritten-NoMemory.ensures.sound kept (c.frames.invariant.sound kept sound)
 
+pub returns-in-Err-Unwritten-NoMemory-clause-broken : goal.returns-in-Err-Unwritten-NoMemory-clause-broken
+returns-in-Err-Unwritten-NoMemory-clause-broken g c = stopped_same c.in-Err-Unwritten-NoMemory.field-0 _ _ _ _ _ c.in-Err-Unwritten-NoMemory.field-0-is c.in-Err-Unwritten-NoMemory.ensures.broken ∙ c.frames.invariant.broken
+
 pub returns-in-Err-Broken-clause-answered : goal.returns-in-Err-Broken-clause-answered
 returns-in-Err-Broken-clause-answered g c = λ standing stands.
-    broke_off _ c.frames.at c.args.octets.now _ c.in-Whole.rest.now _ standing _ _ _ _ c.behind.ensures (c.frames.invariant.answered standing stands) c.in-Whole.ensures c.in-Err-Broken.ensures.stopped
+    broke_off _ c.frames.at c.args.octets.now _ c.in-Whole.rest.now _ standing _ _ _ _ c.behind.ensures (c.frames.invariant.answered standing stands) c.in-Whole.ensures
+    (stopped_broken c.in-Err-Broken.field-0 _ _ _ c.in-Err-Broken.field-0-is c.in-Err-Broken.ensures.stopped)
 
 pub returns-in-Err-Broken-clause-sound : goal.returns-in-Err-Broken-clause-sound
 returns-in-Err-Broken-clause-sound g c = λ kept sound. c.in-Err-Broken.ensures.sound kept (c.frames.invariant.sound kept sound)
 
 pub returns-in-Err-Broken-clause-broken : goal.returns-in-Err-Broken-clause-broken
 returns-in-Err-Broken-clause-broken g c =
-    (c.in-Err-Broken.ensures.broken.0, λ unbroken. rose_since _ _ _ c.frames.invariant.desk_count c.in-Err-Broken.ensures.desk_never_falls (c.in-Err-Broken.ensures.broken.1 (c.frames.invariant.broken ∙ unbroken)))
+    let by = stopped_by c.in-Err-Broken.field-0 _ _ _ _ _ c.in-Err-Broken.field-0-is c.in-Err-Broken.ensures.broken in
+    (by.0, λ unbroken. rose_since _ _ _ c.frames.invariant.desk_count c.in-Err-Broken.ensures.desk_never_falls (by.1 (c.frames.invariant.broken ∙ unbroken)))

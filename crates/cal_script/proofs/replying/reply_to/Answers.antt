@@ -11,15 +11,15 @@ use Rattle.cal_script.proofs.replying.reply_to.Goals as goal
 pub returns-in-Request-clause-answer : goal.returns-in-Request-clause-answer
 returns-in-Request-clause-answer g c =
     let fits : FitsSigned w64 c.seconds.result = search (rules, c.seconds.type_inv) in
-    told_answer c.ask.result c.args.users.now (g.B.Desk.book c.args.desk.now) _ _ _ _ _ _ c.journals_follow.ensures c.requires.book c.in-Request.ensures.asked c.in-Request.ensures.bookable
-    (told_booked c.ask.result c.args.users.now (g.B.Desk.book c.args.desk.now) (g.B.Desk.book c.reserve.new.self) _ _ _ c.args.arrival.moment (to_z w64 (of_z w64 c.seconds.result)) _ (to_z-of_z w64 c.seconds.result fits ∙ c.seconds.ensures.value)
+    told_answer c.ask.result c.args.users.now (g.B.Desk.book c.args.desk.now) (g.B.Desk.book c.ask.new.self) _ _ _ _ _ c.journals_follow.ensures c.requires.book c.in-Request.ensures.asked c.in-Request.ensures.bookable
+    (told_booked c.ask.result c.args.users.now (g.B.Desk.book c.args.desk.now) (g.B.Desk.book c.reserve.new.self) (g.B.Desk.book c.ask.new.self) _ _ c.args.arrival.moment (to_z w64 (of_z w64 c.seconds.result)) _ (to_z-of_z w64 c.seconds.result fits ∙ c.seconds.ensures.value)
     c.requires.book.users_are c.reserve.ensures.users c.reserve.ensures.work c.ask.ensures.users c.ask.ensures.reply c.ask.ensures.work c.ask.ensures.busy)
 
 pub returns-in-Request-clause-known : goal.returns-in-Request-clause-known
 returns-in-Request-clause-known g c =
     let fits : FitsSigned w64 c.seconds.result = search (rules, c.seconds.type_inv) in
-    told_reason c.ask.result c.args.users.now _ _ _ _ _ _ c.replies_have_reasons.ensures c.in-Request.ensures.bookable
-    (told_booked c.ask.result c.args.users.now (g.B.Desk.book c.args.desk.now) (g.B.Desk.book c.reserve.new.self) _ _ _ c.args.arrival.moment (to_z w64 (of_z w64 c.seconds.result)) _ (to_z-of_z w64 c.seconds.result fits ∙ c.seconds.ensures.value)
+    told_reason c.ask.result c.args.users.now _ _ _ _ _ (g.B.Desk.book c.ask.new.self) c.replies_have_reasons.ensures c.in-Request.ensures.bookable
+    (told_booked c.ask.result c.args.users.now (g.B.Desk.book c.args.desk.now) (g.B.Desk.book c.reserve.new.self) (g.B.Desk.book c.ask.new.self) _ _ c.args.arrival.moment (to_z w64 (of_z w64 c.seconds.result)) _ (to_z-of_z w64 c.seconds.result fits ∙ c.seconds.ensures.value)
     c.requires.book.users_are c.reserve.ensures.users c.reserve.ensures.work c.ask.ensures.users c.ask.ensures.reply c.ask.ensures.work c.ask.ensures.busy)
 
 pub returns-in-Request-clause-book : goal.returns-in-Request-clause-book
@@ -31,7 +31,7 @@ pub returns-in-Request-clause-goes_on : goal.returns-in-Request-clause-goes_on
 returns-in-Request-clause-goes_on g c =
     let fits : FitsSigned w64 c.seconds.result = search (rules, c.seconds.type_inv) in
     told_on c.ask.result c.args.users.now (g.B.Desk.book c.args.desk.now) (g.B.Desk.book c.reserve.new.self) (g.B.Desk.book c.ask.new.self) _ _ c.args.arrival.moment _ _ _ _ c.reserve.ensures.work
-    (told_booked c.ask.result c.args.users.now (g.B.Desk.book c.args.desk.now) (g.B.Desk.book c.reserve.new.self) _ _ _ c.args.arrival.moment (to_z w64 (of_z w64 c.seconds.result)) _ (to_z-of_z w64 c.seconds.result fits ∙ c.seconds.ensures.value)
+    (told_booked c.ask.result c.args.users.now (g.B.Desk.book c.args.desk.now) (g.B.Desk.book c.reserve.new.self) (g.B.Desk.book c.ask.new.self) _ _ c.args.arrival.moment (to_z w64 (of_z w64 c.seconds.result)) _ (to_z-of_z w64 c.seconds.result fits ∙ c.seconds.ensures.value)
     c.requires.book.users_are c.reserve.ensures.users c.reserve.ensures.work c.ask.ensures.users c.ask.ensures.reply c.ask.ensures.work c.ask.ensures.busy)
     c.ask.ensures.breaks (λ broken. (c.ask.ensures.stays_broken broken).1)
 

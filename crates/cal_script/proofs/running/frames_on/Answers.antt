@@ -20,17 +20,17 @@ returns-in_default-clause-legal g c =
     let desk = c.args.desk.now in
     let book = g.B.Desk.book desk in
     let passes = sym (g.met.B.Desk.tests book.users book.work.journal) ∙ (ap₂ g.B.Keeps.lawful (sym (g.met.B.Desk.bases desk)) (sym (g.met.B.Desk.journals desk)) ∙ c.entries-entries.ensures.lawful) in
-    (told_book c.args.users.now book c.journals_are_told.ensures c.requires passes).legal
+    (told_book c.args.users.now book c.journals_are_told.ensures c.requires.users passes).legal
 
 pub run_under-end-requires-clause-sound : goal.run_under-end-requires-clause-sound
-run_under-end-requires-clause-sound g c κs =
+run_under-end-requires-clause-sound g c κs bounds =
     let desk = c.args.desk.now in
     let book = g.B.Desk.book desk in
     let passes = sym (g.met.B.Desk.tests book.users book.work.journal) ∙ (ap₂ g.B.Keeps.lawful (sym (g.met.B.Desk.bases desk)) (sym (g.met.B.Desk.journals desk)) ∙ c.entries-entries.ensures.lawful) in
-    (book.work.out, sound_start c.args.users.now (running book c.in-Ok.script) (told_book c.args.users.now book c.journals_are_told.ensures c.requires passes) c.in-Ok.ensures.connections c.in-Ok.ensures.slots)
+    (book.work.out, sound_start c.args.users.now (running book c.in-Ok.script) (told_book c.args.users.now book c.journals_are_told.ensures c.requires.users passes) c.in-Ok.ensures.connections c.in-Ok.ensures.slots)
 
 pub run_under-end-requires-clause-stands : goal.run_under-end-requires-clause-stands
-run_under-end-requires-clause-stands g c κs = stands_start (running (g.B.Desk.book c.args.desk.now) c.in-Ok.script) c.in-Ok.ensures.connections
+run_under-end-requires-clause-stands g c κs bounds = stands_start (running (g.B.Desk.book c.args.desk.now) c.in-Ok.script) c.in-Ok.ensures.connections
 
 pub returns-clause-ended : goal.returns-clause-ended
 returns-clause-ended g c =
@@ -45,7 +45,7 @@ returns-clause-users g c =
     let desk = c.args.desk.now in
     let book = g.B.Desk.book desk in
     let passes = sym (g.met.B.Desk.tests book.users book.work.journal) ∙ (ap₂ g.B.Keeps.lawful (sym (g.met.B.Desk.bases desk)) (sym (g.met.B.Desk.journals desk)) ∙ c.entries-entries.ensures.lawful) in
-    let started = sound_start c.args.users.now (running book c.in-Ok.script) (told_book c.args.users.now book c.journals_are_told.ensures c.requires passes) c.in-Ok.ensures.connections c.in-Ok.ensures.slots in
+    let started = sound_start c.args.users.now (running book c.in-Ok.script) (told_book c.args.users.now book c.journals_are_told.ensures c.requires.users passes) c.in-Ok.ensures.connections c.in-Ok.ensures.slots in
     let sound = c.run_under-end.ensures.sound book.work.out started in
     c.give_up_all.ensures.users ∙ sound.book_of.users_are
 
@@ -54,7 +54,7 @@ returns-clause-legal g c =
     let desk = c.args.desk.now in
     let book = g.B.Desk.book desk in
     let passes = sym (g.met.B.Desk.tests book.users book.work.journal) ∙ (ap₂ g.B.Keeps.lawful (sym (g.met.B.Desk.bases desk)) (sym (g.met.B.Desk.journals desk)) ∙ c.entries-entries.ensures.lawful) in
-    let started = sound_start c.args.users.now (running book c.in-Ok.script) (told_book c.args.users.now book c.journals_are_told.ensures c.requires passes) c.in-Ok.ensures.connections c.in-Ok.ensures.slots in
+    let started = sound_start c.args.users.now (running book c.in-Ok.script) (told_book c.args.users.now book c.journals_are_told.ensures c.requires.users passes) c.in-Ok.ensures.connections c.in-Ok.ensures.slots in
     let sound = c.run_under-end.ensures.sound book.work.out started in
     subst (IsLegal (directory_of c.args.users.now)) (sym c.give_up_all.ensures.journal) sound.book_of.legal
 
@@ -63,6 +63,6 @@ returns-clause-claims g c =
     let desk = c.args.desk.now in
     let book = g.B.Desk.book desk in
     let passes = sym (g.met.B.Desk.tests book.users book.work.journal) ∙ (ap₂ g.B.Keeps.lawful (sym (g.met.B.Desk.bases desk)) (sym (g.met.B.Desk.journals desk)) ∙ c.entries-entries.ensures.lawful) in
-    let started = sound_start c.args.users.now (running book c.in-Ok.script) (told_book c.args.users.now book c.journals_are_told.ensures c.requires passes) c.in-Ok.ensures.connections c.in-Ok.ensures.slots in
+    let started = sound_start c.args.users.now (running book c.in-Ok.script) (told_book c.args.users.now book c.journals_are_told.ensures c.requires.users passes) c.in-Ok.ensures.connections c.in-Ok.ensures.slots in
     let sound = c.run_under-end.ensures.sound book.work.out started in
     c.give_up_all.ensures.out book.work.out sound.held

@@ -22,10 +22,10 @@ reading-init g c = record {
 }
 
 pub answer_frames-requires-clause-sound : goal.answer_frames-requires-clause-sound
-answer_frames-requires-clause-sound g c κs = (c.requires.sound.0, c.reading.invariant.sound c.requires.sound.0 c.requires.sound.1)
+answer_frames-requires-clause-sound g c κs bounds = (c.requires.sound.0, c.reading.invariant.sound c.requires.sound.0 c.requires.sound.1)
 
 pub answer_frames-requires-clause-stands : goal.answer_frames-requires-clause-stands
-answer_frames-requires-clause-stands g c κs = (c.reading.invariant.come.answered.after, c.reading.invariant.come.answered.stands)
+answer_frames-requires-clause-stands g c κs bounds = (c.reading.invariant.come.answered.after, c.reading.invariant.come.answered.stands)
 
 pub returns-in-Ok-eq0-clause-ended : goal.returns-in-Ok-eq0-clause-ended
 returns-in-Ok-eq0-clause-ended g c =

@@ -6,7 +6,7 @@ use Rattle.cal_script.proofs.ScriptLemmas.{some_stream, took_bytes, took_bytes_i
 use Rattle.cal_script.proofs.script.take_bytes.Goals as goal
 
 pub answer_arrival-requires-clause-reads : goal.answer_arrival-requires-clause-reads
-answer_arrival-requires-clause-reads g c κs =
+answer_arrival-requires-clause-reads g c κs bounds =
     subst (λ x. (stream : List ℕ) × Rests stream x) (sym c.index_mut-connection.ensures.value)
     (some_stream (running (g.B.Desk.book c.args.desk.now) c.args.script.now) c.args.arrival.connection c.index_mut-connection.result.now c.requires.stands (omega (arith, c.requires.bounds.connection_to, c.requires.sound.1.connections)))
 

@@ -1,9 +1,9 @@
-use Rattle.std.proofs.Common.{List, [], ◌≤◌, ◌∙◌, All, arith, sym, subst}
+use Rattle.std.proofs.Common.{◌≡◌, ◌-◌, List, [], ◌≤◌, ◌∙◌, All, arith, ap, sym, subst, take}
 use Rattle.std.proofs.lemmas.List.{append-nil}
 use Rattle.cal_model.specs.History.Claims.{Pair}
 use Rattle.cal_script.specs.SlotTurns.{IsKeptOrHeld}
 use Rattle.cal_script.specs.declared.slots.Slot.{Slot}
-use Rattle.cal_script.proofs.ScriptLemmas.{gave_up, all_kept, none_left}
+use Rattle.cal_script.proofs.ScriptLemmas.{gave_up, all_kept}
 use Rattle.cal_script.proofs.slots.give_up_all.Goals as goal
 
 pub giving-preserved : goal.giving-preserved
@@ -21,5 +21,6 @@ giving-preserved g c =
 
 pub returns-clause-out : goal.returns-clause-out
 returns-clause-out g c = λ kept held.
-    all_kept kept (g.B.Desk.book c.giving.desk).work.out
-    (subst (λ (slots : List Slot). All (IsKeptOrHeld kept slots) (g.B.Desk.book c.giving.desk).work.out) (none_left c.giving.slots.items c.in_default.ensures.cases.0) (c.giving.invariant.out kept held))
+    let none : c.pop.new.self.items ≡ [] = c.in_default.ensures.rest ∙ ap (λ n. take (n - 1) c.giving.slots.items) c.in_default.ensures.cases.0 in
+    let empty : c.giving.slots.items ≡ [] = c.in_default.ensures.items ∙ (append-nil c.pop.new.self.items ∙ none) in
+    all_kept kept (g.B.Desk.book c.giving.desk).work.out (subst (λ (slots : List Slot). All (IsKeptOrHeld kept slots) (g.B.Desk.book c.giving.desk).work.out) empty (c.giving.invariant.out kept held))
