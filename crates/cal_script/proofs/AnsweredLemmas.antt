@@ -9,14 +9,13 @@ use Rattle.cal_model.specs.Transcripts.ScriptFrames.{claim, expand, publish, aba
 use Rattle.cal_model.specs.Transcripts.Transcript.{Standing, Turn}
 use Rattle.cal_model.specs.Transcripts.TranscriptLaws.{Leads}
 use Rattle.cal_model.specs.Users.UsersFile.{User}
-use Rattle.cal_script.specs.AnsweredFrames.{TookTurn, TookTurnInPart, AnsweredWhole, AnsweredInPart, AnsweredTo}
+use Rattle.cal_script.specs.AnsweredFrames.{TookTurn, TookTurnInPart, BrokeInTurn, AnsweredWhole, AnsweredInPart, AnsweredTo, BrokeAmong}
 use Rattle.cal_script.specs.FirstFrames.{IsFrameThen}
-use Rattle.cal_script.specs.Standings.{StandsAt}
-use Rattle.cal_script.specs.declared.script.Script.{Script}
+use Rattle.cal_script.specs.Standings.{Running, StandsAt}
 use Rattle.cal_script.proofs.AnsweringLemmas.{adds_none}
 
 -- one list of frames after another
-leads_append : (users : List User) (before between after : Standing) (frames more : List Frame) (output rest : List ℕ)
+pub leads_append : (users : List User) (before between after : Standing) (frames more : List Frame) (output rest : List ℕ)
     → Leads users before frames output between → Leads users between more rest after → Leads users before (frames ++ more) (output ++ rest) after
 leads_append users before between after [] more output rest h r =
     subst (λ xs. Leads users before more (xs ++ rest) after) (sym h.0) (subst (λ s. Leads users s more rest after) h.1 r)
@@ -28,11 +27,11 @@ leads_one : (users : List User) (before after : Standing) (frame : Frame) (print
 leads_one users before after frame printed turn = (printed, [], after, sym (append-nil printed), turn, (refl, refl))
 
 -- the spellings of two lists of frames
-frames_text-append : (frames more : List Frame) → frames_text (frames ++ more) ≡ frames_text frames ++ frames_text more
+pub frames_text-append : (frames more : List Frame) → frames_text (frames ++ more) ≡ frames_text frames ++ frames_text more
 frames_text-append frames more = flat_map-append frame_text frames more
 
 -- first some octets, then more
-pub whole_append : (users : List User) (xs ys : List ℕ) (before : Standing) (script next : Script) (written mid now : Option (List ℕ))
+pub whole_append : (users : List User) (xs ys : List ℕ) (before : Standing) (script next : Running) (written mid now : Option (List ℕ))
     → (a : AnsweredWhole users xs before script written mid) → AnsweredWhole users ys a.after next mid now → AnsweredWhole users (xs ++ ys) before next written now
 whole_append users xs ys before script next written mid now a b = record {
   frames = a.frames ++ b.frames;
@@ -46,7 +45,7 @@ whole_append users xs ys before script next written mid now a b = record {
 }
 
 -- first some octets, then others in part
-pub part_append : (users : List User) (xs ys : List ℕ) (before : Standing) (script : Script) (written mid now : Option (List ℕ))
+pub part_append : (users : List User) (xs ys : List ℕ) (before : Standing) (script : Running) (written mid now : Option (List ℕ))
     → (a : AnsweredWhole users xs before script written mid) → AnsweredInPart users ys a.after mid now → AnsweredInPart users (xs ++ ys) before written now
 part_append users xs ys before script written mid now a b = record {
   frames = a.frames ++ b.frames;
@@ -63,7 +62,7 @@ part_append users xs ys before script written mid now a b = record {
 }
 
 -- nothing was answered yet
-pub whole_none : (users : List User) (before : Standing) (script : Script) (written : Option (List ℕ)) → StandsAt before script → AnsweredWhole users [] before script written written
+pub whole_none : (users : List User) (before : Standing) (script : Running) (written : Option (List ℕ)) → StandsAt before script → AnsweredWhole users [] before script written written
 whole_none users before script written stands = record {
   frames = [];
   bounds = All-nil IsFrame;
@@ -76,7 +75,7 @@ whole_none users before script written stands = record {
 }
 
 -- one frame was answered
-frame_whole : (users : List User) (frame : Frame) (before : Standing) (script : Script) (written now : Option (List ℕ)) → IsFrame frame
+frame_whole : (users : List User) (frame : Frame) (before : Standing) (script : Running) (written now : Option (List ℕ)) → IsFrame frame
     → TookTurn users frame before script written now → AnsweredWhole users (frame_text frame) before script written now
 frame_whole users frame before script written now bounds a = record {
   frames = frame ∷ [];
@@ -129,7 +128,7 @@ length-frame_text (worker abandon slot) = omega arith
 
 -- The loop
 
-pub answered_start : (users : List User) (octets : List ℕ) (before : Standing) (script : Script) (written : Option (List ℕ)) → StandsAt before script → AnsweredTo users 0 octets before script written written
+pub answered_start : (users : List User) (octets : List ℕ) (before : Standing) (script : Running) (written : Option (List ℕ)) → StandsAt before script → AnsweredTo users 0 octets before script written written
 answered_start users octets before script written stands = record { within = omega arith; whole = whole_none users before script written stands }
 
 -- the frame at a place was answered
@@ -150,28 +149,47 @@ place_rises at octets here rest frame is_here within found =
     let place = behind_place at octets here rest frame is_here within found in
     (omega (arith, place.0, length-frame_text frame), omega arith)
 
-pub answered_next : (users : List User) (at : ℕ) (octets here rest : List ℕ) (frame : Frame) (before : Standing) (script next : Script) (written mid now : Option (List ℕ))
+pub answered_next : (users : List User) (at : ℕ) (octets here rest : List ℕ) (frame : Frame) (before : Standing) (script next : Running) (written mid now : Option (List ℕ))
     → here ≡ drop at octets → AnsweredTo users at octets before script written mid → IsFrameThen here frame rest
-    → (own : List User) → own ≡ users → ((standing : Standing) → StandsAt standing script → TookTurn own frame standing next mid now)
+    → ((standing : Standing) → StandsAt standing script → TookTurn users frame standing next mid now)
     → AnsweredTo users (length octets - length rest) octets before next written now
-answered_next users at octets here rest frame before script next written mid now is_here a found own e turn =
+answered_next users at octets here rest frame before script next written mid now is_here a found turn =
     let place = behind_place at octets here rest frame is_here a.within found in
     record {
       within = omega arith;
       whole = subst (λ l. AnsweredWhole users l before next written now) (sym place.1)
           (whole_append users (take at octets) (frame_text frame) before script next written mid now a.whole
-          (frame_whole users frame a.whole.after next mid now found.bounds (subst (λ (u : List User). TookTurn u frame a.whole.after next mid now) e (turn a.whole.after a.whole.stands))));
+          (frame_whole users frame a.whole.after next mid now found.bounds (turn a.whole.after a.whole.stands)));
     }
 
 -- the ways out of the loop
-part_of : (users : List User) (at : ℕ) (octets : List ℕ) (before : Standing) (script : Script) (written mid now : Option (List ℕ))
+part_of : (users : List User) (at : ℕ) (octets : List ℕ) (before : Standing) (script : Running) (written mid now : Option (List ℕ))
     → (a : AnsweredTo users at octets before script written mid) → AnsweredInPart users (drop at octets) a.whole.after mid now → AnsweredInPart users octets before written now
 part_of users at octets before script written mid now a b =
     subst (λ l. AnsweredInPart users l before written now) (take-append-drop at octets) (part_append users (take at octets) (drop at octets) before script written mid now a.whole b)
 
-pub cut_off : (users : List User) (at : ℕ) (octets here rest : List ℕ) (frame : Frame) (before : Standing) (script : Script) (written mid now : Option (List ℕ))
+pub cut_off : (users : List User) (at : ℕ) (octets here rest : List ℕ) (frame : Frame) (before : Standing) (script : Running) (written mid now : Option (List ℕ))
     → here ≡ drop at octets → AnsweredTo users at octets before script written mid → IsFrameThen here frame rest
-    → (own : List User) → own ≡ users → ((standing : Standing) → StandsAt standing script → TookTurnInPart own frame standing mid now) → AnsweredInPart users octets before written now
-cut_off users at octets here rest frame before script written mid now is_here a found own e turn =
+    → ((standing : Standing) → StandsAt standing script → TookTurnInPart users frame standing mid now) → AnsweredInPart users octets before written now
+cut_off users at octets here rest frame before script written mid now is_here a found turn =
     part_of users at octets before script written mid now a
-    (subst (λ l. AnsweredInPart users l a.whole.after mid now) is_here (frame_part users here frame rest a.whole.after mid now found (subst (λ (u : List User). TookTurnInPart u frame a.whole.after mid now) e (turn a.whole.after a.whole.stands))))
+    (subst (λ l. AnsweredInPart users l a.whole.after mid now) is_here (frame_part users here frame rest a.whole.after mid now found (turn a.whole.after a.whole.stands)))
+
+-- the desk told its fault in the turn of the frame at the place
+pub broke_off : (users : List User) (at : ℕ) (octets here rest : List ℕ) (frame : Frame) (before : Standing) (script : Running) (written mid now : Option (List ℕ))
+    → here ≡ drop at octets → AnsweredTo users at octets before script written mid → IsFrameThen here frame rest
+    → ((standing : Standing) → StandsAt standing script → BrokeInTurn users frame standing mid now) → BrokeAmong users octets before written now
+broke_off users at octets here rest frame before script written mid now is_here a found turn = record {
+  frames = a.whole.frames;
+  bounds = a.whole.bounds;
+  frame = frame;
+  is_frame = found.bounds;
+  behind = rest;
+  spelled = sym (take-append-drop at octets) ∙ (ap (λ l. l ++ drop at octets) a.whole.spelled ∙ ap (λ l. frames_text a.whole.frames ++ l) (sym is_here ∙ found.spelled));
+  printed = a.whole.printed;
+  there = a.whole.after;
+  leads = a.whole.leads;
+  middle = mid;
+  added = a.whole.added;
+  last = turn a.whole.after a.whole.stands;
+}

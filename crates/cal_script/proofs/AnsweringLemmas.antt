@@ -1,9 +1,10 @@
 -- How answering what the octets of a frame complete goes on, and how it ends.
-use Rattle.std.proofs.Common.{◌≡◌, ℕ, List, [], ◌∷◌, ◌++◌, take, drop, refl, sym, ap, subst, ◌∙◌, append_assoc, Option, Some, None, inl}
-use Rattle.std.specs.Prelude.{pos, Result, Ok, Err, OnOk, OnErr}
+use Rattle.std.proofs.Common.{◌≡◌, ℕ, ◌≤◌, Bool, true, false, List, [], ◌∷◌, ◌++◌, take, drop, refl, sym, ap, subst, ◌∙◌, append_assoc, arith, Option, Some, None, inl, inr}
+use Rattle.std.specs.Prelude.{pos}
+use Rattle.std.proofs.lemmas.Bool.Decides.{leb_tells}
 use Rattle.std.proofs.lemmas.List.{append-nil, take-append-drop}
-use Rattle.cal_base.specs.World.Outside.{Adds}
-use Rattle.cal_base.specs.declared.no_memory.NoMemory.{NoMemory}
+use Rattle.cal_base.specs.World.Outside.{Rose, Adds}
+use Rattle.cal_book.specs.Cores.{Core}
 use Rattle.cal_base.proofs.World.Taking.{Adds-more}
 use Rattle.cal_model.specs.declared.wire.WireFault.{WireFault}
 use Rattle.cal_model.specs.declared.wire.WireRequest.{WireRequest}
@@ -13,16 +14,18 @@ use Rattle.cal_model.specs.Requests.AskedRequests.{asked_of}
 use Rattle.cal_model.specs.State.ServerState.{ServerState}
 use Rattle.cal_model.specs.Transcripts.ConnectionAnswers.{Completed, whole, faulty, Completes}
 use Rattle.cal_model.specs.Transcripts.ScriptFrames.{reply_frame}
-use Rattle.cal_model.specs.Transcripts.Transcript.{Answer, answer_to, IsAnswer, Prints}
+use Rattle.cal_model.specs.Transcripts.Transcript.{Answer, answer_to, without_memory, IsAnswer, Prints}
 use Rattle.cal_model.specs.Users.UsersFile.{User}
 use Rattle.cal_script.specs.declared.connections.Connection.{Connection}
-use Rattle.cal_script.specs.declared.server.Server.{Server}
-use Rattle.cal_script.specs.Answering.{Grows, GoesOn, answer_frame, IsAnswered, WroteAnswer, WroteAnswerInPart, WroteAll, WroteInPart}
+use Rattle.cal_script.specs.Answering.{Grows, GoesOn, answer_frame, IsAnswered, WroteAnswer, WroteAnswerInPart, WroteAll, WroteInPart, WroteBefore, StopsBy, IsStoppedBy}
+use Rattle.cal_script.specs.declared.answering.Stop.{Stop}
+use Rattle.cal_script.specs.declared.answering.Stop.TheVariants.{Unwritten as Stopped, Broken}
+use Rattle.cal_script.specs.declared.answering.Unwritten.{Unwritten}
 use Rattle.cal_script.specs.Readings.{IsReading, Rests}
 use Rattle.cal_model.proofs.Transcripts.ConnectionAnswerLaws.{streams_complete, completions_stay}
 use Rattle.cal_script.proofs.ReadingLemmas.{more_to_come}
 
--- Journals and servers that go on
+-- Journals and books that go on
 
 pub grows_none : (journal : List Entry) → Grows journal journal
 grows_none journal = ([], sym (append-nil journal))
@@ -30,11 +33,11 @@ grows_none journal = ([], sym (append-nil journal))
 pub grows_on : (a b c : List Entry) → Grows a b → Grows b c → Grows a c
 grows_on a b c (more, e) (rest, f) = (more ++ rest, f ∙ (ap (λ xs. xs ++ rest) e ∙ append_assoc a more rest))
 
-pub goes_on_none : (server : Server) → GoesOn server server
-goes_on_none server = record { users = refl; out = refl; grows = grows_none server.book.work.journal }
+pub goes_on_none : (book : Core) → GoesOn book book
+goes_on_none book = record { out = refl; grows = grows_none book.work.journal }
 
-pub goes_on : (a b c : Server) → GoesOn a b → GoesOn b c → GoesOn a c
-goes_on a b c h k = record { users = k.users ∙ h.users; out = k.out ∙ h.out; grows = grows_on _ _ _ h.grows k.grows }
+pub goes_on : (a b c : Core) → GoesOn a b → GoesOn b c → GoesOn a c
+goes_on a b c h k = record { out = k.out ∙ h.out; grows = grows_on _ _ _ h.grows k.grows }
 
 -- Output
 
@@ -126,10 +129,9 @@ goes_further users number moment stream payload connection next state now later 
 pub request_answered : (users : List User) (number moment place : ℕ) (wire : WireRequest) (stream payload : List ℕ) (connection next : Connection) (state now later : ServerState) (written written_now written_later : Option (List ℕ))
     → HasAnsweredSoFar users number moment stream payload connection state now written written_now
     → ((given : List Completed) → IsReading (stream ++ payload) given connection → IsReading (stream ++ payload) (given ++ whole place wire ∷ []) next)
-    → (own : List User) → own ≡ users → WroteAnswer own number moment place wire now later written_now written_later
+    → WroteAnswer users number moment place wire now later written_now written_later
     → HasAnsweredSoFar users number moment stream payload next state later written written_later
-request_answered users number moment place wire stream payload connection next state now later written written_now written_later far due own e told =
-    let wrote : WroteAnswer users number moment place wire now later written_now written_later = subst (λ (u : List User). WroteAnswer u number moment place wire now later written_now written_later) e told in
+request_answered users number moment place wire stream payload connection next state now later written written_now written_later far due wrote =
     subst (λ s. HasAnsweredSoFar users number moment stream payload next state s written written_later) (sym wrote.stands)
     (goes_further users number moment stream payload connection next state now wrote.given.server written written_now written_later (whole place wire) (answer_frame number moment place wire wrote.given)
     far due (prints_answer users number moment place wire now wrote.given wrote.is) wrote.added)
@@ -194,10 +196,9 @@ cut_short users number moment stream payload connection next state now later wri
 pub request_cut_short : (users : List User) (number moment place : ℕ) (wire : WireRequest) (stream payload : List ℕ) (connection next : Connection) (state now : ServerState) (written written_now written_later : Option (List ℕ))
     → HasAnsweredSoFar users number moment stream payload connection state now written written_now
     → ((given : List Completed) → IsReading (stream ++ payload) given connection → IsReading (stream ++ payload) (given ++ whole place wire ∷ []) next)
-    → (own : List User) → own ≡ users → WroteAnswerInPart own number moment place wire now written_now written_later
+    → WroteAnswerInPart users number moment place wire now written_now written_later
     → WroteInPart users number moment stream payload state written written_later
-request_cut_short users number moment place wire stream payload connection next state now written written_now written_later far due own e told =
-    let wrote : WroteAnswerInPart users number moment place wire now written_now written_later = subst (λ (u : List User). WroteAnswerInPart u number moment place wire now written_now written_later) e told in
+request_cut_short users number moment place wire stream payload connection next state now written written_now written_later far due wrote =
     cut_short users number moment stream payload connection next state now wrote.given.server written written_now written_later (whole place wire ∷ []) (answer_frame number moment place wire wrote.given) wrote.many
     far due (prints_answer users number moment place wire now wrote.given wrote.is) wrote.added
 
@@ -209,6 +210,32 @@ pub fault_cut_short : (users : List User) (number moment many : ℕ) (why : Wire
 fault_cut_short users number moment many why stream payload connection next state now written written_now written_later far due added =
     cut_short users number moment stream payload connection next state now now written written_now written_later (faulty why ∷ []) (reply_frame number (fault_octets why (pos moment))) many
     far due (prints_fault users number moment why now) added
+
+-- the desk told its fault when it was asked what is due next
+pub request_broke : (users : List User) (number moment place : ℕ) (wire : WireRequest) (stream payload : List ℕ) (connection next : Connection) (state now : ServerState) (written written_now written_later : Option (List ℕ))
+    → HasAnsweredSoFar users number moment stream payload connection state now written written_now
+    → ((given : List Completed) → IsReading (stream ++ payload) given connection → IsReading (stream ++ payload) (given ++ whole place wire ∷ []) next)
+    → written_later ≡ written_now → WroteBefore users number moment stream payload state written written_later
+request_broke users number moment place wire stream payload connection next state now written written_now written_later far due same =
+    let one : List Completed = whole place wire ∷ [] in
+    let reading : IsReading (stream ++ payload) (far.done ++ (far.more ++ one)) next =
+    subst (λ given. IsReading (stream ++ payload) given next) (append_assoc far.done far.more one) (due (far.done ++ far.more) far.reading) in
+    let rest = more_to_come (stream ++ payload) (far.done ++ (far.more ++ one)) next reading in
+    record {
+      printed = far.printed;
+      prints = record {
+        done = far.done;
+        more = far.more;
+        place = place;
+        wire = wire;
+        behind = rest.0;
+        before_them = far.before_them;
+        with_them = subst (Completes (stream ++ payload)) (append_assoc far.done (far.more ++ one) rest.0 ∙ ap (λ xs. far.done ++ xs) (append_assoc far.more one rest.0)) rest.1;
+        server = now;
+        prints = far.prints;
+      };
+      added = subst (λ w. Adds written far.printed w) (sym same) far.added;
+    }
 
 -- nothing more was read
 pub stopped_there : (users : List User) (number moment : ℕ) (stream payload : List ℕ) (connection next : Connection) (state now : ServerState) (written written_now : Option (List ℕ))
@@ -242,25 +269,52 @@ stopped_before users number moment stream payload connection state written rests
 
 -- The reply to one request
 
-pub on_ok : {T E : Type 0} (r : Result T E) (P Q : Type 0) → (P → Q) → OnOk r P → OnOk r Q
-on_ok (Ok x) P Q f h = f h
-on_ok (Err e) P Q f h = tt
-
-pub on_err : {T E : Type 0} (r : Result T E) (Q : Type 0) → Q → OnErr r Q
-on_err (Ok x) Q h = tt
-on_err (Err e) Q h = h
-
 pub wrote_answer : (users : List User) (number moment before : ℕ) (wire : WireRequest) (state after : ServerState) (octets slice : List ℕ) (written now : Option (List ℕ))
-    → slice ≡ octets → IsAnswered users number moment before wire state after (Ok octets) → Adds written (reply_frame number slice) now → WroteAnswer users number moment before wire state after written now
+    → slice ≡ octets → IsAnswered users number moment before wire state after octets → Adds written (reply_frame number slice) now → WroteAnswer users number moment before wire state after written now
 wrote_answer users number moment before wire state after octets slice written now e a added =
     record { given = a.given; is = a.is; stands = a.stands; added = subst (λ xs. Adds written (reply_frame number xs) now) (e ∙ a.octets_are) added }
 
 pub wrote_answer_in_part : (users : List User) (number moment before : ℕ) (wire : WireRequest) (state after : ServerState) (octets slice : List ℕ) (written now : Option (List ℕ))
-    → slice ≡ octets → IsAnswered users number moment before wire state after (Ok octets) → (many : ℕ) × Adds written (take many (reply_frame number slice)) now
+    → slice ≡ octets → IsAnswered users number moment before wire state after octets → (many : ℕ) × Adds written (take many (reply_frame number slice)) now
     → WroteAnswerInPart users number moment before wire state written now
 wrote_answer_in_part users number moment before wire state after octets slice written now e a (many, added) =
     record { given = a.given; is = a.is; many = many; added = subst (λ xs. Adds written (take many (reply_frame number xs)) now) (e ∙ a.octets_are) added }
 
-pub wrote_no_answer : (users : List User) (number moment before : ℕ) (wire : WireRequest) (state after : ServerState) (octets : Result (List ℕ) NoMemory) (written : Option (List ℕ))
-    → IsAnswered users number moment before wire state after octets → WroteAnswerInPart users number moment before wire state written written
-wrote_no_answer users number moment before wire state after octets written a = record { given = a.given; is = a.is; many = 0; added = adds_none written }
+pub wrote_no_answer : (users : List User) (number moment before : ℕ) (wire : WireRequest) (state : ServerState) (written : Option (List ℕ))
+    → WroteAnswerInPart users number moment before wire state written written
+wrote_no_answer users number moment before wire state written = record { given = without_memory state; is = inr refl; many = 0; added = adds_none written }
+
+-- Stops
+
+-- a count that rose later rose since before
+pub rose_since : (first second third : ℕ) → first ≤ second → second ≤ third → Rose second third → Rose first third
+rose_since first second third h g (inl less) = inl (omega (arith, h, less))
+rose_since first second third h g (inr full) = elim (leb_tells second first) [
+  | inl same ↦ inr (omega (arith, h, same.1, full))
+  | inr less ↦ inl (omega (arith, less.1, g))
+]
+
+-- a stop is handed on
+pub stops_on : {X : Type 0} (stop : Stop X) (short broken short_of broken_of : Type 0) → (short → short_of) → (broken → broken_of) → StopsBy stop short broken → StopsBy stop short_of broken_of
+stops_on (Stopped why) short broken short_of broken_of f g h = f h
+stops_on (Broken fault) short broken short_of broken_of f g h = g h
+
+-- the desk is left as the last of several turns leaves it
+pub broken_on : {X : Type 0} (stop : Stop X) (before now after : Bool) (count counted counted_now : ℕ) → now ≡ before → count ≤ counted → counted ≤ counted_now
+    → IsStoppedBy stop now counted after counted_now → IsStoppedBy stop before count after counted_now
+broken_on (Stopped why) before now after count counted counted_now e h g k = k ∙ e
+broken_on (Broken fault) before now after count counted counted_now e h g k = (k.0, λ unbroken. rose_since count counted counted_now h g (k.1 (e ∙ unbroken)))
+
+-- what a stop was decides what holds
+pub stopped_short : {X : Type 0} (stop : Stop X) (why : Unwritten) (short broken : Type 0) → stop ≡ Stopped why → StopsBy stop short broken → short
+stopped_short stop why short broken e h = subst (λ s. StopsBy s short broken) e h
+
+pub stopped_broken : {X : Type 0} (stop : Stop X) (fault : X) (short broken : Type 0) → stop ≡ Broken fault → StopsBy stop short broken → broken
+stopped_broken stop fault short broken e h = subst (λ s. StopsBy s short broken) e h
+
+pub stopped_same : {X : Type 0} (stop : Stop X) (why : Unwritten) (before after : Bool) (count counted : ℕ) → stop ≡ Stopped why → IsStoppedBy stop before count after counted → after ≡ before
+stopped_same stop why before after count counted e h = subst (λ s. IsStoppedBy s before count after counted) e h
+
+pub stopped_by : {X : Type 0} (stop : Stop X) (fault : X) (before after : Bool) (count counted : ℕ) → stop ≡ Broken fault → IsStoppedBy stop before count after counted
+    → (after ≡ true) × (before ≡ false → Rose count counted)
+stopped_by stop fault before after count counted e h = subst (λ s. IsStoppedBy s before count after counted) e h

@@ -3,9 +3,10 @@ pub mod HeadLemmas
 pub mod FrameLemmas
 pub mod ConnectionLemmas
 pub mod ReadingLemmas
+pub mod ReadersLaws
+pub mod AnsweringLemmas
 pub mod ReplyingLemmas
 pub mod SlotLemmas
-pub mod AnsweringLemmas
 pub mod OutputLemmas
 pub mod AnsweredLemmas
 pub mod RunLemmas

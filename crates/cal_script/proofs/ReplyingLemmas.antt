@@ -1,9 +1,12 @@
 -- What the book's reply to a request answers, and what is left of it.
-use Rattle.std.proofs.Common.{◌≡◌, ◌≢◌, ℕ, ◌<◌, List, [], length, sym, ap, ap₂, subst, ◌∙◌, inl, inr}
+use Rattle.std.proofs.Common.{◌≡◌, ◌≢◌, ℕ, ◌<◌, ◌≤◌, Bool, true, false, List, [], length, refl, sym, ap, ap₂, subst, ◌∙◌, inl, inr}
 use Rattle.std.specs.Prelude.{ℤ, pos}
+use Rattle.std.proofs.lemmas.Bool.{false≢true}
 use Rattle.std.proofs.lemmas.Bool.Decides.{eqb_tells}
+use Rattle.cal_base.specs.World.Outside.{Rose}
 use Rattle.std.proofs.lemmas.List.{append-nil}
-use Rattle.cal_model.specs.declared.reply.Reply.{Reply}
+use Rattle.cal_model.specs.declared.reply.Reply.{Reply as ReplyData}
+use Rattle.cal_model.specs.declared.request.Event.{Event}
 use Rattle.cal_model.specs.declared.request.Request.{Request}
 use Rattle.cal_model.specs.declared.wire.WireRequest.{WireRequest}
 use Rattle.cal_model.specs.History.Claims.{Work}
@@ -19,10 +22,14 @@ use Rattle.cal_model.specs.Users.UsersFile.{User}
 use Rattle.cal_book.specs.Cores.{Core, state_in}
 use Rattle.cal_book.specs.EventSteps.{entries_made, work_after, JournalsFollow}
 use Rattle.cal_book.specs.ReplyReasons.{RepliesHaveReasons}
-use Rattle.cal_script.specs.Answering.{Grows}
+use Rattle.cal_book.specs.Desks.{IfReply, WhereBroken, TellsBroken, IsLeftBroken}
+use Rattle.cal_book.specs.declared.desk.Told.{Told}
+use Rattle.cal_book.specs.declared.desk.Told.TheVariants.{Reply, Broken}
+use Rattle.cal_script.specs.Answering.{Grows, GoesOn, IsBookOf, IsToldBy}
+use Rattle.cal_script.proofs.AnsweringLemmas.{rose_since}
 
 -- what the book says of a reply, and of itself after it
-pub record IsBooked (users : List User) (work : Work) (connection who moment : ℕ) (request : Request) (reply : Reply) (new : Core) : Type 0 where
+pub record IsBooked (users : List User) (work : Work) (connection who moment : ℕ) (request : Request) (reply : ReplyData) (new : Core) : Type 0 where
   pub users_is : new.users ≡ users
   pub replied : reply.status ≢ 503 → reply ≡ reply_to (directory_of users) (replay (directory_of users) work.journal) (event_of connection who moment request)
   pub worked : reply.status ≢ 503 → new.work ≡ work_after users (event_of connection who moment request) work
@@ -37,27 +44,19 @@ in_state : (users : List User) (state other : ServerState) (connection moment : 
     → IsAnswer users other connection moment wire given → IsAnswer users state connection moment wire given
 in_state users state other connection moment wire given e h = subst (λ s. IsAnswer users s connection moment wire given) (sym e) h
 
-booked_answer : (users : List User) (work : Work) (connection who moment : ℕ) (wire : WireRequest) (request : Request) (reply : Reply) (new : Core)
+pub booked_answer : (users : List User) (work : Work) (connection who moment : ℕ) (wire : WireRequest) (request : Request) (reply : ReplyData) (new : Core)
     → JournalsFollow → IsLegal (directory_of users) work.journal → asked_of users wire ≡ asked who request → IsBookable users who request → IsBooked users work connection who moment request reply new
     → IsAnswer users (replay (directory_of users) work.journal) connection moment wire (record { reply = reply; server = state_in new })
 booked_answer users work connection who moment wire request reply new follow legal asks bookable h = elim (eqb_tells reply.status 503) [
-  | inl same ↦ inr (ap₂ (λ (r : Reply) (s : ServerState). record { reply = r; server = s }) (h.busy same.1)
+  | inl same ↦ inr (ap₂ (λ (r : ReplyData) (s : ServerState). record { reply = r; server = s }) (h.busy same.1)
       (state_with new users h.users_is ∙ ap (λ (w : Work). replay (directory_of users) w.journal) (h.kept same.1)))
-  | inr other ↦ inl (ap₂ (λ (r : Reply) (s : ServerState). record { reply = r; server = s }) (h.replied other.1)
+  | inr other ↦ inl (ap₂ (λ (r : ReplyData) (s : ServerState). record { reply = r; server = s }) (h.replied other.1)
       (state_with new users h.users_is ∙ (ap (λ (w : Work). replay (directory_of users) w.journal) (h.worked other.1)
       ∙ (follow users work.journal (event_of connection who moment request) legal bookable.size).1))
       ∙ sym (ap (answer_to users (replay (directory_of users) work.journal) connection moment) asks))
 ]
 
-pub answered_by_book : (users : List User) (old : Core) (connection who moment : ℕ) (wire : WireRequest) (request : Request) (reply : Reply) (new : Core)
-    → JournalsFollow → old.users ≡ users → IsLegal (directory_of users) old.work.journal → asked_of users wire ≡ asked who request → IsBookable users who request
-    → IsBooked users old.work connection who moment request reply new
-    → IsAnswer users (state_in old) connection moment wire (record { reply = reply; server = state_in new })
-answered_by_book users old connection who moment wire request reply new follow e legal asks bookable h =
-    in_state users (state_in old) (replay (directory_of users) old.work.journal) connection moment wire _ (state_with old users e)
-    (booked_answer users old.work connection who moment wire request reply new follow legal asks bookable h)
-
-pub booked_goes_on : (users : List User) (work : Work) (connection who moment : ℕ) (request : Request) (reply : Reply) (new : Core)
+pub booked_goes_on : (users : List User) (work : Work) (connection who moment : ℕ) (request : Request) (reply : ReplyData) (new : Core)
     → IsBooked users work connection who moment request reply new → (new.work.out ≡ work.out) × Grows work.journal new.work.journal
 booked_goes_on users work connection who moment request reply new h = elim (eqb_tells reply.status 503) [
   | inl same ↦ (ap (λ (w : Work). w.out) (h.kept same.1), ([], ap (λ (w : Work). w.journal) (h.kept same.1) ∙ sym (append-nil work.journal)))
@@ -67,16 +66,16 @@ booked_goes_on users work connection who moment request reply new h = elim (eqb_
   )
 ]
 
-pub booked_reason : (users : List User) (work : Work) (connection who moment : ℕ) (request : Request) (reply : Reply) (new : Core)
+pub booked_reason : (users : List User) (work : Work) (connection who moment : ℕ) (request : Request) (reply : ReplyData) (new : Core)
     → RepliesHaveReasons → IsBookable users who request → IsBooked users work connection who moment request reply new → 0 < length (reason reply.status)
 booked_reason users work connection who moment request reply new reasons bookable h = elim (eqb_tells reply.status 503) [
-  | inl same ↦ subst (λ (r : Reply). 0 < length (reason r.status)) (sym (h.busy same.1)) reasons.busy
-  | inr other ↦ subst (λ (r : Reply). 0 < length (reason r.status)) (sym (h.replied other.1))
+  | inl same ↦ subst (λ (r : ReplyData). 0 < length (reason r.status)) (sym (h.busy same.1)) reasons.busy
+  | inr other ↦ subst (λ (r : ReplyData). 0 < length (reason r.status)) (sym (h.replied other.1))
       (reasons.answered users (directory_of users) (replay (directory_of users) work.journal) (event_of connection who moment request) bookable)
 ]
 
 -- a book whose room alone has changed since
-pub booked_since : (users : List User) (old mid : Core) (connection who moment : ℕ) (request : Request) (reply : Reply) (new : Core)
+pub booked_since : (users : List User) (old mid : Core) (connection who moment : ℕ) (request : Request) (reply : ReplyData) (new : Core)
     → old.users ≡ users → mid.users ≡ old.users → mid.work ≡ old.work → IsBooked mid.users mid.work connection who moment request reply new
     → IsBooked users old.work connection who moment request reply new
 booked_since users old mid connection who moment request reply new e f g h =
@@ -84,7 +83,7 @@ booked_since users old mid connection who moment request reply new e f g h =
     (subst (λ (work : Work). IsBooked mid.users work connection who moment request reply new) g h)
 
 -- what the clauses of a request say, with the moment as the event has it
-pub in_time : (mid : Core) (connection who moment : ℕ) (time : ℤ) (request : Request) (reply : Reply) (new : Core) → time ≡ pos moment
+pub in_time : (mid : Core) (connection who moment : ℕ) (time : ℤ) (request : Request) (reply : ReplyData) (new : Core) → time ≡ pos moment
     → new.users ≡ mid.users
     → (reply.status ≢ 503 → reply ≡ reply_to (directory_of mid.users) (state_in mid) (record { session = connection; who = who; moment = time; request = request }))
     → (reply.status ≢ 503 → new.work ≡ work_after mid.users (record { session = connection; who = who; moment = time; request = request }) mid.work)
@@ -97,3 +96,58 @@ in_time mid connection who moment time request reply new e users replied worked 
   busy = λ none. (busy none).0;
   kept = λ none. (busy none).1;
 }
+
+-- What the desk told
+
+-- of a book whose room alone has changed since, and with the moment as the event has it
+pub told_booked : {X : Type 0} (told : Told X) (users : List User) (old mid new : Core) (connection who moment : ℕ) (time : ℤ) (request : Request) → time ≡ pos moment
+    → old.users ≡ users → mid.users ≡ old.users → mid.work ≡ old.work → new.users ≡ mid.users
+    → IfReply told (λ reply. reply.status ≢ 503 → reply ≡ reply_to (directory_of mid.users) (state_in mid) (record { session = connection; who = who; moment = time; request = request }))
+    → IfReply told (λ reply. reply.status ≢ 503 → new.work ≡ work_after mid.users (record { session = connection; who = who; moment = time; request = request }) mid.work)
+    → IfReply told (λ reply. reply.status ≡ 503 → (reply ≡ bare_reply 503) × (new.work ≡ mid.work))
+    → IfReply told (λ reply. IsBooked users old.work connection who moment request reply new)
+told_booked (Reply reply) users old mid new connection who moment time request e first users_are work_is same replied worked busy =
+    booked_since users old mid connection who moment request reply new first users_are work_is (in_time mid connection who moment time request reply new e same replied worked busy)
+told_booked (Broken fault) users old mid new connection who moment time request e first users_are work_is same replied worked busy = tt
+
+pub told_answer : {X : Type 0} (told : Told X) (users : List User) (old new : Core) (connection who moment : ℕ) (wire : WireRequest) (request : Request) → JournalsFollow → IsBookOf users old
+    → asked_of users wire ≡ asked who request → IsBookable users who request → IfReply told (λ reply. IsBooked users old.work connection who moment request reply new)
+    → IfReply told (λ reply. IsAnswer users (state_in old) connection moment wire (record { reply = reply; server = state_in new }))
+told_answer (Reply reply) users old new connection who moment wire request follow book asks bookable h =
+    in_state users (state_in old) (replay (directory_of users) old.work.journal) connection moment wire _ (state_with old users book.users_are)
+    (booked_answer users old.work connection who moment wire request reply new follow book.legal asks bookable h)
+told_answer (Broken fault) users old new connection who moment wire request follow book asks bookable h = tt
+
+pub told_reason : {X : Type 0} (told : Told X) (users : List User) (work : Work) (connection who moment : ℕ) (request : Request) (new : Core) → RepliesHaveReasons → IsBookable users who request
+    → IfReply told (λ reply. IsBooked users work connection who moment request reply new) → IfReply told (λ reply. 0 < length (reason reply.status))
+told_reason (Reply reply) users work connection who moment request new reasons bookable h = booked_reason users work connection who moment request reply new reasons bookable h
+told_reason (Broken fault) users work connection who moment request new reasons bookable h = tt
+
+-- The book goes on
+
+-- as an accepted change leaves it, or as it was
+left_on : (old new : Core) (event : Event) → IsLeftBroken old event new → GoesOn old new
+left_on old new event (inl same) = record { out = ap (λ (w : Work). w.out) same; grows = ([], ap (λ (w : Work). w.journal) same ∙ sym (append-nil old.work.journal)) }
+left_on old new event (inr made) = record { out = ap (λ (w : Work). w.out) made.0; grows = (entries_made old.users (state_in old) event, ap (λ (w : Work). w.journal) made.0) }
+
+on_from : (old mid new : Core) → mid.work ≡ old.work → GoesOn mid new → GoesOn old new
+on_from old mid new e h =
+    record { out = h.out ∙ ap (λ (w : Work). w.out) e; grows = subst (λ (w : Work). Grows w.journal new.work.journal) e h.grows }
+
+pub told_on : {X : Type 0} (told : Told X) (users : List User) (old mid new : Core) (connection who moment : ℕ) (event : Event) (request : Request) (rose : Type 0) (broken : Bool)
+    → mid.work ≡ old.work → IfReply told (λ reply. IsBooked users old.work connection who moment request reply new)
+    → WhereBroken told (broken ≡ false → rose × IsLeftBroken mid event new) → (broken ≡ true → new ≡ mid) → GoesOn old new
+told_on (Reply reply) users old mid new connection who moment event request rose broken e booked breaks stays =
+    let on = booked_goes_on users old.work connection who moment request reply new booked in
+    record { out = on.0; grows = on.1 }
+told_on (Broken fault) users old mid new connection who moment event request rose true e booked breaks stays =
+    on_from old mid new e (left_on mid new event (inl (ap (λ (core : Core). core.work) (stays refl))))
+told_on (Broken fault) users old mid new connection who moment event request rose false e booked breaks stays = on_from old mid new e (left_on mid new event (breaks refl).1)
+
+-- whether the desk is broken is what it told
+pub told_by : {X : Type 0} (told : Told X) (left : Type 0) (before mid after : Bool) (count counted counted_now : ℕ) → mid ≡ before → count ≤ counted → counted ≤ counted_now
+    → TellsBroken told after → WhereBroken told (mid ≡ false → Rose counted counted_now × left) → (mid ≡ true → after ≡ true) → IsToldBy told before count after counted_now
+told_by (Reply reply) left before true after count counted counted_now e h k tells breaks stays = absurd (false≢true (sym tells ∙ stays refl))
+told_by (Reply reply) left before false after count counted counted_now e h k tells breaks stays = tells ∙ e
+told_by (Broken fault) left before mid after count counted counted_now e h k tells breaks stays =
+    (tells, λ unbroken. rose_since count counted counted_now h k (breaks (e ∙ unbroken)).0)

@@ -3,31 +3,38 @@ use Rattle.std.proofs.Common.{◌≡◌, ◌≢◌, ℕ, ◌+◌, ◌-◌, ◌^�
 use Rattle.std.proofs.lemmas.Bool.{eqb-true, eqb-false}
 use Rattle.std.proofs.lemmas.Bool.Decides.{eqb_tells}
 use Rattle.std.proofs.lemmas.List.{append-nil, take-append-drop}
-use Rattle.std.proofs.lemmas.List.Elements.{All-nil}
+use Rattle.std.proofs.lemmas.List.Elements.{All-nil, All-append}
 use Rattle.std.proofs.lemmas.Option.{same_Some}
-use Rattle.cal_base.specs.World.Outside.{Takes, Goes}
-use Rattle.cal_base.proofs.World.Taking.{Takes-more}
-use Rattle.cal_model.specs.Transcripts.ScriptFrames.{bytes, frame_text, frames_text, IsFrame}
-use Rattle.cal_model.specs.Transcripts.Transcript.{Standing, IsPrinted, at_start}
+use Rattle.std.specs.Prelude.{pos}
+use Rattle.cal_base.specs.World.Outside.{Rose, Takes, Goes}
+use Rattle.cal_base.proofs.World.Taking.{Takes-more, Adds-more}
+use Rattle.cal_model.specs.Transcripts.ScriptFrames.{bytes, Frame, frame_text, frames_text, IsFrame}
+use Rattle.cal_model.specs.History.Claims.{Work}
+use Rattle.cal_model.specs.History.Journal.{replay, IsLegal}
+use Rattle.cal_model.specs.State.ServerState.{ServerState, directory_of, opening_state}
+use Rattle.cal_model.specs.Transcripts.Transcript.{Standing, IsPrinted, IsPrintedInPart, at_start}
 use Rattle.cal_model.proofs.Transcripts.GrowingScripts.{scripts_go_on}
 use Rattle.cal_model.specs.Users.UsersFile.{User}
-use Rattle.cal_script.specs.AnsweredFrames.{AnsweredWhole, AnsweredInPart, AnsweredTo, HasAnswered}
-use Rattle.cal_script.specs.declared.frames.Answering.TheVariants.{Cut, Bad}
+use Rattle.cal_book.specs.Cores.{Core, state_in}
+use Rattle.cal_book.specs.LegalJournals.{is_legal, LegalIsTold}
+use Rattle.cal_script.specs.Answering.{IsBookOf}
+use Rattle.cal_script.specs.AnsweredFrames.{AnsweredWhole, AnsweredInPart, AnsweredTo, BrokeAmong}
 use Rattle.cal_script.specs.declared.running.FrameEnd.{FrameEnd}
-use Rattle.cal_script.specs.declared.running.FrameEnd.TheVariants.{Done, Frame as BadFrame}
-use Rattle.cal_script.specs.declared.script.Script.{Script}
+use Rattle.cal_script.specs.declared.running.FrameEnd.TheVariants.{Done, Frame as BadFrame, Input, Output, NoMemory}
+use Rattle.cal_script.specs.declared.running.FramesOn.{FramesOn}
+use Rattle.cal_script.specs.declared.running.FramesOn.TheVariants.{End, Broken}
 use Rattle.cal_script.specs.FrameHeads.{IsFrameStart}
 use Rattle.cal_script.specs.FirstFrames.{BeginsNoFrame, NeverBeginsFrame}
-use Rattle.cal_script.specs.ScriptEnds.{HasEnded, RanToEnd, MetBadFrame, StoppedReading, WroteFront}
-use Rattle.cal_script.specs.Standings.{StandsAt}
+use Rattle.cal_script.specs.ScriptEnds.{IsPrintedFrom, IsPrintedInPartFrom, HasEnded, RanToEnd, MetBadFrame, StoppedReading, WroteFront, BrokeOff, HasEndedOn, IsLeft}
+use Rattle.cal_script.specs.Standings.{Running, StandsAt, standing_in}
 use Rattle.cal_script.proofs.FrameLemmas.{no_frame_yet}
 use Rattle.cal_script.proofs.AnsweringLemmas.{adds_none}
-use Rattle.cal_script.proofs.AnsweredLemmas.{whole_none, whole_append, part_append, part_none, length-frame_text}
+use Rattle.cal_script.proofs.AnsweredLemmas.{whole_none, whole_append, part_append, part_none, length-frame_text, leads_append, frames_text-append}
 
 -- how far a run has come: the octets that are answered, and those that were taken and are kept
-pub record HasCome (users : List User) (left written : Option (List ℕ)) (place : ℕ) (kept : List ℕ) (script : Script) (left_now written_now : Option (List ℕ)) : Type 0 where
+pub record HasCome (users : List User) (before : Standing) (left written : Option (List ℕ)) (place : ℕ) (kept : List ℕ) (script : Running) (left_now written_now : Option (List ℕ)) : Type 0 where
   pub done : List ℕ
-  pub answered : AnsweredWhole users done (at_start users) script written written_now
+  pub answered : AnsweredWhole users done before script written written_now
   pub took : Takes left (done ++ kept) left_now
   pub place_is : place ≡ length done
 
@@ -44,15 +51,15 @@ takes_none None = tt
 takes_none (Some xs) = (xs, refl, refl)
 
 -- the start of a run
-pub come_start : (users : List User) (left written : Option (List ℕ)) (kept : List ℕ) (script : Script) → kept ≡ [] → StandsAt (at_start users) script → HasCome users left written 0 kept script left written
-come_start users left written kept script e stands =
-    subst (λ l. HasCome users left written 0 l script left written) (sym e)
-    (record { done = []; answered = whole_none users (at_start users) script written stands; took = takes_none left; place_is = refl })
+pub come_start : (users : List User) (before : Standing) (left written : Option (List ℕ)) (kept : List ℕ) (script : Running) → kept ≡ [] → StandsAt before script → HasCome users before left written 0 kept script left written
+come_start users before left written kept script e stands =
+    subst (λ l. HasCome users before left written 0 l script left written) (sym e)
+    (record { done = []; answered = whole_none users before script written stands; took = takes_none left; place_is = refl })
 
 -- a piece was taken
-pub come_more : (users : List User) (left written : Option (List ℕ)) (place : ℕ) (kept more : List ℕ) (script : Script) (left_now written_now left_next : Option (List ℕ))
-    → HasCome users left written place kept script left_now written_now → Goes left_now left_next kept more → HasCome users left written place more script left_next written_now
-come_more users left written place kept more script left_now written_now left_next h (octets, took, e) = record {
+pub come_more : (users : List User) (before : Standing) (left written : Option (List ℕ)) (place : ℕ) (kept more : List ℕ) (script : Running) (left_now written_now left_next : Option (List ℕ))
+    → HasCome users before left written place kept script left_now written_now → Goes left_now left_next kept more → HasCome users before left written place more script left_next written_now
+come_more users before left written place kept more script left_now written_now left_next h (octets, took, e) = record {
   done = h.done;
   answered = h.answered;
   took = subst (λ l. Takes left l left_next) (append_assoc h.done kept octets ∙ ap (λ l. h.done ++ l) (sym e))
@@ -61,37 +68,39 @@ come_more users left written place kept more script left_now written_now left_ne
 }
 
 -- frames in front of what is kept were answered
-come_on : (users : List User) (left written : Option (List ℕ)) (place len : ℕ) (kept : List ℕ) (script next : Script) (left_now written_now written_next : Option (List ℕ))
-    → (h : HasCome users left written place kept script left_now written_now) → AnsweredTo users len kept h.answered.after next written_now written_next
-    → HasCome users left written (place + len) (drop len kept) next left_now written_next
-come_on users left written place len kept script next left_now written_now written_next h a = record {
+come_on : (users : List User) (before : Standing) (left written : Option (List ℕ)) (place len : ℕ) (kept : List ℕ) (script next : Running) (left_now written_now written_next : Option (List ℕ))
+    → (h : HasCome users before left written place kept script left_now written_now) → AnsweredTo users len kept h.answered.after next written_now written_next
+    → HasCome users before left written (place + len) (drop len kept) next left_now written_next
+come_on users before left written place len kept script next left_now written_now written_next h a = record {
   done = h.done ++ take len kept;
-  answered = whole_append users h.done (take len kept) (at_start users) script next written written_now written_next h.answered a.whole;
+  answered = whole_append users h.done (take len kept) before script next written written_now written_next h.answered a.whole;
   took = subst (λ l. Takes left l left_now) (ap (λ l. h.done ++ l) (sym (take-append-drop len kept)) ∙ sym (append_assoc h.done (take len kept) (drop len kept))) h.took;
   place_is = omega (arith, h.place_is, length-append h.done (take len kept), length-take len kept, a.within);
 }
 
 -- whole frames in front of what is kept were answered, and behind them stands the start of one
-pub come_cut : (users : List User) (len : ℕ) (octets rest : List ℕ) (left written : Option (List ℕ)) (place : ℕ) (kept : List ℕ) (script next : Script) (left_now written_now written_next : Option (List ℕ))
-    → octets ≡ kept → rest ≡ drop len kept → HasCome users left written place kept script left_now written_now
-    → (own : List User) → own ≡ users → ((standing : Standing) → StandsAt standing script → HasAnswered own (Cut len) octets standing next written_now written_next)
-    → HasCome users left written (place + len) rest next left_now written_next × IsFrameStart rest × (len ≤ length kept)
-come_cut users len octets rest left written place kept script next left_now written_now written_next e f h own same answered =
-    let a = subst (λ (u : List User). HasAnswered u (Cut len) octets h.answered.after next written_now written_next) same (answered h.answered.after h.answered.stands) in
+pub come_cut : (users : List User) (before : Standing) (len : ℕ) (octets rest : List ℕ) (left written : Option (List ℕ)) (place : ℕ) (kept : List ℕ) (script next : Running) (left_now written_now written_next : Option (List ℕ))
+    → octets ≡ kept → rest ≡ drop len kept → HasCome users before left written place kept script left_now written_now
+    → ((standing : Standing) → StandsAt standing script → AnsweredTo users len octets standing next written_now written_next × IsFrameStart (drop len octets))
+    → HasCome users before left written (place + len) rest next left_now written_next × IsFrameStart rest × (len ≤ length kept)
+come_cut users before len octets rest left written place kept script next left_now written_now written_next e f h answered =
+    let a = answered h.answered.after h.answered.stands in
     let to : AnsweredTo users len kept h.answered.after next written_now written_next = subst (λ l. AnsweredTo users len l h.answered.after next written_now written_next) e a.0 in
     let start : IsFrameStart (drop len octets) = a.1 in (
-      subst (λ l. HasCome users left written (place + len) l next left_now written_next) (sym f) (come_on users left written place len kept script next left_now written_now written_next h to),
+      subst (λ l. HasCome users before left written (place + len) l next left_now written_next) (sym f) (come_on users before left written place len kept script next left_now written_now written_next h to),
       subst IsFrameStart (ap (drop len) e ∙ sym f) start,
       to.within,
     )
 
 -- octets that are answered, and a rest in which no frame stands, are cut there
-printed_for : (users : List User) (octets rest : List ℕ) (written written_now : Option (List ℕ)) (script : Script) (a : AnsweredWhole users octets (at_start users) script written written_now)
-    → BeginsNoFrame rest → IsPrinted users (octets ++ rest) rest a.printed
-printed_for users octets rest written written_now script a none = record {
+printed_for : (users : List User) (before : Standing) (octets rest : List ℕ) (written written_now : Option (List ℕ)) (script : Running) (a : AnsweredWhole users octets before script written written_now)
+    → BeginsNoFrame rest → IsPrintedFrom users before (state_in script.book) (octets ++ rest) rest a.printed
+printed_for users before octets rest written written_now script a none = record {
   frames = a.frames;
   cut = record { bounds = a.bounds; spelled = ap (λ l. l ++ rest) a.spelled; ended = none };
-  follows = scripts_go_on.follows users (at_start users) a.after a.frames a.printed a.leads;
+  after = a.after;
+  leads = a.leads;
+  state = a.stands.server;
 }
 
 -- what was taken is all, where nothing is left
@@ -100,28 +109,28 @@ all_taken None left_now octets took e = tt
 all_taken (Some xs) left_now octets (rest, f, h) e = h ∙ (ap (λ l. octets ++ l) (same_Some rest [] (sym f ∙ e)) ∙ append-nil octets)
 
 -- the end of the input, with nothing kept
-ran_to_end : (users : List User) (left written : Option (List ℕ)) (place : ℕ) (kept : List ℕ) (script : Script) (left_now written_now : Option (List ℕ))
-    → HasCome users left written place kept script left_now written_now → kept ≡ [] → left_now ≡ Some [] → RanToEnd users left left_now written written_now place
-ran_to_end users left written place kept script left_now written_now h none e = record {
+ran_to_end : (users : List User) (before : Standing) (left written : Option (List ℕ)) (place : ℕ) (kept : List ℕ) (script : Running) (left_now written_now : Option (List ℕ))
+    → HasCome users before left written place kept script left_now written_now → kept ≡ [] → left_now ≡ Some [] → RanToEnd (IsPrintedFrom users before (state_in script.book)) left left_now written written_now place
+ran_to_end users before left written place kept script left_now written_now h none e = record {
   all = h.done ++ [];
   told = all_taken left left_now (h.done ++ []) (subst (λ l. Takes left (h.done ++ l) left_now) none h.took) e;
   ended = e;
   printed = h.answered.printed;
-  follows = printed_for users h.done [] written written_now script h.answered no_frame_in_none;
+  follows = printed_for users before h.done [] written written_now script h.answered no_frame_in_none;
   added = h.answered.added;
   place_is = h.place_is ∙ ap length (sym (append-nil h.done));
 }
 
 -- the end of the input, with a rest kept
-cut_at_end : (users : List User) (left written : Option (List ℕ)) (place : ℕ) (kept : List ℕ) (script : Script) (left_now written_now : Option (List ℕ))
-    → HasCome users left written place kept script left_now written_now → BeginsNoFrame kept → kept ≢ [] → left_now ≡ Some [] → MetBadFrame users left written written_now place
-cut_at_end users left written place kept script left_now written_now h unmet some e = record {
+cut_at_end : (users : List User) (before : Standing) (left written : Option (List ℕ)) (place : ℕ) (kept : List ℕ) (script : Running) (left_now written_now : Option (List ℕ))
+    → HasCome users before left written place kept script left_now written_now → BeginsNoFrame kept → kept ≢ [] → left_now ≡ Some [] → MetBadFrame (IsPrintedFrom users before (state_in script.book)) left written written_now place
+cut_at_end users before left written place kept script left_now written_now h unmet some e = record {
   all = h.done ++ kept;
   told = all_taken left left_now (h.done ++ kept) h.took e;
   rest = kept;
   some = some;
   printed = h.answered.printed;
-  follows = printed_for users h.done kept written written_now script h.answered unmet;
+  follows = printed_for users before h.done kept written written_now script h.answered unmet;
   added = h.answered.added;
   place_is = omega (arith, h.place_is, length-append h.done kept);
 }
@@ -136,37 +145,37 @@ never_none : ¬ NeverBeginsFrame []
 never_none h = h (frame_text (bytes 0 0 [])) (bytes 0 0 []) []
     (record { connection_to = omega arith; moment_to = omega arith; payload_to = omega arith }) (sym (append-nil (frame_text (bytes 0 0 []))))
 
-bad_with : (users : List User) (left written : Option (List ℕ)) (place : ℕ) (kept behind : List ℕ) (script : Script) (left_now written_now : Option (List ℕ))
-    → (h : HasCome users left written place kept script left_now written_now) → NeverBeginsFrame kept → IfSome left (λ octets. octets ≡ h.done ++ (kept ++ behind))
-    → MetBadFrame users left written written_now place
-bad_with users left written place kept behind script left_now written_now h never told = record {
+bad_with : (users : List User) (before : Standing) (left written : Option (List ℕ)) (place : ℕ) (kept behind : List ℕ) (script : Running) (left_now written_now : Option (List ℕ))
+    → (h : HasCome users before left written place kept script left_now written_now) → NeverBeginsFrame kept → IfSome left (λ octets. octets ≡ h.done ++ (kept ++ behind))
+    → MetBadFrame (IsPrintedFrom users before (state_in script.book)) left written written_now place
+bad_with users before left written place kept behind script left_now written_now h never told = record {
   all = h.done ++ (kept ++ behind);
   told = told;
   rest = kept ++ behind;
   some = λ e. never_none (subst NeverBeginsFrame (empty kept (omega (arith, ap length e, length-append kept behind))) never);
   printed = h.answered.printed;
-  follows = printed_for users h.done (kept ++ behind) written written_now script h.answered (never behind);
+  follows = printed_for users before h.done (kept ++ behind) written written_now script h.answered (never behind);
   added = h.answered.added;
   place_is = omega (arith, h.place_is, length-append h.done (kept ++ behind));
 }
 
 -- what is kept begins with no frame, whatever follows
-met_bad_frame : (users : List User) (left written : Option (List ℕ)) (place : ℕ) (kept : List ℕ) (script : Script) (left_now written_now : Option (List ℕ))
-    → HasCome users left written place kept script left_now written_now → NeverBeginsFrame kept → MetBadFrame users left written written_now place
-met_bad_frame users None written place kept script left_now written_now h never = bad_with users None written place kept [] script left_now written_now h never tt
-met_bad_frame users (Some xs) written place kept script left_now written_now h never =
-    bad_with users (Some xs) written place kept h.took.0 script left_now written_now h never (h.took.2 ∙ append_assoc h.done kept h.took.0)
+met_bad_frame : (users : List User) (before : Standing) (left written : Option (List ℕ)) (place : ℕ) (kept : List ℕ) (script : Running) (left_now written_now : Option (List ℕ))
+    → HasCome users before left written place kept script left_now written_now → NeverBeginsFrame kept → MetBadFrame (IsPrintedFrom users before (state_in script.book)) left written written_now place
+met_bad_frame users before None written place kept script left_now written_now h never = bad_with users before None written place kept [] script left_now written_now h never tt
+met_bad_frame users before (Some xs) written place kept script left_now written_now h never =
+    bad_with users before (Some xs) written place kept h.took.0 script left_now written_now h never (h.took.2 ∙ append_assoc h.done kept h.took.0)
 
 -- nothing was taken any more
-pub stopped_reading : (users : List User) (left written : Option (List ℕ)) (place : ℕ) (kept : List ℕ) (script : Script) (left_now written_now left_next : Option (List ℕ))
-    → HasCome users left written place kept script left_now written_now → IsFrameStart kept → left_next ≡ left_now → StoppedReading users left left_next written written_now
-stopped_reading users left written place kept script left_now written_now left_next h start e = record {
+pub stopped_reading : (users : List User) (before : Standing) (left written : Option (List ℕ)) (place : ℕ) (kept : List ℕ) (script : Running) (left_now written_now left_next : Option (List ℕ))
+    → HasCome users before left written place kept script left_now written_now → IsFrameStart kept → left_next ≡ left_now → StoppedReading (IsPrintedFrom users before (state_in script.book)) left left_next written written_now
+stopped_reading users before left written place kept script left_now written_now left_next h start e = record {
   taken = h.done ++ kept;
   took = subst (λ l. Takes left (h.done ++ kept) l) (sym e) h.took;
   rest = kept;
   start = start;
   printed = h.answered.printed;
-  follows = printed_for users h.done kept written written_now script h.answered (no_frame_yet kept start);
+  follows = printed_for users before h.done kept written written_now script h.answered (no_frame_yet kept start);
   added = h.answered.added;
 }
 
@@ -178,10 +187,10 @@ input_of (Some xs) left_now octets front behind took e =
     (xs, refl, (behind ++ took.0, took.2 ∙ (ap (λ l. l ++ took.0) e ∙ append_assoc front behind took.0)))
 
 -- what is kept was answered in part
-pub wrote_front : (users : List User) (left written : Option (List ℕ)) (place : ℕ) (kept : List ℕ) (script : Script) (left_now written_now written_next : Option (List ℕ))
-    → (h : HasCome users left written place kept script left_now written_now) → AnsweredInPart users kept h.answered.after written_now written_next → WroteFront users left written written_next
-wrote_front users left written place kept script left_now written_now written_next h a =
-    let all = part_append users h.done kept (at_start users) script written written_now written_next h.answered a in
+pub wrote_front : (users : List User) (before : Standing) (left written : Option (List ℕ)) (place : ℕ) (kept : List ℕ) (script : Running) (left_now written_now written_next : Option (List ℕ))
+    → (h : HasCome users before left written place kept script left_now written_now) → AnsweredInPart users kept h.answered.after written_now written_next → WroteFront (IsPrintedInPartFrom users before) left written written_next
+wrote_front users before left written place kept script left_now written_now written_next h a =
+    let all = part_append users h.done kept before script written written_now written_next h.answered a in
     let input = input_of left left_now (h.done ++ kept) (frames_text all.frames) all.behind h.took all.spelled in
     record {
       input = input.0;
@@ -193,20 +202,20 @@ wrote_front users left written place kept script left_now written_now written_ne
         behind = input.2.0;
         spelled = input.2.1;
         missing = all.missing;
-        follows = scripts_go_on.follows users (at_start users) all.after all.frames (all.printed ++ all.missing) all.leads;
+        follows = scripts_go_on.follows users before all.after all.frames (all.printed ++ all.missing) all.leads;
       };
       added = all.added;
     }
 
 -- nothing of it was answered
-pub wrote_before : (users : List User) (left written : Option (List ℕ)) (place : ℕ) (kept : List ℕ) (script : Script) (left_now written_now : Option (List ℕ))
-    → HasCome users left written place kept script left_now written_now → WroteFront users left written written_now
-wrote_before users left written place kept script left_now written_now h =
-    wrote_front users left written place kept script left_now written_now written_now h (part_none users kept h.answered.after written_now)
+pub wrote_before : (users : List User) (before : Standing) (left written : Option (List ℕ)) (place : ℕ) (kept : List ℕ) (script : Running) (left_now written_now : Option (List ℕ))
+    → HasCome users before left written place kept script left_now written_now → WroteFront (IsPrintedInPartFrom users before) left written written_now
+wrote_before users before left written place kept script left_now written_now h =
+    wrote_front users before left written place kept script left_now written_now written_now h (part_none users kept h.answered.after written_now)
 
 -- nothing was done at all
-pub wrote_none : (users : List User) (left written : Option (List ℕ)) → WroteFront users left written written
-wrote_none users left written =
+pub wrote_none : (users : List User) (before : Standing) (left written : Option (List ℕ)) → WroteFront (IsPrintedInPartFrom users before) left written written
+wrote_none users before left written =
     let input = input_of left left [] [] [] (takes_none left) refl in
     record {
       input = input.0;
@@ -217,41 +226,168 @@ wrote_none users left written =
     }
 
 -- what is kept was answered in part, wherever the script stood
-pub wrote_cut : (users : List User) (octets : List ℕ) (left written : Option (List ℕ)) (place : ℕ) (kept : List ℕ) (script : Script) (left_now written_now written_next : Option (List ℕ))
-    → octets ≡ kept → HasCome users left written place kept script left_now written_now
-    → (own : List User) → own ≡ users → ((standing : Standing) → StandsAt standing script → AnsweredInPart own octets standing written_now written_next) → WroteFront users left written written_next
-wrote_cut users octets left written place kept script left_now written_now written_next e h own same answered =
-    wrote_front users left written place kept script left_now written_now written_next h
+pub wrote_cut : (users : List User) (before : Standing) (octets : List ℕ) (left written : Option (List ℕ)) (place : ℕ) (kept : List ℕ) (script : Running) (left_now written_now written_next : Option (List ℕ))
+    → octets ≡ kept → HasCome users before left written place kept script left_now written_now
+    → ((standing : Standing) → StandsAt standing script → AnsweredInPart users octets standing written_now written_next) → WroteFront (IsPrintedInPartFrom users before) left written written_next
+wrote_cut users before octets left written place kept script left_now written_now written_next e h answered =
+    wrote_front users before left written place kept script left_now written_now written_next h
     (subst (λ xs. AnsweredInPart users xs h.answered.after written_now written_next) e
-    (subst (λ (u : List User). AnsweredInPart u octets h.answered.after written_now written_next) same (answered h.answered.after h.answered.stands)))
+    (answered h.answered.after h.answered.stands))
+
+-- the desk told its fault among what is kept
+pub broke_here : (users : List User) (before : Standing) (octets : List ℕ) (left written : Option (List ℕ)) (place : ℕ) (kept : List ℕ) (script : Running) (left_now written_now written_next : Option (List ℕ))
+    → octets ≡ kept → HasCome users before left written place kept script left_now written_now
+    → ((standing : Standing) → StandsAt standing script → BrokeAmong users octets standing written_now written_next) → BrokeOff users before left written written_next
+broke_here users before octets left written place kept script left_now written_now written_next e h told =
+    let all = h.answered in
+    let b : BrokeAmong users kept all.after written_now written_next = subst (λ xs. BrokeAmong users xs all.after written_now written_next) e (told all.after all.stands) in
+    let frames : List Frame = all.frames ++ b.frames in
+    let text : List ℕ = frame_text b.frame in
+    let spelled : h.done ++ kept ≡ (frames_text frames ++ text) ++ b.behind =
+    ap (λ l. l ++ kept) all.spelled
+    ∙ (ap (λ l. frames_text all.frames ++ l) b.spelled
+    ∙ (sym (append_assoc (frames_text all.frames) (frames_text b.frames) (text ++ b.behind))
+    ∙ (ap (λ l. l ++ (text ++ b.behind)) (sym (frames_text-append all.frames b.frames))
+    ∙ sym (append_assoc (frames_text frames) text b.behind)))) in
+    let input = input_of left left_now (h.done ++ kept) (frames_text frames ++ text) b.behind h.took spelled in
+    record {
+      input = input.0;
+      told = input.1;
+      broke = record {
+        frames = frames;
+        bounds = All-append IsFrame all.frames b.frames all.bounds b.bounds;
+        frame = b.frame;
+        is_frame = b.is_frame;
+        behind = input.2.0;
+        spelled = input.2.1 ∙ append_assoc (frames_text frames) text input.2.0;
+        printed = all.printed ++ b.printed;
+        there = b.there;
+        leads = leads_append users before all.after b.there all.frames b.frames all.printed b.printed all.leads b.leads;
+        middle = b.middle;
+        added = Adds-more written written_now b.middle all.printed b.printed all.added b.added;
+        last = b.last;
+      };
+    }
 
 -- the end of the input, where a piece of no octets was taken
-pub at_end : (users : List User) (nothing_left : Bool) (ended : FrameEnd) (left written : Option (List ℕ)) (place : ℕ) (kept more : List ℕ) (script : Script) (left_now written_now left_next : Option (List ℕ))
-    → HasCome users left written place kept script left_now written_now → IsFrameStart kept → Goes left_now left_next kept more → (left_next ≡ Some []) × (more ≡ kept)
-    → nothing_left ≡ (length more == 0) → ended ≡ (if nothing_left then Done place else BadFrame place) → HasEnded users ended left left_next written written_now
-at_end users true ended left written place kept more script left_now written_now left_next h start goes e b f =
-    let come = come_more users left written place kept more script left_now written_now left_next h goes in
-    subst (λ x. HasEnded users x left left_next written written_now) (sym f)
-    (ran_to_end users left written place more script left_next written_now come (empty more (eqb-true (length more) 0 (sym b))) e.0)
-at_end users false ended left written place kept more script left_now written_now left_next h start goes e b f =
-    let come = come_more users left written place kept more script left_now written_now left_next h goes in
-    subst (λ x. HasEnded users x left left_next written written_now) (sym f)
-    (cut_at_end users left written place more script left_next written_now come (subst BeginsNoFrame (sym e.1) (no_frame_yet kept start))
+pub at_end : (users : List User) (before : Standing) (nothing_left : Bool) (ended : FrameEnd) (left written : Option (List ℕ)) (place : ℕ) (kept more : List ℕ) (script : Running) (left_now written_now left_next : Option (List ℕ))
+    → HasCome users before left written place kept script left_now written_now → IsFrameStart kept → Goes left_now left_next kept more → (left_next ≡ Some []) × (more ≡ kept)
+    → nothing_left ≡ (length more == 0) → ended ≡ (if nothing_left then Done place else BadFrame place) → HasEnded (IsPrintedFrom users before (state_in script.book)) (IsPrintedInPartFrom users before) ended left left_next written written_now
+at_end users before true ended left written place kept more script left_now written_now left_next h start goes e b f =
+    let come = come_more users before left written place kept more script left_now written_now left_next h goes in
+    subst (λ x. HasEnded (IsPrintedFrom users before (state_in script.book)) (IsPrintedInPartFrom users before) x left left_next written written_now) (sym f)
+    (ran_to_end users before left written place more script left_next written_now come (empty more (eqb-true (length more) 0 (sym b))) e.0)
+at_end users before false ended left written place kept more script left_now written_now left_next h start goes e b f =
+    let come = come_more users before left written place kept more script left_now written_now left_next h goes in
+    subst (λ x. HasEnded (IsPrintedFrom users before (state_in script.book)) (IsPrintedInPartFrom users before) x left left_next written written_now) (sym f)
+    (cut_at_end users before left written place more script left_next written_now come (subst BeginsNoFrame (sym e.1) (no_frame_yet kept start))
     (λ none. eqb-false (length more) 0 (sym b) (ap length none)) e.0)
 
 -- behind the whole frames of what is kept begins none, whatever follows
-pub bad_behind : (users : List User) (len : ℕ) (octets : List ℕ) (left written : Option (List ℕ)) (place : ℕ) (kept : List ℕ) (script next : Script) (left_now written_now written_next : Option (List ℕ))
-    → octets ≡ kept → HasCome users left written place kept script left_now written_now
-    → (own : List User) → own ≡ users → ((standing : Standing) → StandsAt standing script → HasAnswered own (Bad len) octets standing next written_now written_next) → MetBadFrame users left written written_next (place + len)
-bad_behind users len octets left written place kept script next left_now written_now written_next e h own same answered =
-    let a = subst (λ (u : List User). HasAnswered u (Bad len) octets h.answered.after next written_now written_next) same (answered h.answered.after h.answered.stands) in
+pub bad_behind : (users : List User) (before : Standing) (len : ℕ) (octets : List ℕ) (left written : Option (List ℕ)) (place : ℕ) (kept : List ℕ) (script next : Running) (left_now written_now written_next : Option (List ℕ))
+    → octets ≡ kept → HasCome users before left written place kept script left_now written_now
+    → ((standing : Standing) → StandsAt standing script → AnsweredTo users len octets standing next written_now written_next × NeverBeginsFrame (drop len octets)) → MetBadFrame (IsPrintedFrom users before (state_in next.book)) left written written_next (place + len)
+bad_behind users before len octets left written place kept script next left_now written_now written_next e h answered =
+    let a = answered h.answered.after h.answered.stands in
     let to : AnsweredTo users len kept h.answered.after next written_now written_next = subst (λ l. AnsweredTo users len l h.answered.after next written_now written_next) e a.0 in
     let never : NeverBeginsFrame (drop len octets) = a.1 in
-    met_bad_frame users left written (place + len) (drop len kept) next left_now written_next
-    (come_on users left written place len kept script next left_now written_now written_next h to) (subst NeverBeginsFrame (ap (drop len) e) never)
+    met_bad_frame users before left written (place + len) (drop len kept) next left_now written_next
+    (come_on users before left written place len kept script next left_now written_now written_next h to) (subst NeverBeginsFrame (ap (drop len) e) never)
 
 -- the octets that came so far are at most all that a source may give
 pub bounded_next : (place len kept more rest n allowed allowed_next : ℕ) → (0 < place + kept → place + kept + allowed ≤ 2 ^ 62) → more ≡ kept + n
     → n + allowed_next ≤ allowed → allowed ≤ 2 ^ 62 → rest ≡ more - len → len ≤ more → 0 < place + len + rest → place + len + rest + allowed_next ≤ 2 ^ 62
 bounded_next place len kept more rest n allowed allowed_next before longer given bounded rest_is within some =
     elim (eqb_tells (place + kept) 0) [ inl none ↦ omega (arith, none.1) | inr came ↦ omega (arith, before (omega (arith, came.1))) ]
+
+-- From the opening state
+
+printed_at_start : (users : List User) (server : ServerState) (input rest output : List ℕ) → IsPrintedFrom users (at_start users) server input rest output → IsPrinted users input rest output
+printed_at_start users server input rest output h = record { frames = h.frames; cut = h.cut; follows = scripts_go_on.follows users (at_start users) h.after h.frames output h.leads }
+
+front_at_start : (users : List User) (left written written_now : Option (List ℕ)) → WroteFront (IsPrintedInPartFrom users (at_start users)) left written written_now → WroteFront (IsPrintedInPart users) left written written_now
+front_at_start users left written written_now h = record {
+  input = h.input;
+  told = h.told;
+  printed = h.printed;
+  follows = record { frames = h.follows.frames; bounds = h.follows.bounds; behind = h.follows.behind; spelled = h.follows.spelled; missing = h.follows.missing; follows = h.follows.follows };
+  added = h.added;
+}
+
+opened_at_start : (users : List User) (server : ServerState) (ended : FrameEnd) (left left_now written written_now : Option (List ℕ))
+    → HasEnded (IsPrintedFrom users (at_start users) server) (IsPrintedInPartFrom users (at_start users)) ended left left_now written written_now
+    → HasEnded (IsPrinted users) (IsPrintedInPart users) ended left left_now written written_now
+opened_at_start users server (Done place) left left_now written written_now h = record {
+  all = h.all;
+  told = h.told;
+  ended = h.ended;
+  printed = h.printed;
+  follows = printed_at_start users server h.all [] h.printed h.follows;
+  added = h.added;
+  place_is = h.place_is;
+}
+opened_at_start users server (BadFrame place) left left_now written written_now h = record {
+  all = h.all;
+  told = h.told;
+  rest = h.rest;
+  some = h.some;
+  printed = h.printed;
+  follows = printed_at_start users server h.all h.rest h.printed h.follows;
+  added = h.added;
+  place_is = h.place_is;
+}
+opened_at_start users server Input left left_now written written_now h = record {
+  taken = h.taken;
+  took = h.took;
+  rest = h.rest;
+  start = h.start;
+  printed = h.printed;
+  follows = printed_at_start users server h.taken h.rest h.printed h.follows;
+  added = h.added;
+}
+opened_at_start users server Output left left_now written written_now h = front_at_start users left written written_now h
+opened_at_start users server NoMemory left left_now written written_now h = front_at_start users left written written_now h
+
+-- a run at a desk in the opening state is one from the start
+pub run_from_start : (users : List User) (state server : ServerState) (ended : FrameEnd) (left left_now written written_now : Option (List ℕ)) → state ≡ opening_state (directory_of users)
+    → HasEnded (IsPrintedFrom users (standing_in state) server) (IsPrintedInPartFrom users (standing_in state)) ended left left_now written written_now
+    → HasEnded (IsPrinted users) (IsPrintedInPart users) ended left left_now written written_now
+run_from_start users state server ended left left_now written written_now e h =
+    opened_at_start users server ended left left_now written written_now
+    (subst (λ s. HasEnded (IsPrintedFrom users (standing_in s) server) (IsPrintedInPartFrom users (standing_in s)) ended left left_now written written_now) e h)
+
+-- a book in which nothing happened shows the opening state
+pub opening_book : (book : Core) (users : List User) → book.users ≡ users → book.work ≡ record { journal = []; latest = pos 0; pieces = []; out = [] } → state_in book ≡ opening_state (directory_of users)
+opening_book book users e work =
+    ap (λ (w : Work). replay (directory_of book.users) w.journal) work ∙ ap (λ (known : List User). opening_state (directory_of known)) e
+
+-- Behind the run
+
+-- the book's state is the same where its users and its journal are
+pub same_state : (book other : Core) → other.users ≡ book.users → other.work.journal ≡ book.work.journal → state_in other ≡ state_in book
+same_state book other e journal =
+    ap (λ (known : List User). replay (directory_of known) other.work.journal) e ∙ ap (λ entries. replay (directory_of book.users) entries) journal
+
+pub ended_later : {X : Type 0} (users : List User) (before mid after : ServerState) (ended : FramesOn X) (left left_now written written_now : Option (List ℕ)) → after ≡ mid
+    → HasEndedOn users before mid ended left left_now written written_now → HasEndedOn users before after ended left left_now written written_now
+ended_later users before mid after ended left left_now written written_now e h = subst (λ s. HasEndedOn users before s ended left left_now written written_now) (sym e) h
+
+-- the desk is as the run left it
+pub left_later : {X : Type 0} (ended : FramesOn X) (before mid after : Bool) (count counted counted_now : ℕ) → after ≡ mid → counted ≤ counted_now
+    → IsLeft ended before count mid counted → IsLeft ended before count after counted_now
+left_later (End ended) before mid after count counted counted_now e h k = e ∙ k
+left_later (Broken fault) before mid after count counted counted_now e h k = (e ∙ k.0, λ unbroken. rose_on (k.1 unbroken)) where
+  rose_on : Rose count counted → Rose count counted_now
+  rose_on (inl less) = inl (omega (arith, less, h))
+  rose_on (inr full) = inr full
+
+-- the book of a desk whose test of its journal passes is legal
+pub told_book : (users : List User) (book : Core) → LegalIsTold → book.users ≡ users → is_legal (directory_of book.users) book.work.journal ≡ true → IsBookOf users book
+told_book users book told e passes = record {
+  users_are = e;
+  legal = subst (λ (known : List User). IsLegal (directory_of known) book.work.journal) e (told.is (directory_of book.users) book.work.journal passes);
+}
+
+-- nothing was done at all
+pub nothing_at_start : (users : List User) (left written : Option (List ℕ)) → WroteFront (IsPrintedInPart users) left written written
+nothing_at_start users left written = front_at_start users left written written (wrote_none users (at_start users) left written)

@@ -1,11 +1,11 @@
 -- Where a script stands after the turn of a frame.
 use Rattle.std.proofs.Common.{◌≡◌, ◌≢◌, ℕ, zero, suc, ◌<◌, Bool, true, false, not, ◌&&◌, eq-eqb, List, [], ◌∷◌, ◌++◌, length, Option, Some, refl, sym, ap, subst, ◌∙◌, arith, length-set, if◌then◌else◌, inl, inr}
 use Rattle.std.specs.Prelude.{option_and_then, slice_get, pos, slice_set, replicate, get_or, filter}
-use Rattle.std.specs.List.{AllZip, All}
+use Rattle.std.specs.List.{AllZip, All, Contains}
 use Rattle.std.proofs.lemmas.Bool.{false≢true}
 use Rattle.std.proofs.lemmas.Bool.Decides.{eqb_tells}
 use Rattle.std.proofs.lemmas.List.{length-replicate, get_or-set_same, get_or-set_other}
-use Rattle.std.proofs.lemmas.List.Elements.{All-nil, All-cons, All-head, All-tail, All-append, All-set}
+use Rattle.std.proofs.lemmas.List.Elements.{All-nil, All-cons, All-head, All-tail, All-append, All-set, Contains-get_or}
 use Rattle.std.proofs.lemmas.Slice.Zip.{AllZip-long}
 use Rattle.std.proofs.lemmas.Option.{unwrap_or-slice_get, same_Some}
 use Rattle.cal_model.specs.Words.Integers.{same_int}
@@ -14,21 +14,21 @@ use Rattle.cal_model.specs.History.Claims.{Pair, Work, same_pair, with_claim, wi
 use Rattle.cal_model.specs.History.LiveObjects.{Placed, placed_by}
 use Rattle.cal_book.specs.declared.claims.Claim.{Claim}
 use Rattle.cal_model.specs.History.Journal.{Entry, IsLegal, replay}
-use Rattle.cal_model.specs.State.ServerState.{directory_of, opening_state}
+use Rattle.cal_model.specs.State.ServerState.{directory_of}
 use Rattle.cal_model.specs.Transcripts.ScriptFrames.{bytes, worker}
-use Rattle.cal_model.specs.Transcripts.Transcript.{Standing, at_start, stream_of, fed, Prints}
+use Rattle.cal_model.specs.Transcripts.Transcript.{Standing, stream_of, fed, Prints}
 use Rattle.cal_model.specs.Users.UsersFile.{User}
 use Rattle.cal_book.specs.Publishing.{IsClaimIn, pair_of_claim}
-use Rattle.cal_script.specs.Answering.{Grows, GoesOn, IsServer, state_of, WroteAll, WroteInPart}
-use Rattle.cal_script.specs.AnsweredFrames.{TookTurn, TookTurnInPart}
+use Rattle.cal_book.specs.Cores.{Core, state_in}
+use Rattle.cal_script.specs.Answering.{Grows, GoesOn, IsBookOf, PrintsBefore, WroteAll, WroteInPart, WroteBefore}
+use Rattle.cal_script.specs.AnsweredFrames.{TookTurn, TookTurnInPart, BrokeInTurn}
 use Rattle.cal_script.specs.FrameHeads.{step_of}
 use Rattle.cal_script.specs.Readings.{Rests}
-use Rattle.cal_script.specs.SlotTurns.{IsSlotIn, pair_in, SlotTurn, EndsClaim}
-use Rattle.cal_script.specs.Standings.{IsHeld, IsSound, StandsAt}
+use Rattle.cal_script.specs.SlotTurns.{IsSlotIn, IsHeld, IsKeptOrHeld, pair_in, out_without, SlotTurn, EndsClaim}
+use Rattle.cal_script.specs.Standings.{Running, IsSound, StandsAt, standing_in}
 use Rattle.cal_script.specs.declared.connections.Connection.{Connection}
 use Rattle.cal_script.specs.declared.head.Action.{Action}
 use Rattle.cal_script.specs.declared.head.Action.TheVariants as action
-use Rattle.cal_script.specs.declared.script.Script.{Script}
 use Rattle.cal_script.specs.declared.slots.Slot.{Slot}
 use Rattle.cal_script.specs.declared.slots.Slot.TheVariants.{Empty, Claimed, Expanded}
 use Rattle.cal_script.proofs.AnsweringLemmas.{adds_none}
@@ -145,6 +145,18 @@ held_else slots k before after pair h here other (j, slot, within, at, holds) = 
 held_here : (slots : List Slot) (k : ℕ) (after : Slot) (pair : Pair) → k < length slots → pair_in after ≡ Some pair → IsHeld (slice_set slots k after) pair
 held_here slots k after pair h holds = (k, after, omega (arith, length-set slots k after, h), get_or-set_same slots k after after h, holds)
 
+-- or was out before
+
+kept_same : (kept : List Pair) (slots : List Slot) (k : ℕ) (before after : Slot) (pair : Pair) → k < length slots → get_or slots k before ≡ before → pair_in after ≡ pair_in before
+    → IsKeptOrHeld kept slots pair → IsKeptOrHeld kept (slice_set slots k after) pair
+kept_same kept slots k before after pair h here same (inl was) = inl was
+kept_same kept slots k before after pair h here same (inr held) = inr (held_same slots k before after pair h here same held)
+
+kept_else : (kept : List Pair) (slots : List Slot) (k : ℕ) (before after : Slot) (pair : Pair) → k < length slots → get_or slots k before ≡ before → pair_in before ≢ Some pair
+    → IsKeptOrHeld kept slots pair → IsKeptOrHeld kept (slice_set slots k after) pair
+kept_else kept slots k before after pair h here other (inl was) = inl was
+kept_else kept slots k before after pair h here other (inr held) = inr (held_else slots k before after pair h here other held)
+
 -- pairs that stay
 kept_one : (Q : Pair → Type 0) (test : Pair → Bool) (p : Pair) (rest : List Pair) (b : Bool) → test p ≡ b → (test p ≡ true → Q p) → All Q rest → All Q (if b then p ∷ rest else rest)
 kept_one Q test p rest true e step all = All-cons Q p rest (step e) all
@@ -155,17 +167,17 @@ kept_pairs P Q test [] step all = All-nil Q
 kept_pairs P Q test (p ∷ pairs) step all =
     kept_one Q test p (filter test pairs) (test p) refl (step p (All-head P p pairs all)) (kept_pairs P Q test pairs step (All-tail P p pairs all))
 
-same_out : (slots : List Slot) (k : ℕ) (before after : Slot) (work now : Work) → k < length slots → get_or slots k before ≡ before → pair_in after ≡ pair_in before → now.out ≡ work.out
-    → All (IsHeld slots) work.out → All (IsHeld (slice_set slots k after)) now.out
-same_out slots k before after work now h here same out held =
-    subst (λ pairs. All (IsHeld (slice_set slots k after)) pairs) (sym out) (λ i d within. held_same slots k before after (get_or work.out i d) h here same (held i d within))
+same_out : (kept : List Pair) (slots : List Slot) (k : ℕ) (before after : Slot) (work now : Work) → k < length slots → get_or slots k before ≡ before → pair_in after ≡ pair_in before → now.out ≡ work.out
+    → All (IsKeptOrHeld kept slots) work.out → All (IsKeptOrHeld kept (slice_set slots k after)) now.out
+same_out kept slots k before after work now h here same out held =
+    subst (λ pairs. All (IsKeptOrHeld kept (slice_set slots k after)) pairs) (sym out) (λ i d within. kept_same kept slots k before after (get_or work.out i d) h here same (held i d within))
 
-takes_out : (slots : List Slot) (k : ℕ) (after : Slot) (pair : Pair) (work now : Work) → k < length slots → get_or slots k Empty ≡ Empty → pair_in after ≡ Some pair → now.out ≡ with_claim pair work.out
-    → All (IsHeld slots) work.out → All (IsHeld (slice_set slots k after)) now.out
-takes_out slots k after pair work now h here same out held =
-    subst (λ pairs. All (IsHeld (slice_set slots k after)) pairs) (sym out)
-    (All-append (IsHeld (slice_set slots k after)) work.out (pair ∷ []) (λ i d within. held_else slots k Empty after (get_or work.out i d) h here (λ e. cc) (held i d within))
-    (All-cons (IsHeld (slice_set slots k after)) pair [] (held_here slots k after pair h same) (All-nil (IsHeld (slice_set slots k after)))))
+takes_out : (kept : List Pair) (slots : List Slot) (k : ℕ) (after : Slot) (pair : Pair) (work now : Work) → k < length slots → get_or slots k Empty ≡ Empty → pair_in after ≡ Some pair → now.out ≡ with_claim pair work.out
+    → All (IsKeptOrHeld kept slots) work.out → All (IsKeptOrHeld kept (slice_set slots k after)) now.out
+takes_out kept slots k after pair work now h here same out held =
+    subst (λ pairs. All (IsKeptOrHeld kept (slice_set slots k after)) pairs) (sym out)
+    (All-append (IsKeptOrHeld kept (slice_set slots k after)) work.out (pair ∷ []) (λ i d within. kept_else kept slots k Empty after (get_or work.out i d) h here (λ e. cc) (held i d within))
+    (All-cons (IsKeptOrHeld kept (slice_set slots k after)) pair [] (inr (held_here slots k after pair h same)) (All-nil (IsKeptOrHeld kept (slice_set slots k after)))))
 
 same_pair-self : (pair : Pair) → same_pair pair pair ≡ true
 same_pair-self pair = ap (λ b. b && same_int pair.window pair.window) (eq-eqb pair.origin pair.origin refl) ∙ same_int-self pair.window
@@ -174,83 +186,116 @@ not_it : (pair other : Pair) → not (same_pair pair other) ≡ true → Some pa
 not_it pair other passes e =
     false≢true (ap not (sym (same_pair-self pair)) ∙ (ap (λ p. not (same_pair pair p)) (same_Some pair other e) ∙ passes))
 
-ends_out : (slots : List Slot) (k : ℕ) (before after : Slot) (pair : Pair) (work now : Work) → k < length slots → get_or slots k before ≡ before → pair_in before ≡ Some pair → now.out ≡ without_claim pair work.out
-    → All (IsHeld slots) work.out → All (IsHeld (slice_set slots k after)) now.out
-ends_out slots k before after pair work now h here same out held =
-    subst (λ pairs. All (IsHeld (slice_set slots k after)) pairs) (sym out)
-    (kept_pairs (IsHeld slots) (IsHeld (slice_set slots k after)) (λ other. not (same_pair pair other)) work.out
-    (λ other holds passes. held_else slots k before after other h here (λ e. not_it pair other passes (sym same ∙ e)) holds) held)
+ends_out : (kept : List Pair) (slots : List Slot) (k : ℕ) (before after : Slot) (pair : Pair) (work now : Work) → k < length slots → get_or slots k before ≡ before → pair_in before ≡ Some pair → now.out ≡ without_claim pair work.out
+    → All (IsKeptOrHeld kept slots) work.out → All (IsKeptOrHeld kept (slice_set slots k after)) now.out
+ends_out kept slots k before after pair work now h here same out held =
+    subst (λ pairs. All (IsKeptOrHeld kept (slice_set slots k after)) pairs) (sym out)
+    (kept_pairs (IsKeptOrHeld kept slots) (IsKeptOrHeld kept (slice_set slots k after)) (λ other. not (same_pair pair other)) work.out
+    (λ other holds passes. kept_else kept slots k before after other h here (λ e. not_it pair other passes (sym same ∙ e)) holds) held)
 
-nothing_out : (slots : List Slot) (k : ℕ) (before after : Slot) (work now : Work) → k < length slots → get_or slots k before ≡ before → (after ≡ before) × (now ≡ work)
-    → All (IsHeld slots) work.out → All (IsHeld (slice_set slots k after)) now.out
-nothing_out slots k before after work now h here (e, f) held = same_out slots k before after work now h here (ap pair_in e) (ap (λ (w : Work). w.out) f) held
+nothing_out : (kept : List Pair) (slots : List Slot) (k : ℕ) (before after : Slot) (work now : Work) → k < length slots → get_or slots k before ≡ before → (after ≡ before) × (now ≡ work)
+    → All (IsKeptOrHeld kept slots) work.out → All (IsKeptOrHeld kept (slice_set slots k after)) now.out
+nothing_out kept slots k before after work now h here (e, f) held = same_out kept slots k before after work now h here (ap pair_in e) (ap (λ (w : Work). w.out) f) held
 
-turn_held : (what : Action) (slots : List Slot) (k : ℕ) (before after : Slot) (work now : Work) → k < length slots → get_or slots k before ≡ before → SlotTurn what before work after now
-    → All (IsHeld slots) work.out → All (IsHeld (slice_set slots k after)) now.out
-turn_held action.Claim slots k Empty after work now h here (inl t) held =
-    takes_out slots k after (pair_of_claim t.claim) work now h here (ap pair_in t.slot) (ap (λ (w : Work). w.out) t.work_is) held
-turn_held action.Claim slots k Empty after work now h here (inr t) held = nothing_out slots k Empty after work now h here t held
-turn_held action.Claim slots k (Claimed claim) after work now h here t held = nothing_out slots k (Claimed claim) after work now h here t held
-turn_held action.Claim slots k (Expanded expanded) after work now h here t held = nothing_out slots k (Expanded expanded) after work now h here t held
-turn_held action.Expand slots k Empty after work now h here t held = nothing_out slots k Empty after work now h here t held
-turn_held action.Expand slots k (Claimed claim) after work now h here (inl t, e) held =
-    same_out slots k (Claimed claim) after work now h here (ap pair_in t.slot ∙ ap (λ c. Some (pair_of_claim c)) t.same) (ap (λ (w : Work). w.out) e) held
-turn_held action.Expand slots k (Claimed claim) after work now h here (inr t, e) held = nothing_out slots k (Claimed claim) after work now h here (t, e) held
-turn_held action.Expand slots k (Expanded expanded) after work now h here t held = nothing_out slots k (Expanded expanded) after work now h here t held
-turn_held action.Publish slots k Empty after work now h here t held = nothing_out slots k Empty after work now h here t held
-turn_held action.Publish slots k (Claimed claim) after work now h here t held = nothing_out slots k (Claimed claim) after work now h here t held
-turn_held action.Publish slots k (Expanded expanded) after work now h here t held = ends_out slots k (Expanded expanded) after (pair_of_claim expanded.claim) work now h here refl t.out held
-turn_held action.Abandon slots k Empty after work now h here t held = nothing_out slots k Empty after work now h here t held
-turn_held action.Abandon slots k (Claimed claim) after work now h here t held = ends_out slots k (Claimed claim) after (pair_of_claim claim) work now h here refl t.out held
-turn_held action.Abandon slots k (Expanded expanded) after work now h here t held = ends_out slots k (Expanded expanded) after (pair_of_claim expanded.claim) work now h here refl t.out held
+turn_held : (kept : List Pair) (what : Action) (slots : List Slot) (k : ℕ) (before after : Slot) (work now : Work) → k < length slots → get_or slots k before ≡ before → SlotTurn what before work after now
+    → All (IsKeptOrHeld kept slots) work.out → All (IsKeptOrHeld kept (slice_set slots k after)) now.out
+turn_held kept action.Claim slots k Empty after work now h here (inl t) held =
+    takes_out kept slots k after (pair_of_claim t.claim) work now h here (ap pair_in t.slot) (ap (λ (w : Work). w.out) t.work_is) held
+turn_held kept action.Claim slots k Empty after work now h here (inr t) held = nothing_out kept slots k Empty after work now h here t held
+turn_held kept action.Claim slots k (Claimed claim) after work now h here t held = nothing_out kept slots k (Claimed claim) after work now h here t held
+turn_held kept action.Claim slots k (Expanded expanded) after work now h here t held = nothing_out kept slots k (Expanded expanded) after work now h here t held
+turn_held kept action.Expand slots k Empty after work now h here t held = nothing_out kept slots k Empty after work now h here t held
+turn_held kept action.Expand slots k (Claimed claim) after work now h here (inl t, e) held =
+    same_out kept slots k (Claimed claim) after work now h here (ap pair_in t.slot ∙ ap (λ c. Some (pair_of_claim c)) t.same) (ap (λ (w : Work). w.out) e) held
+turn_held kept action.Expand slots k (Claimed claim) after work now h here (inr t, e) held = nothing_out kept slots k (Claimed claim) after work now h here (t, e) held
+turn_held kept action.Expand slots k (Expanded expanded) after work now h here t held = nothing_out kept slots k (Expanded expanded) after work now h here t held
+turn_held kept action.Publish slots k Empty after work now h here t held = nothing_out kept slots k Empty after work now h here t held
+turn_held kept action.Publish slots k (Claimed claim) after work now h here t held = nothing_out kept slots k (Claimed claim) after work now h here t held
+turn_held kept action.Publish slots k (Expanded expanded) after work now h here t held = ends_out kept slots k (Expanded expanded) after (pair_of_claim expanded.claim) work now h here refl t.out held
+turn_held kept action.Abandon slots k Empty after work now h here t held = nothing_out kept slots k Empty after work now h here t held
+turn_held kept action.Abandon slots k (Claimed claim) after work now h here t held = ends_out kept slots k (Claimed claim) after (pair_of_claim claim) work now h here refl t.out held
+turn_held kept action.Abandon slots k (Expanded expanded) after work now h here t held = ends_out kept slots k (Expanded expanded) after (pair_of_claim expanded.claim) work now h here refl t.out held
+
+-- The claims that slots hold are given up
+
+held_front : (rest : List Slot) (slot : Slot) (pair : Pair) → pair_in slot ≢ Some pair → IsHeld (rest ++ slot ∷ []) pair → IsHeld rest pair
+held_front [] slot pair other (zero, d, within, at, holds) = absurd (other (ap pair_in at ∙ holds))
+held_front [] slot pair other (suc j, d, within, at, holds) = absurd (omega (arith, within))
+held_front (x ∷ rest) slot pair other (zero, d, within, at, holds) = (zero, d, omega arith, at, holds)
+held_front (x ∷ rest) slot pair other (suc j, d, within, at, holds) =
+    let front = held_front rest slot pair other (j, d, omega (arith, within), at, holds) in
+    (suc front.0, front.1, omega (arith, front.2), front.3, front.4)
+
+kept_front : (kept : List Pair) (rest : List Slot) (slot : Slot) (pair : Pair) → pair_in slot ≢ Some pair → IsKeptOrHeld kept (rest ++ slot ∷ []) pair → IsKeptOrHeld kept rest pair
+kept_front kept rest slot pair other (inl was) = inl was
+kept_front kept rest slot pair other (inr held) = inr (held_front rest slot pair other held)
+
+ended_front : (kept : List Pair) (rest : List Slot) (slot : Slot) (ended : Pair) (out : List Pair) → pair_in slot ≡ Some ended → All (IsKeptOrHeld kept (rest ++ slot ∷ [])) out
+    → All (IsKeptOrHeld kept rest) (without_claim ended out)
+ended_front kept rest slot ended out same held =
+    kept_pairs (IsKeptOrHeld kept (rest ++ slot ∷ [])) (IsKeptOrHeld kept rest) (λ other. not (same_pair ended other)) out
+    (λ other holds passes. kept_front kept rest slot other (λ e. not_it ended other passes (sym same ∙ e)) holds) held
+
+-- what the last slot holds is given up
+pub gave_up : (kept : List Pair) (rest : List Slot) (slot : Slot) (out : List Pair) → All (IsKeptOrHeld kept (rest ++ slot ∷ [])) out → All (IsKeptOrHeld kept rest) (out_without slot out)
+gave_up kept rest Empty out held = λ i d within. kept_front kept rest Empty (get_or out i d) (λ e. cc) (held i d within)
+gave_up kept rest (Claimed claim) out held = ended_front kept rest (Claimed claim) (pair_of_claim claim) out refl held
+gave_up kept rest (Expanded expanded) out held = ended_front kept rest (Expanded expanded) (pair_of_claim expanded.claim) out refl held
+
+-- no slot is left
+pub all_kept : (kept out : List Pair) → All (IsKeptOrHeld kept []) out → All (Contains kept) out
+all_kept kept out held i d within = by (held i d within) where
+  by : IsKeptOrHeld kept [] (get_or out i d) → Contains kept (get_or out i d)
+  by (inl was) = was
+  by (inr (j, slot, none, at, holds)) = absurd (omega (arith, none))
 
 -- The turn of octets that come
 
-pub sound_answered : (script next : Script) (k : ℕ) (connection : Connection) → IsSound script → IsServer next.server → GoesOn script.server next.server
-    → next.connections.items ≡ slice_set script.connections.items k connection → next.slots.items ≡ script.slots.items → IsSound next
-sound_answered script next k connection sound server on connections slots = record {
-  server = server;
-  connections = ap length connections ∙ (length-set script.connections.items k connection ∙ sound.connections);
+pub sound_answered : (users : List User) (kept : List Pair) (script next : Running) (k : ℕ) (connection : Connection) → IsSound users kept script → IsBookOf users next.book → GoesOn script.book next.book
+    → next.connections ≡ slice_set script.connections k connection → next.slots ≡ script.slots → IsSound users kept next
+sound_answered users kept script next k connection sound book on connections slots = record {
+  book_of = book;
+  connections = ap length connections ∙ (length-set script.connections k connection ∙ sound.connections);
   slots = ap length slots ∙ sound.slots;
-  claims = subst (λ xs. All (IsSlotIn next.server.book.work.journal) xs) (sym slots) (slots_stay script.server.book.work.journal next.server.book.work.journal script.slots.items on.grows sound.claims);
-  held = subst (λ xs. All (IsHeld xs) next.server.book.work.out) (sym slots) (subst (λ pairs. All (IsHeld script.slots.items) pairs) (sym on.out) sound.held);
+  claims = subst (λ xs. All (IsSlotIn next.book.work.journal) xs) (sym slots) (slots_stay script.book.work.journal next.book.work.journal script.slots on.grows sound.claims);
+  held = subst (λ xs. All (IsKeptOrHeld kept xs) next.book.work.out) (sym slots) (subst (λ pairs. All (IsKeptOrHeld kept script.slots) pairs) (sym on.out) sound.held);
 }
 
-stream_at : (standing : Standing) (script : Script) (k : ℕ) (d : Connection) → StandsAt standing script → k < length script.connections.items → Rests (stream_of standing k) (get_or script.connections.items k d)
+stream_at : (standing : Standing) (script : Running) (k : ℕ) (d : Connection) → StandsAt standing script → k < length script.connections → Rests (stream_of standing k) (get_or script.connections k d)
 stream_at standing script k d stands h =
-    subst (λ stream. Rests stream (get_or script.connections.items k d)) (sym (unwrap_or-slice_get standing.streams k [])) (side_at standing.streams script.connections.items k [] d stands.streams h)
+    subst (λ stream. Rests stream (get_or script.connections k d)) (sym (unwrap_or-slice_get standing.streams k [])) (side_at standing.streams script.connections k [] d stands.streams h)
 
-pub took_bytes : (users : List User) (standing : Standing) (script next : Script) (k moment : ℕ) (payload : List ℕ) (connection d : Connection) (written now : Option (List ℕ))
-    → StandsAt standing script → k < length script.connections.items → next.connections.items ≡ slice_set script.connections.items k connection
-    → ((stream : List ℕ) → Rests stream (get_or script.connections.items k d) → WroteAll users k moment stream payload (state_of script.server) (state_of next.server) written now)
-    → ((stream : List ℕ) → Rests stream (get_or script.connections.items k d) → Rests (stream ++ payload) connection)
+pub took_bytes : (users : List User) (standing : Standing) (script next : Running) (k moment : ℕ) (payload : List ℕ) (connection d : Connection) (written now : Option (List ℕ))
+    → StandsAt standing script → k < length script.connections → next.connections ≡ slice_set script.connections k connection
+    → ((stream : List ℕ) → Rests stream (get_or script.connections k d) → WroteAll users k moment stream payload (state_in script.book) (state_in next.book) written now)
+    → ((stream : List ℕ) → Rests stream (get_or script.connections k d) → Rests (stream ++ payload) connection)
     → TookTurn users (bytes k moment payload) standing next written now
 took_bytes users standing script next k moment payload connection d written now stands h connections all rests =
     let here = stream_at standing script k d stands h in
     let wrote = all (stream_of standing k) here in
     record {
       printed = wrote.printed;
-      after = record (fed standing k payload) { server = state_of next.server };
+      after = record (fed standing k payload) { server = state_in next.book };
       turn = record {
         done = wrote.prints.done;
         more = wrote.prints.more;
         before_them = wrote.prints.before_them;
         with_them = wrote.prints.with_them;
-        server = state_of next.server;
-        prints = subst (λ s. Prints users k moment s wrote.prints.more wrote.printed (state_of next.server)) (sym stands.server) wrote.prints.prints;
+        server = state_in next.book;
+        prints = subst (λ s. Prints users k moment s wrote.prints.more wrote.printed (state_in next.book)) (sym stands.server) wrote.prints.prints;
         stands = refl;
       };
       added = wrote.added;
       stands = record {
         server = refl;
         streams = subst (λ xs. AllZip Rests (slice_set standing.streams k (stream_of standing k ++ payload)) xs) (sym connections)
-            (side_set standing.streams script.connections.items k (stream_of standing k ++ payload) connection stands.streams (rests (stream_of standing k) here));
+            (side_set standing.streams script.connections k (stream_of standing k ++ payload) connection stands.streams (rests (stream_of standing k) here));
       };
     }
 
-pub took_bytes_in_part : (users : List User) (standing : Standing) (script : Script) (k moment : ℕ) (payload : List ℕ) (d : Connection) (written now : Option (List ℕ))
-    → StandsAt standing script → k < length script.connections.items
-    → ((stream : List ℕ) → Rests stream (get_or script.connections.items k d) → WroteInPart users k moment stream payload (state_of script.server) written now)
+pub took_bytes_in_part : (users : List User) (standing : Standing) (script : Running) (k moment : ℕ) (payload : List ℕ) (d : Connection) (written now : Option (List ℕ))
+    → StandsAt standing script → k < length script.connections
+    → ((stream : List ℕ) → Rests stream (get_or script.connections k d) → WroteInPart users k moment stream payload (state_in script.book) written now)
     → TookTurnInPart users (bytes k moment payload) standing written now
 took_bytes_in_part users standing script k moment payload d written now stands h part =
     let wrote = part (stream_of standing k) (stream_at standing script k d stands h) in
@@ -270,46 +315,58 @@ took_bytes_in_part users standing script k moment payload d written now stands h
       added = wrote.added;
     }
 
+pub broke_in_bytes : (users : List User) (standing : Standing) (script : Running) (k moment : ℕ) (payload : List ℕ) (d : Connection) (written now : Option (List ℕ))
+    → StandsAt standing script → k < length script.connections
+    → ((stream : List ℕ) → Rests stream (get_or script.connections k d) → WroteBefore users k moment stream payload (state_in script.book) written now)
+    → BrokeInTurn users (bytes k moment payload) standing written now
+broke_in_bytes users standing script k moment payload d written now stands h broke =
+    let wrote = broke (stream_of standing k) (stream_at standing script k d stands h) in
+    record {
+      connection = k;
+      moment = moment;
+      payload = payload;
+      is = refl;
+      printed = wrote.printed;
+      prints = subst (λ s. PrintsBefore users k moment (stream_of standing k) payload s wrote.printed) (sym stands.server) wrote.prints;
+      added = wrote.added;
+    }
+
 -- some stream stands at a connection
-pub some_stream : (script : Script) (k : ℕ) (d : Connection) → (standing : Standing) × StandsAt standing script → k < length script.connections.items
-    → (stream : List ℕ) × Rests stream (get_or script.connections.items k d)
+pub some_stream : (script : Running) (k : ℕ) (d : Connection) → (standing : Standing) × StandsAt standing script → k < length script.connections
+    → (stream : List ℕ) × Rests stream (get_or script.connections k d)
 some_stream script k d (standing, stands) h = (stream_of standing k, stream_at standing script k d stands h)
 
 -- The turn of a worker
 
-pub sound_turned : (script next : Script) (what : Action) (k : ℕ) (before after : Slot) → IsSound script → k < length script.slots.items → get_or script.slots.items k before ≡ before
-    → SlotTurn what before script.server.book.work after next.server.book.work → next.server.users ≡ script.server.users → next.server.book.users ≡ script.server.book.users
-    → next.connections.items ≡ script.connections.items → next.slots.items ≡ slice_set script.slots.items k after → IsSound next
-sound_turned script next what k before after sound h here turn users book_users connections slots =
-    let journal = turn_journal what before script.server.book.work after next.server.book.work turn in
-    let before_in : IsSlotIn script.server.book.work.journal before = subst (IsSlotIn script.server.book.work.journal) here (sound.claims k before h) in
+pub sound_turned : (users : List User) (kept : List Pair) (script next : Running) (what : Action) (k : ℕ) (before after : Slot) → IsSound users kept script → k < length script.slots → get_or script.slots k before ≡ before
+    → SlotTurn what before script.book.work after next.book.work → next.book.users ≡ script.book.users
+    → next.connections ≡ script.connections → next.slots ≡ slice_set script.slots k after → IsSound users kept next
+sound_turned users kept script next what k before after sound h here turn book_users connections slots =
+    let journal = turn_journal what before script.book.work after next.book.work turn in
+    let before_in : IsSlotIn script.book.work.journal before = subst (IsSlotIn script.book.work.journal) here (sound.claims k before h) in
     record {
-      server = record {
-        users = book_users ∙ (sound.server.users ∙ sym users);
-        legal = subst (λ (known : List User). IsLegal (directory_of known) next.server.book.work.journal) (sym users)
-            (subst (IsLegal (directory_of script.server.users)) (sym journal) sound.server.legal);
-      };
+      book_of = record { users_are = book_users ∙ sound.book_of.users_are; legal = subst (IsLegal (directory_of users)) (sym journal) sound.book_of.legal };
       connections = ap length connections ∙ sound.connections;
-      slots = ap length slots ∙ (length-set script.slots.items k after ∙ sound.slots);
-      claims = subst (λ xs. All (IsSlotIn next.server.book.work.journal) xs) (sym slots)
-          (subst (λ entries. All (IsSlotIn entries) (slice_set script.slots.items k after)) (sym journal)
-          (All-set (IsSlotIn script.server.book.work.journal) script.slots.items k after (turn_slot what before script.server.book.work after next.server.book.work turn before_in) sound.claims));
-      held = subst (λ xs. All (IsHeld xs) next.server.book.work.out) (sym slots)
-          (turn_held what script.slots.items k before after script.server.book.work next.server.book.work h here turn sound.held);
+      slots = ap length slots ∙ (length-set script.slots k after ∙ sound.slots);
+      claims = subst (λ xs. All (IsSlotIn next.book.work.journal) xs) (sym slots)
+          (subst (λ entries. All (IsSlotIn entries) (slice_set script.slots k after)) (sym journal)
+          (All-set (IsSlotIn script.book.work.journal) script.slots k after (turn_slot what before script.book.work after next.book.work turn before_in) sound.claims));
+      held = subst (λ xs. All (IsKeptOrHeld kept xs) next.book.work.out) (sym slots)
+          (turn_held kept what script.slots k before after script.book.work next.book.work h here turn sound.held);
     }
 
-pub stands_turned : (standing : Standing) (script next : Script) (what : Action) (before after : Slot)
-    → StandsAt standing script → SlotTurn what before script.server.book.work after next.server.book.work → next.server.book.users ≡ script.server.book.users
-    → next.connections.items ≡ script.connections.items → StandsAt standing next
+pub stands_turned : (standing : Standing) (script next : Running) (what : Action) (before after : Slot)
+    → StandsAt standing script → SlotTurn what before script.book.work after next.book.work → next.book.users ≡ script.book.users
+    → next.connections ≡ script.connections → StandsAt standing next
 stands_turned standing script next what before after stands turn book_users connections =
-    let journal = turn_journal what before script.server.book.work after next.server.book.work turn in
+    let journal = turn_journal what before script.book.work after next.book.work turn in
     record {
-      server = stands.server ∙ (ap (λ (known : List User). replay (directory_of known) script.server.book.work.journal) (sym book_users)
-          ∙ ap (λ entries. replay (directory_of next.server.book.users) entries) (sym journal));
+      server = stands.server ∙ (ap (λ (known : List User). replay (directory_of known) script.book.work.journal) (sym book_users)
+          ∙ ap (λ entries. replay (directory_of next.book.users) entries) (sym journal));
       streams = subst (AllZip Rests standing.streams) (sym connections) stands.streams;
     }
 
-pub took_worker : (users : List User) (standing : Standing) (next : Script) (what : Action) (k : ℕ) (written : Option (List ℕ))
+pub took_worker : (users : List User) (standing : Standing) (next : Running) (what : Action) (k : ℕ) (written : Option (List ℕ))
     → StandsAt standing next → TookTurn users (worker (step_of what) k) standing next written written
 took_worker users standing next what k written stands = record { printed = []; after = standing; turn = (refl, refl); added = adds_none written; stands = stands }
 
@@ -319,22 +376,15 @@ empty_slots_in : (journal : List Entry) (n : ℕ) → All (IsSlotIn journal) (re
 empty_slots_in journal zero = All-nil (IsSlotIn journal)
 empty_slots_in journal (suc n) = All-cons (IsSlotIn journal) Empty (replicate n Empty) tt (empty_slots_in journal n)
 
-pub sound_start : (script : Script) → script.server.book.users ≡ script.server.users → script.server.book.work ≡ record { journal = []; latest = pos 0; pieces = []; out = [] }
-    → AllZip Rests (replicate 16 []) script.connections.items → script.slots.items ≡ replicate 64 Empty → IsSound script
-sound_start script users work side slots = record {
-  server = record {
-    users = users;
-    legal = subst (λ (w : Work). IsLegal (directory_of script.server.users) w.journal) (sym work) tt;
-  };
-  connections = AllZip-long Rests (replicate 16 []) script.connections.items side ∙ length-replicate {A = List ℕ} 16 [];
+pub sound_start : (users : List User) (script : Running) → IsBookOf users script.book → AllZip Rests (replicate 16 []) script.connections → script.slots ≡ replicate 64 Empty
+    → IsSound users script.book.work.out script
+sound_start users script book side slots = record {
+  book_of = book;
+  connections = AllZip-long Rests (replicate 16 []) script.connections side ∙ length-replicate {A = List ℕ} 16 [];
   slots = ap length slots ∙ length-replicate 64 Empty;
-  claims = subst (λ xs. All (IsSlotIn script.server.book.work.journal) xs) (sym slots) (empty_slots_in script.server.book.work.journal 64);
-  held = subst (λ (w : Work). All (IsHeld script.slots.items) w.out) (sym work) (All-nil (IsHeld script.slots.items));
+  claims = subst (λ xs. All (IsSlotIn script.book.work.journal) xs) (sym slots) (empty_slots_in script.book.work.journal 64);
+  held = λ i d within. inl (Contains-get_or script.book.work.out i d within);
 }
 
-pub stands_start : (users : List User) (script : Script) → script.server.book.users ≡ users → script.server.book.work ≡ record { journal = []; latest = pos 0; pieces = []; out = [] }
-    → AllZip Rests (replicate 16 []) script.connections.items → StandsAt (at_start users) script
-stands_start users script e work side = record {
-  server = ap (λ (known : List User). opening_state (directory_of known)) (sym e) ∙ ap (λ (w : Work). replay (directory_of script.server.book.users) w.journal) (sym work);
-  streams = side;
-}
+pub stands_start : (script : Running) → AllZip Rests (replicate 16 []) script.connections → StandsAt (standing_in (state_in script.book)) script
+stands_start script side = record { server = refl; streams = side }

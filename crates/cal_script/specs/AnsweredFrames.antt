@@ -1,22 +1,22 @@
 -- How far the frames of some octets were answered, and what was written of their replies.
 -- Given: the users, and where the script stood.
-use Rattle.std.specs.Prelude.{◌≡◌, ℕ, ◌≤◌, List, ◌++◌, length, take, drop, All, Option}
-use Rattle.cal_base.specs.World.Outside.{Adds}
-use Rattle.cal_model.specs.Transcripts.ScriptFrames.{Frame, frames_text, IsFrame}
-use Rattle.cal_model.specs.Transcripts.Transcript.{Standing, Turn}
+use Rattle.std.specs.Prelude.{◌≡◌, ℕ, ◌≤◌, Bool, true, false, List, ◌++◌, length, take, drop, All, Option}
+use Rattle.cal_base.specs.World.Outside.{Rose, Adds}
+use Rattle.cal_model.specs.Transcripts.ScriptFrames.{Frame, bytes, frame_text, frames_text, IsFrame}
+use Rattle.cal_model.specs.Transcripts.Transcript.{Standing, Turn, stream_of}
 use Rattle.cal_model.specs.Transcripts.TranscriptLaws.{Leads}
 use Rattle.cal_model.specs.Users.UsersFile.{User}
+use Rattle.cal_script.specs.Answering.{PrintsBefore}
 use Rattle.cal_script.specs.FirstFrames.{NeverBeginsFrame}
 use Rattle.cal_script.specs.FrameHeads.{IsFrameStart}
-use Rattle.cal_script.specs.Standings.{StandsAt}
+use Rattle.cal_script.specs.Standings.{Running, StandsAt}
 use Rattle.cal_script.specs.declared.frames.Answering.{Answering}
-use Rattle.cal_script.specs.declared.frames.Answering.TheVariants.{Cut, Bad, OutputFault, NoMemory}
-use Rattle.cal_script.specs.declared.script.Script.{Script}
+use Rattle.cal_script.specs.declared.frames.Answering.TheVariants.{Cut, Bad, OutputFault, NoMemory, Broken}
 
 -- One frame
 
 -- a frame was answered: what it prints was written, and the script stands where the frame leaves it
-pub record TookTurn (users : List User) (frame : Frame) (before : Standing) (script : Script) (written now : Option (List ℕ)) : Type 0 where
+pub record TookTurn (users : List User) (frame : Frame) (before : Standing) (script : Running) (written now : Option (List ℕ)) : Type 0 where
   pub printed : List ℕ
   pub after : Standing
   pub turn : Turn users before frame printed after
@@ -31,10 +31,20 @@ pub record TookTurnInPart (users : List User) (frame : Frame) (before : Standing
   pub turn : Turn users before frame (printed ++ missing) after
   pub added : Adds written printed now
 
+-- the desk told its fault when a request was asked that the frame completes: what is printed for those before it was written, and nothing else
+pub record BrokeInTurn (users : List User) (frame : Frame) (before : Standing) (written now : Option (List ℕ)) : Type 0 where
+  pub connection : ℕ
+  pub moment : ℕ
+  pub payload : List ℕ
+  pub is : frame ≡ bytes connection moment payload
+  pub printed : List ℕ
+  pub prints : PrintsBefore users connection moment (stream_of before connection) payload before.server printed
+  pub added : Adds written printed now
+
 -- Frames
 
 -- the octets are whole frames; what they print was written, and the script stands where they leave it
-pub record AnsweredWhole (users : List User) (octets : List ℕ) (before : Standing) (script : Script) (written now : Option (List ℕ)) : Type 0 where
+pub record AnsweredWhole (users : List User) (octets : List ℕ) (before : Standing) (script : Running) (written now : Option (List ℕ)) : Type 0 where
   pub frames : List Frame
   pub bounds : All IsFrame frames
   pub spelled : octets ≡ frames_text frames
@@ -56,14 +66,35 @@ pub record AnsweredInPart (users : List User) (octets : List ℕ) (before : Stan
   pub leads : Leads users before frames (printed ++ missing) after
   pub added : Adds written printed now
 
+-- the desk told its fault in the turn of a frame: what those before it print was written, and then what its requests print that come before the one that was asked
+pub record BrokeAmong (users : List User) (octets : List ℕ) (before : Standing) (written now : Option (List ℕ)) : Type 0 where
+  pub frames : List Frame
+  pub bounds : All IsFrame frames
+  pub frame : Frame
+  pub is_frame : IsFrame frame
+  pub behind : List ℕ
+  pub spelled : octets ≡ frames_text frames ++ (frame_text frame ++ behind)
+  pub printed : List ℕ
+  pub there : Standing
+  pub leads : Leads users before frames printed there
+  pub middle : Option (List ℕ)
+  pub added : Adds written printed middle
+  pub last : BrokeInTurn users frame there middle now
+
 -- so many octets in front are whole frames that were answered
-pub record AnsweredTo (users : List User) (len : ℕ) (octets : List ℕ) (before : Standing) (script : Script) (written now : Option (List ℕ)) : Type 0 where
+pub record AnsweredTo (users : List User) (len : ℕ) (octets : List ℕ) (before : Standing) (script : Running) (written now : Option (List ℕ)) : Type 0 where
   pub within : len ≤ length octets
   pub whole : AnsweredWhole users (take len octets) before script written now
 
 -- what is said of an end of answering is so
-abbrev pub HasAnswered : List User → Answering → List ℕ → Standing → Script → Option (List ℕ) → Option (List ℕ) → Type 0
+abbrev pub HasAnswered : {X : Type 0} → List User → Answering X → List ℕ → Standing → Running → Option (List ℕ) → Option (List ℕ) → Type 0
 HasAnswered users (Cut len) octets before script written now = AnsweredTo users len octets before script written now × IsFrameStart (drop len octets)
 HasAnswered users (Bad len) octets before script written now = AnsweredTo users len octets before script written now × NeverBeginsFrame (drop len octets)
 HasAnswered users OutputFault octets before script written now = AnsweredInPart users octets before written now
 HasAnswered users NoMemory octets before script written now = AnsweredInPart users octets before written now
+HasAnswered users (Broken fault) octets before script written now = BrokeAmong users octets before written now
+
+-- whether the desk is broken, as `IsBrokenBy` says it of one turn
+abbrev pub IsLeftBy : {X : Type 0} → Answering X → Bool → ℕ → Bool → ℕ → Type 0
+IsLeftBy (Broken fault) before count after counted = (after ≡ true) × (before ≡ false → Rose count counted)
+IsLeftBy other before count after counted = after ≡ before

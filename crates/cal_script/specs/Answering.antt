@@ -1,48 +1,45 @@
 -- Answering what the octets of one frame complete: what is printed, and the state after it.
 -- Given: the users, the number of a connection and a moment.
-use Rattle.std.specs.Prelude.{◌≡◌, ℕ, List, ◌++◌, take, pos, Option, Result, IfOk}
-use Rattle.cal_base.specs.World.Outside.{Adds}
-use Rattle.cal_base.specs.declared.no_memory.NoMemory.{NoMemory}
+use Rattle.std.specs.Prelude.{◌≡◌, ℕ, Bool, true, false, List, ◌∷◌, ◌++◌, take, pos, Option, Result, Ok, Err}
+use Rattle.cal_base.specs.World.Outside.{Rose, Adds}
 use Rattle.cal_model.specs.declared.wire.WireRequest.{WireRequest}
 use Rattle.cal_model.specs.History.Journal.{Entry, IsLegal}
 use Rattle.cal_model.specs.Replies.WireReplies.{answer_octets}
 use Rattle.cal_model.specs.State.ServerState.{ServerState, directory_of}
-use Rattle.cal_model.specs.Transcripts.ConnectionAnswers.{Completed, Completes}
+use Rattle.cal_model.specs.Transcripts.ConnectionAnswers.{Completed, whole, Completes}
 use Rattle.cal_model.specs.Transcripts.ScriptFrames.{reply_frame}
 use Rattle.cal_model.specs.Transcripts.Transcript.{Answer, IsAnswer, Prints}
 use Rattle.cal_model.specs.Users.UsersFile.{User}
-use Rattle.cal_book.specs.Cores.{state_in}
-use Rattle.cal_script.specs.declared.server.Server.{Server}
-
--- the state of a server
-abbrev pub state_of : Server → ServerState
-state_of server = state_in server.book
-
--- the book of a server is of its users, and legal
-pub record IsServer (server : Server) : Type 0 where
-  pub users : server.book.users ≡ server.users
-  pub legal : IsLegal (directory_of server.users) server.book.work.journal
+use Rattle.cal_book.specs.Cores.{Core}
+use Rattle.cal_book.specs.declared.desk.Told.{Told}
+use Rattle.cal_book.specs.declared.desk.Told.TheVariants.{Reply, Broken as ToldBroken}
+use Rattle.cal_script.specs.declared.answering.Stop.{Stop}
+use Rattle.cal_script.specs.declared.answering.Stop.TheVariants.{Unwritten, Broken}
 
 -- a journal has grown
 abbrev pub Grows : List Entry → List Entry → Type 0
 Grows before after = (more : List Entry) × (after ≡ before ++ more)
 
--- answering changes nothing of who is served and of the claims that are out; the journal grows
-pub record GoesOn (before after : Server) : Type 0 where
-  pub users : after.users ≡ before.users
-  pub out : after.book.work.out ≡ before.book.work.out
-  pub grows : Grows before.book.work.journal after.book.work.journal
+-- the book is of these users, and legal
+pub record IsBookOf (users : List User) (book : Core) : Type 0 where
+  pub users_are : book.users ≡ users
+  pub legal : IsLegal (directory_of users) book.work.journal
+
+-- answering changes nothing of the claims that are out; the journal grows
+pub record GoesOn (before after : Core) : Type 0 where
+  pub out : after.work.out ≡ before.work.out
+  pub grows : Grows before.work.journal after.work.journal
 
 -- the answer to a request
 abbrev pub answer_frame : ℕ → ℕ → ℕ → WireRequest → Answer → List ℕ
 answer_frame number moment before wire given = reply_frame number (answer_octets before wire given.reply (pos moment))
 
--- a request was answered, and these are the octets of the reply, if there was memory for them
-pub record IsAnswered (users : List User) (number moment before : ℕ) (wire : WireRequest) (state after : ServerState) (octets : Result (List ℕ) NoMemory) : Type 0 where
+-- a request was answered, and these are the octets of the reply
+pub record IsAnswered (users : List User) (number moment before : ℕ) (wire : WireRequest) (state after : ServerState) (octets : List ℕ) : Type 0 where
   pub given : Answer
   pub is : IsAnswer users state number moment wire given
   pub stands : after ≡ given.server
-  pub octets_are : IfOk octets (λ written. written ≡ answer_octets before wire given.reply (pos moment))
+  pub octets_are : octets ≡ answer_octets before wire given.reply (pos moment)
 
 -- a request was answered, and its reply written
 pub record WroteAnswer (users : List User) (number moment before : ℕ) (wire : WireRequest) (state after : ServerState) (written now : Option (List ℕ)) : Type 0 where
@@ -79,3 +76,45 @@ pub record WroteInPart (users : List User) (number moment : ℕ) (stream payload
   pub after : ServerState
   pub prints : PrintsMore users number moment stream payload state (printed ++ missing) after
   pub added : Adds written printed now
+
+-- The desk told its fault when a request was asked that the octets complete: what is printed for those before it.
+pub record PrintsBefore (users : List User) (number moment : ℕ) (stream payload : List ℕ) (state : ServerState) (printed : List ℕ) : Type 0 where
+  pub done : List Completed
+  pub more : List Completed
+  pub place : ℕ
+  pub wire : WireRequest
+  pub behind : List Completed
+  pub before_them : Completes stream done
+  pub with_them : Completes (stream ++ payload) (done ++ (more ++ whole place wire ∷ behind))
+  pub server : ServerState
+  pub prints : Prints users number moment state more printed server
+
+-- it was written, and nothing else
+pub record WroteBefore (users : List User) (number moment : ℕ) (stream payload : List ℕ) (state : ServerState) (written now : Option (List ℕ)) : Type 0 where
+  pub printed : List ℕ
+  pub prints : PrintsBefore users number moment stream payload state printed
+  pub added : Adds written printed now
+
+-- Stops
+
+-- what holds where something stopped short, and what where the desk told its fault
+abbrev pub StopsBy : {X : Type 0} → Stop X → Type 0 → Type 0 → Type 0
+StopsBy (Unwritten why) short broken = short
+StopsBy (Broken fault) short broken = broken
+
+abbrev pub StopsSo : {T X : Type 0} → Result T (Stop X) → Type 0 → Type 0 → Type 0
+StopsSo (Ok value) short broken = Unit {0}
+StopsSo (Err stop) short broken = StopsBy stop short broken
+
+-- Whether the desk is broken does not change, unless it told its fault: then it is, and it was so before or a fault was counted.
+abbrev pub IsStoppedBy : {X : Type 0} → Stop X → Bool → ℕ → Bool → ℕ → Type 0
+IsStoppedBy (Unwritten why) before count after counted = after ≡ before
+IsStoppedBy (Broken fault) before count after counted = (after ≡ true) × (before ≡ false → Rose count counted)
+
+abbrev pub IsBrokenBy : {T X : Type 0} → Result T (Stop X) → Bool → ℕ → Bool → ℕ → Type 0
+IsBrokenBy (Ok value) before count after counted = after ≡ before
+IsBrokenBy (Err stop) before count after counted = IsStoppedBy stop before count after counted
+
+abbrev pub IsToldBy : {X : Type 0} → Told X → Bool → ℕ → Bool → ℕ → Type 0
+IsToldBy (Reply reply) before count after counted = after ≡ before
+IsToldBy (ToldBroken fault) before count after counted = (after ≡ true) × (before ≡ false → Rose count counted)

@@ -7,3 +7,4 @@ pub mod SlotTurns
 pub mod Standings
 pub mod AnsweredFrames
 pub mod ScriptEnds
+pub mod ReadersSight

@@ -1,13 +1,20 @@
 -- How a run of a script ends.
 -- Given: what the input told before and after the run, and what the output did.
-use Rattle.std.specs.Prelude.{◌≡◌, ◌≢◌, ◌⊎◌, ℕ, ◌+◌, List, [], ◌∷◌, length, bytes_eq, not, ◌&&◌, if◌then◌else◌, Option, Some, None, IfSome, codes}
-use Rattle.cal_base.specs.World.Outside.{Takes, Adds}
-use Rattle.cal_model.specs.Transcripts.Transcript.{IsPrinted, IsPrintedInPart}
+use Rattle.std.specs.Prelude.{◌≡◌, ◌≢◌, ◌⊎◌, ℕ, ◌+◌, List, [], ◌∷◌, length, bytes_eq, not, ◌&&◌, Bool, true, false, All, ◌++◌, if◌then◌else◌, Option, Some, None, IfSome, codes}
+use Rattle.cal_base.specs.World.Outside.{Rose, Takes, Adds}
+use Rattle.cal_model.specs.State.ServerState.{ServerState}
+use Rattle.cal_model.specs.Transcripts.ScriptFrames.{Frame as ScriptFrame, frames_text, IsFrame, IsCutInto}
+use Rattle.cal_model.specs.Transcripts.Transcript.{Standing, Follows}
+use Rattle.cal_model.specs.Transcripts.TranscriptLaws.{Leads}
 use Rattle.cal_model.specs.Users.UsersFile.{User}
+use Rattle.cal_script.specs.AnsweredFrames.{BrokeAmong}
 use Rattle.cal_script.specs.FrameHeads.{IsFrameStart}
+use Rattle.cal_script.specs.Standings.{standing_in}
 use Rattle.cal_script.specs.UsersTaken.{AreUsersOf}
 use Rattle.cal_script.specs.declared.running.FrameEnd.{FrameEnd}
 use Rattle.cal_script.specs.declared.running.FrameEnd.TheVariants.{Done, Frame, Input, Output, NoMemory}
+use Rattle.cal_script.specs.declared.running.FramesOn.{FramesOn}
+use Rattle.cal_script.specs.declared.running.FramesOn.TheVariants.{End, Broken}
 
 -- Words
 
@@ -43,51 +50,90 @@ EndsInPart status = (status ≡ 5) ⊎ (status ≡ 7)
 abbrev pub HasPlace : ℕ → Type 0
 HasPlace status = (status ≡ 0) ⊎ (status ≡ 3) ⊎ (status ≡ 6)
 
--- Frames
+-- What is printed
 
--- the input was read to its end, and the output is what a script may print for all of it, whose length is the place
-pub record RanToEnd (users : List User) (left left_after written written_after : Option (List ℕ)) (place : ℕ) : Type 0 where
-  pub all : List ℕ
-  pub told : IfSome left (λ octets. octets ≡ all)
-  pub ended : left_after ≡ Some []
-  pub printed : List ℕ
-  pub follows : IsPrinted users all [] printed
-  pub added : Adds written printed written_after
-  pub place_is : place ≡ length all
+-- the output is what may be printed for the whole frames of these octets, which end before the rest, from where a script stands; and they lead to that state
+pub record IsPrintedFrom (users : List User) (before : Standing) (server : ServerState) (input rest output : List ℕ) : Type 0 where
+  pub frames : List ScriptFrame
+  pub cut : IsCutInto input frames rest
+  pub after : Standing
+  pub leads : Leads users before frames output after
+  pub state : after.server ≡ server
 
--- the output is what a script may print for the frames of the input that stand before the place, where no frame begins
-pub record MetBadFrame (users : List User) (left written written_after : Option (List ℕ)) (place : ℕ) : Type 0 where
-  pub all : List ℕ
-  pub told : IfSome left (λ octets. octets ≡ all)
-  pub rest : List ℕ
-  pub some : rest ≢ []
-  pub printed : List ℕ
-  pub follows : IsPrinted users all rest printed
-  pub added : Adds written printed written_after
-  pub place_is : place + length rest ≡ length all
+-- the output is a beginning of what may be printed for whole frames at the start of these octets, from where a script stands
+pub record IsPrintedInPartFrom (users : List User) (before : Standing) (input output : List ℕ) : Type 0 where
+  pub frames : List ScriptFrame
+  pub bounds : All IsFrame frames
+  pub behind : List ℕ
+  pub spelled : input ≡ frames_text frames ++ behind
+  pub missing : List ℕ
+  pub follows : Follows users before frames (output ++ missing)
 
--- the output is what a script may print for what was taken from the input, and what stands behind the whole frames of it is the start of a frame
-pub record StoppedReading (users : List User) (left left_after written written_after : Option (List ℕ)) : Type 0 where
-  pub taken : List ℕ
-  pub took : Takes left taken left_after
-  pub rest : List ℕ
-  pub start : IsFrameStart rest
-  pub printed : List ℕ
-  pub follows : IsPrinted users taken rest printed
-  pub added : Adds written printed written_after
+-- Ends of a run, by what may be printed for some octets and a rest (`prints`), and as a beginning (`front_prints`)
 
--- the output is a beginning of what a script may print for whole frames at the start of the input
-pub record WroteFront (users : List User) (left written written_after : Option (List ℕ)) : Type 0 where
+module _ (prints : List ℕ → List ℕ → List ℕ → Type 0) where
+  -- the input was read to its end, and the output is what may be printed for all of it, whose length is the place
+  pub record RanToEnd (left left_after written written_after : Option (List ℕ)) (place : ℕ) : Type 0 where
+    pub all : List ℕ
+    pub told : IfSome left (λ octets. octets ≡ all)
+    pub ended : left_after ≡ Some []
+    pub printed : List ℕ
+    pub follows : prints all [] printed
+    pub added : Adds written printed written_after
+    pub place_is : place ≡ length all
+
+  -- the output is what may be printed for the frames of the input that stand before the place, where no frame begins
+  pub record MetBadFrame (left written written_after : Option (List ℕ)) (place : ℕ) : Type 0 where
+    pub all : List ℕ
+    pub told : IfSome left (λ octets. octets ≡ all)
+    pub rest : List ℕ
+    pub some : rest ≢ []
+    pub printed : List ℕ
+    pub follows : prints all rest printed
+    pub added : Adds written printed written_after
+    pub place_is : place + length rest ≡ length all
+
+  -- the output is what may be printed for what was taken from the input, and what stands behind the whole frames of it is the start of a frame
+  pub record StoppedReading (left left_after written written_after : Option (List ℕ)) : Type 0 where
+    pub taken : List ℕ
+    pub took : Takes left taken left_after
+    pub rest : List ℕ
+    pub start : IsFrameStart rest
+    pub printed : List ℕ
+    pub follows : prints taken rest printed
+    pub added : Adds written printed written_after
+
+-- the output is a beginning of what may be printed for whole frames at the start of the input
+pub record WroteFront (front_prints : List ℕ → List ℕ → Type 0) (left written written_after : Option (List ℕ)) : Type 0 where
   pub input : List ℕ
   pub told : IfSome left (λ octets. octets ≡ input)
   pub printed : List ℕ
-  pub follows : IsPrintedInPart users input printed
+  pub follows : front_prints input printed
   pub added : Adds written printed written_after
 
 -- what is said of the end of a run is so
-abbrev pub HasEnded : List User → FrameEnd → Option (List ℕ) → Option (List ℕ) → Option (List ℕ) → Option (List ℕ) → Type 0
-HasEnded users (Done place) left left_after written written_after = RanToEnd users left left_after written written_after place
-HasEnded users (Frame place) left left_after written written_after = MetBadFrame users left written written_after place
-HasEnded users Input left left_after written written_after = StoppedReading users left left_after written written_after
-HasEnded users Output left left_after written written_after = WroteFront users left written written_after
-HasEnded users NoMemory left left_after written written_after = WroteFront users left written written_after
+abbrev pub HasEnded : (List ℕ → List ℕ → List ℕ → Type 0) → (List ℕ → List ℕ → Type 0) → FrameEnd → Option (List ℕ) → Option (List ℕ) → Option (List ℕ) → Option (List ℕ) → Type 0
+HasEnded prints front_prints (Done place) left left_after written written_after = RanToEnd prints left left_after written written_after place
+HasEnded prints front_prints (Frame place) left left_after written written_after = MetBadFrame prints left written written_after place
+HasEnded prints front_prints Input left left_after written written_after = StoppedReading prints left left_after written written_after
+HasEnded prints front_prints Output left left_after written written_after = WroteFront front_prints left written written_after
+HasEnded prints front_prints NoMemory left left_after written written_after = WroteFront front_prints left written written_after
+
+-- Runs at a desk
+
+-- the desk told its fault when a request was asked that a frame of the input completes: the output is what is printed for the frames before that one, and for its requests before that request
+pub record BrokeOff (users : List User) (before : Standing) (left written written_after : Option (List ℕ)) : Type 0 where
+  pub input : List ℕ
+  pub told : IfSome left (λ octets. octets ≡ input)
+  pub broke : BrokeAmong users input before written written_after
+
+-- what is said of a run is so, from the desk's state before it to that after it
+abbrev pub HasEndedOn : {X : Type 0} → List User → ServerState → ServerState → FramesOn X → Option (List ℕ) → Option (List ℕ) → Option (List ℕ) → Option (List ℕ) → Type 0
+HasEndedOn users before after (End ended) left left_after written written_after =
+    HasEnded (IsPrintedFrom users (standing_in before) after) (IsPrintedInPartFrom users (standing_in before)) ended left left_after written written_after
+HasEndedOn users before after (Broken fault) left left_after written written_after = BrokeOff users (standing_in before) left written written_after
+
+-- whether the desk is broken does not change, unless it told its fault: then it is, and it was so before or a fault was counted
+abbrev pub IsLeft : {X : Type 0} → FramesOn X → Bool → ℕ → Bool → ℕ → Type 0
+IsLeft (End ended) before count after counted = after ≡ before
+IsLeft (Broken fault) before count after counted = (after ≡ true) × (before ≡ false → Rose count counted)

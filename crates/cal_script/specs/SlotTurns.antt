@@ -1,5 +1,6 @@
 -- The slots of workers: what each holds of the book's claims, and what a worker's frame does with one.
 use Rattle.std.specs.Prelude.{◌≡◌, ◌⊎◌, List, Option, Some, None}
+use Rattle.std.specs.List.{Any, Contains}
 use Rattle.cal_model.specs.History.Claims.{Pair, Work, next_claim, with_claim, without_claim}
 use Rattle.cal_model.specs.History.Journal.{Entry}
 use Rattle.cal_book.specs.Publishing.{IsClaimIn, pair_of_claim}
@@ -55,3 +56,17 @@ SlotTurn action.Publish (Expanded expanded) work after now = EndsClaim (pair_of_
 SlotTurn action.Abandon (Claimed claim) work after now = EndsClaim (pair_of_claim claim) work after now
 SlotTurn action.Abandon (Expanded expanded) work after now = EndsClaim (pair_of_claim expanded.claim) work after now
 SlotTurn other before work after now = Nothing before work after now
+
+-- the pairs that are out once the claim of a slot was given up
+abbrev pub out_without : Slot → List Pair → List Pair
+out_without Empty out = out
+out_without (Claimed claim) out = without_claim (pair_of_claim claim) out
+out_without (Expanded expanded) out = without_claim (pair_of_claim expanded.claim) out
+
+-- a slot holds the pair
+abbrev pub IsHeld : List Slot → Pair → Type 0
+IsHeld slots pair = Any (λ slot. pair_in slot ≡ Some pair) slots
+
+-- a pair is one of these, or a slot holds it
+abbrev pub IsKeptOrHeld : List Pair → List Slot → Pair → Type 0
+IsKeptOrHeld kept slots pair = Contains kept pair ⊎ IsHeld slots pair

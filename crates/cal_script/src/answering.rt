@@ -1,65 +1,79 @@
 //! Answering what the octets of one frame complete on their connection.
-ghost use Rattle.std.specs.Prelude.{◌≡◌, ◌≤◌, ◌<◌, ◌++◌, ℕ, List, length, OnOk, OnErr, IsErrOf, pos, take};
+ghost use Rattle.std.specs.Prelude.{◌≡◌, ◌≤◌, ◌<◌, ◌++◌, ℕ, List, length, OnOk, IsErrOf, pos, take};
 ghost use Rattle.cal_base.specs.World.Outside.{Rose, Adds};
+ghost use Rattle.cal_book.specs.Cores.{state_in};
 ghost use Rattle.cal_model.specs.Streams.WireLimits.{body_limit, request_limit};
 ghost use Rattle.cal_model.specs.Transcripts.ScriptFrames.{reply_frame};
 ghost use Rattle.cal_model.specs.Replies.WireReplies as spec;
 ghost use Rattle.cal_model.specs.Words.Limits.{last_moment};
-ghost use Rattle.cal_script.specs.Answering.{IsServer, GoesOn, state_of, WroteAnswer, WroteAnswerInPart, WroteAll, WroteInPart};
+ghost use Rattle.cal_script.specs.Answering.{IsBookOf, GoesOn, WroteAnswer, WroteAnswerInPart, WroteAll, WroteInPart, WroteBefore, StopsSo, IsBrokenBy};
 ghost use Rattle.cal_script.specs.Readings.{Rests};
 
 use crate::connections::{Connection, Due};
 use crate::frame::Arrival;
 use crate::reply_frame::write_frame;
 use crate::replying::{answer, seconds};
-use crate::server::Server;
 use cal_base::{Sink, Steps};
+use cal_book::Desk;
 use http_wire::{WireFault, WireRequest, write_fault};
+use privileges::Users;
 use std::alloc::Global;
 use std::sync::ledger::Ledger;
 
-/// Why a frame was not answered.
-pub(crate) enum Stop {
+/// Why nothing more is written.
+#[derive(Clone, Copy)]
+pub(crate) enum Unwritten {
     /// A write failed.
     Output,
     /// There was no memory.
     NoMemory,
 }
 
+/// Why a frame was not answered.
+#[derive(Drop)]
+pub(crate) enum Stop<X> {
+    Unwritten(Unwritten),
+    /// The desk is broken, and told so when it was asked.
+    Broken(X),
+}
+
 /// Feeds the octets to their connection, and answers one after the other what they complete there:
 /// requests, and perhaps a fault behind them.
-pub(crate) fn answer_arrival<O: Sink, L: Ledger>(
+pub(crate) fn answer_arrival<B: Desk, O: Sink, L: Ledger>(
     alloc: Global,
-    server: &mut Server,
+    desk: &mut B,
+    users: &Users,
     connection: &mut Connection,
     arrival: Arrival<'_>,
     output: &mut O,
     steps: &mut Steps<L>,
-) -> Result<(), Stop>
-    requires server { IsServer server.old }
+) -> Result<(), Stop<B::Fault>>
+    requires book { IsBookOf users.now (B.book desk.old) }
     requires reads { (stream : List ℕ) × Rests stream connection.old }
     requires moment { arrival.moment ≤ last_moment }
-    ensures all { OnOk result ((stream : List ℕ) → Rests stream connection.old → WroteAll server.old.users arrival.entry.connection arrival.entry.moment stream arrival.entry.payload.now (state_of server.old) (state_of server.new) (O.written output.old) (O.written output.new)) }
-    ensures in_part { OnErr result ((stream : List ℕ) → Rests stream connection.old → WroteInPart server.old.users arrival.entry.connection arrival.entry.moment stream arrival.entry.payload.now (state_of server.old) (O.written output.old) (O.written output.new)) }
+    ensures all { OnOk result ((stream : List ℕ) → Rests stream connection.old → WroteAll users.now arrival.entry.connection arrival.entry.moment stream arrival.entry.payload.now (state_in (B.book desk.old)) (state_in (B.book desk.new)) (O.written output.old) (O.written output.new)) }
+    ensures stopped { StopsSo result ((stream : List ℕ) → Rests stream connection.old → WroteInPart users.now arrival.entry.connection arrival.entry.moment stream arrival.entry.payload.now (state_in (B.book desk.old)) (O.written output.old) (O.written output.new)) ((stream : List ℕ) → Rests stream connection.old → WroteBefore users.now arrival.entry.connection arrival.entry.moment stream arrival.entry.payload.now (state_in (B.book desk.old)) (O.written output.old) (O.written output.new)) }
     ensures rests { OnOk result ((stream : List ℕ) → Rests stream connection.old → Rests (stream ++ arrival.entry.payload.now) connection.new) }
-    ensures server { IsServer server.new }
-    ensures goes_on { GoesOn server.old server.new }
-    ensures fault { IsErrOf result Stop.Output → Rose (O.faults output.old) (O.faults output.new) }
+    ensures book { IsBookOf users.now (B.book desk.new) }
+    ensures goes_on { GoesOn (B.book desk.old) (B.book desk.new) }
+    ensures broken { IsBrokenBy result (B.broken desk.old) (B.faults desk.old) (B.broken desk.new) (B.faults desk.new) }
+    ensures desk_never_falls { B.faults desk.old ≤ B.faults desk.new }
+    ensures fault { IsErrOf result (Stop.Unwritten Unwritten.Output) → Rose (O.faults output.old) (O.faults output.new) }
     ensures never_falls { O.faults output.old ≤ O.faults output.new }
 {
     let Ok(()) = connection.feed(alloc, arrival.payload) else {
-        return Err(Stop::NoMemory);
+        return Err(Stop::Unwritten(Unwritten::NoMemory));
     };
     'due: loop {
         match connection.next(alloc) {
             Due::Nothing => return Ok(()),
-            Due::NoMemory => return Err(Stop::NoMemory),
+            Due::NoMemory => return Err(Stop::Unwritten(Unwritten::NoMemory)),
             Due::Fault(why) => match answer_fault(alloc, arrival, why, output) {
                 Ok(()) => {}
-                Err(stop) => return Err(stop),
+                Err(why) => return Err(Stop::Unwritten(why)),
             },
             Due::Request(before, wire) => {
-                match answer_request(alloc, server, arrival, before, wire, output, steps) {
+                match answer_request(alloc, desk, users, arrival, before, &wire, output, steps) {
                     Ok(()) => {}
                     Err(stop) => return Err(stop),
                 }
@@ -69,30 +83,37 @@ pub(crate) fn answer_arrival<O: Sink, L: Ledger>(
 }
 
 /// Answers one request, and writes the reply.
-fn answer_request<O: Sink, L: Ledger>(
+fn answer_request<B: Desk, O: Sink, L: Ledger>(
     alloc: Global,
-    server: &mut Server,
+    desk: &mut B,
+    users: &Users,
     arrival: Arrival<'_>,
     before: usize,
-    wire: WireRequest,
+    wire: &WireRequest,
     output: &mut O,
     steps: &mut Steps<L>,
-) -> Result<(), Stop>
-    requires server { IsServer server.old }
+) -> Result<(), Stop<B::Fault>>
+    requires book { IsBookOf users.now (B.book desk.old) }
     requires moment { arrival.moment ≤ last_moment }
     requires before { before < request_limit }
-    requires body { length wire.body ≤ body_limit }
-    ensures whole { OnOk result (WroteAnswer server.old.users arrival.entry.connection arrival.entry.moment before wire (state_of server.old) (state_of server.new) (O.written output.old) (O.written output.new)) }
-    ensures in_part { OnErr result (WroteAnswerInPart server.old.users arrival.entry.connection arrival.entry.moment before wire (state_of server.old) (O.written output.old) (O.written output.new)) }
-    ensures server { IsServer server.new }
-    ensures goes_on { GoesOn server.old server.new }
-    ensures fault { IsErrOf result Stop.Output → Rose (O.faults output.old) (O.faults output.new) }
+    requires body { length wire.now.body ≤ body_limit }
+    ensures whole { OnOk result (WroteAnswer users.now arrival.entry.connection arrival.entry.moment before wire.now (state_in (B.book desk.old)) (state_in (B.book desk.new)) (O.written output.old) (O.written output.new)) }
+    ensures stopped { StopsSo result (WroteAnswerInPart users.now arrival.entry.connection arrival.entry.moment before wire.now (state_in (B.book desk.old)) (O.written output.old) (O.written output.new)) (O.written output.new ≡ O.written output.old) }
+    ensures book { IsBookOf users.now (B.book desk.new) }
+    ensures goes_on { GoesOn (B.book desk.old) (B.book desk.new) }
+    ensures broken { IsBrokenBy result (B.broken desk.old) (B.faults desk.old) (B.broken desk.new) (B.faults desk.new) }
+    ensures desk_never_falls { B.faults desk.old ≤ B.faults desk.new }
+    ensures fault { IsErrOf result (Stop.Unwritten Unwritten.Output) → Rose (O.faults output.old) (O.faults output.new) }
     ensures never_falls { O.faults output.old ≤ O.faults output.new }
 {
-    let Ok(octets) = answer(alloc, server, arrival, before, wire, steps) else {
-        return Err(Stop::NoMemory);
-    };
-    write_frame(alloc, arrival.connection, octets.as_slice(), output)
+    match answer(alloc, desk, users, arrival, before, wire, steps) {
+        Ok(octets) => match write_frame(alloc, arrival.connection, octets.as_slice(), output) {
+            Ok(()) => Ok(()),
+            Err(why) => Err(Stop::Unwritten(why)),
+        },
+        Err(Stop::Unwritten(_)) => Err(Stop::Unwritten(Unwritten::NoMemory)),
+        Err(Stop::Broken(fault)) => Err(Stop::Broken(fault)),
+    }
 }
 
 /// Answers a fault of a connection.
@@ -101,15 +122,15 @@ fn answer_fault<O: Sink>(
     arrival: Arrival<'_>,
     why: WireFault,
     output: &mut O,
-) -> Result<(), Stop>
+) -> Result<(), Unwritten>
     requires moment { arrival.moment ≤ last_moment }
     ensures whole { OnOk result (Adds (O.written output.old) (reply_frame arrival.entry.connection (spec.fault_octets why (pos arrival.entry.moment))) (O.written output.new)) }
     ensures in_part { (many : ℕ) × Adds (O.written output.old) (take many (reply_frame arrival.entry.connection (spec.fault_octets why (pos arrival.entry.moment)))) (O.written output.new) }
-    ensures fault { IsErrOf result Stop.Output → Rose (O.faults output.old) (O.faults output.new) }
+    ensures fault { IsErrOf result Unwritten.Output → Rose (O.faults output.old) (O.faults output.new) }
     ensures never_falls { O.faults output.old ≤ O.faults output.new }
 {
     let Ok(octets) = write_fault(alloc, why, seconds(arrival.moment)) else {
-        return Err(Stop::NoMemory);
+        return Err(Unwritten::NoMemory);
     };
     write_frame(alloc, arrival.connection, octets.as_slice(), output)
 }

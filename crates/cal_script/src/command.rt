@@ -1,10 +1,13 @@
 //! The command `script`.
 ghost use Rattle.std.specs.Prelude.{◌≡◌, ◌≤◌, ◌⊎◌, ◌↔◌, List, None};
 ghost use Rattle.cal_base.specs.World.Outside.{Rose};
+ghost use Rattle.cal_model.specs.Transcripts.Transcript.{IsPrinted, IsPrintedInPart};
 ghost use Rattle.cal_model.specs.Users.UsersFile.{User};
+ghost use Rattle.cal_script.specs.ReadersSight.{ReadersSeeAlike};
 ghost use Rattle.cal_script.specs.ScriptEnds.{users_path, IfTold, AreServed, RefusesStart, RunsFrames, EndsInPart, HasPlace, RanToEnd, MetBadFrame, StoppedReading, WroteFront};
 ghost use Rattle.cal_script.specs.UsersTaken.{IsRefusedAt};
 
+use crate::laws::readers_see_alike;
 use crate::running::{FrameEnd, run_frames};
 use crate::users::{NoUsers, take_users};
 use crate::words::users_path;
@@ -52,19 +55,23 @@ pub fn run_script<F: Files, I: Source, O: Sink>(
     ensures served { ((input.new ≡ input.old) × (output.new ≡ output.old)) ⊎ ((users : List User) × AreServed words.now (F.content files.old) users) }
 
     // The frames.
-    ensures done { result.status ≡ 0 → (users : List User) × AreServed words.now (F.content files.old) users × RanToEnd users (I.left input.old) (I.left input.new) (O.written output.old) (O.written output.new) result.place }
-    ensures bad_frame { result.status ≡ 6 → (users : List User) × AreServed words.now (F.content files.old) users × MetBadFrame users (I.left input.old) (O.written output.old) (O.written output.new) result.place }
+    ensures done { result.status ≡ 0 → (users : List User) × AreServed words.now (F.content files.old) users × RanToEnd (IsPrinted users) (I.left input.old) (I.left input.new) (O.written output.old) (O.written output.new) result.place }
+    ensures bad_frame { result.status ≡ 6 → (users : List User) × AreServed words.now (F.content files.old) users × MetBadFrame (IsPrinted users) (I.left input.old) (O.written output.old) (O.written output.new) result.place }
     ensures input_fault { result.status ≡ 4 → Rose (F.faults files.old) (F.faults files.new) ⊎ Rose (I.faults input.old) (I.faults input.new) }
-    ensures stopped { result.status ≡ 4 → ((input.new ≡ input.old) × (output.new ≡ output.old)) ⊎ ((users : List User) × AreServed words.now (F.content files.old) users × StoppedReading users (I.left input.old) (I.left input.new) (O.written output.old) (O.written output.new)) }
+    ensures stopped { result.status ≡ 4 → ((input.new ≡ input.old) × (output.new ≡ output.old)) ⊎ ((users : List User) × AreServed words.now (F.content files.old) users × StoppedReading (IsPrinted users) (I.left input.old) (I.left input.new) (O.written output.old) (O.written output.new)) }
     ensures output_fault { result.status ≡ 5 → Rose (O.faults output.old) (O.faults output.new) }
-    ensures in_part { EndsInPart result.status → ((input.new ≡ input.old) × (output.new ≡ output.old)) ⊎ ((users : List User) × AreServed words.now (F.content files.old) users × WroteFront users (I.left input.old) (O.written output.old) (O.written output.new)) }
+    ensures in_part { EndsInPart result.status → ((input.new ≡ input.old) × (output.new ≡ output.old)) ⊎ ((users : List User) × AreServed words.now (F.content files.old) users × WroteFront (IsPrintedInPart users) (I.left input.old) (O.written output.old) (O.written output.new)) }
     ensures placed { HasPlace result.status ⊎ (result.place ≡ 0) }
+
+    // No reply to a request that only reads tells more than its user sees.
+    ensures alike { ReadersSeeAlike }
 
     // No count falls.
     ensures files_never_fall { F.faults files.old ≤ F.faults files.new }
     ensures input_never_falls { I.faults input.old ≤ I.faults input.new }
     ensures output_never_falls { O.faults output.old ≤ O.faults output.new }
 {
+    readers_see_alike();
     let Some(path) = users_path(words) else {
         return without_place(2);
     };

@@ -3,7 +3,7 @@ ghost use Rattle.std.specs.Prelude.{◌≡◌, ℕ, ◌≤◌, ◌++◌, take, c
 ghost use Rattle.cal_base.specs.World.Outside.{Rose, Adds};
 ghost use Rattle.cal_model.specs.Transcripts.ScriptFrames.{reply_frame};
 
-use crate::answering::Stop;
+use crate::answering::Unwritten;
 use cal_base::{NoMemory, Octets, Sink, write_all};
 use std::alloc::{AllocError, Global};
 
@@ -14,18 +14,18 @@ pub(crate) fn write_frame<O: Sink>(
     connection: usize,
     octets: &[u8],
     output: &mut O,
-) -> Result<(), Stop>
+) -> Result<(), Unwritten>
     ensures whole { OnOk result (Adds (O.written output.old) (reply_frame connection octets.now) (O.written output.new)) }
     ensures front { (many : ℕ) × Adds (O.written output.old) (take many (reply_frame connection octets.now)) (O.written output.new) }
-    ensures fault { IsErrOf result Stop.Output → Rose (O.faults output.old) (O.faults output.new) }
+    ensures fault { IsErrOf result Unwritten.Output → Rose (O.faults output.old) (O.faults output.new) }
     ensures never_falls { O.faults output.old ≤ O.faults output.new }
 {
     let Ok(frame) = frame_octets(alloc, connection, octets) else {
-        return Err(Stop::NoMemory);
+        return Err(Unwritten::NoMemory);
     };
     match write_all(output, frame.as_slice()) {
         Ok(()) => Ok(()),
-        Err(_) => Err(Stop::Output),
+        Err(_) => Err(Unwritten::Output),
     }
 }
 

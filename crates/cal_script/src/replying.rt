@@ -1,88 +1,96 @@
 //! The reply to a request, and its octets.
-ghost use Rattle.std.specs.Prelude.{◌≡◌, ◌<◌, ◌≤◌, pos, length};
+ghost use Rattle.std.specs.Prelude.{◌≡◌, ◌<◌, ◌≤◌, pos, length, IfOk};
 ghost use Rattle.cal_base.specs.World.Outside.{IsMoment};
+ghost use Rattle.cal_book.specs.Cores.{state_in};
+ghost use Rattle.cal_book.specs.Desks.{IfReply};
 ghost use Rattle.cal_model.specs.Replies.Statuses.{reason};
 ghost use Rattle.cal_model.specs.Streams.WireLimits.{body_limit, request_limit};
 ghost use Rattle.cal_model.specs.Transcripts.Transcript.{IsAnswer};
 ghost use Rattle.cal_model.specs.Words.Limits.{last_moment};
-ghost use Rattle.cal_script.specs.Answering.{IsServer, GoesOn, IsAnswered, state_of};
+ghost use Rattle.cal_script.specs.Answering.{IsBookOf, GoesOn, IsAnswered, IsBrokenBy, IsToldBy};
 
+use crate::answering::{Stop, Unwritten};
 use crate::frame::Arrival;
-use crate::server::Server;
 use cal_base::{NoMemory, Octets, Steps};
-use cal_book::{journals_follow, replies_have_reasons};
-use cal_model::{Event, Reply};
+use cal_book::{Desk, Told, journals_follow, replies_have_reasons};
+use cal_model::Event;
 use dav_request::{Asked, read_request};
 use http_wire::{WireRequest, bare_reply, write_answer};
+use privileges::Users;
 use std::alloc::Global;
 use std::sync::ledger::Ledger;
 
-/// Answers a request that came on a connection: refused as it stands, or by the book. Without memory
-/// it is answered 503, and nothing is changed.
+/// Answers a request that came on a connection: refused as it stands, or by the desk. Without memory
+/// it is answered 503, and nothing is changed. A desk that is broken then tells its fault.
 ///
-/// The book makes room beforehand, so that taking away needs none; where it finds none, the request
+/// The desk makes room beforehand, so that taking away needs none; where it finds none, the request
 /// is made all the same.
-fn reply_to<L: Ledger>(
+fn reply_to<B: Desk, L: Ledger>(
     alloc: Global,
-    server: &mut Server,
-    connection: usize,
-    moment: u64,
+    desk: &mut B,
+    users: &Users,
+    arrival: Arrival<'_>,
     wire: &WireRequest,
     steps: &mut Steps<L>,
-) -> Reply
-    requires server { IsServer server.old }
-    requires moment { moment ≤ last_moment }
+) -> Told<B::Fault>
+    requires book { IsBookOf users.now (B.book desk.old) }
+    requires moment { arrival.moment ≤ last_moment }
     requires body { length wire.now.body ≤ body_limit }
-    ensures answer { IsAnswer server.old.users (state_of server.old) connection moment wire.now (record { reply = result; server = state_of server.new }) }
-    ensures server { IsServer server.new }
-    ensures goes_on { GoesOn server.old server.new }
-    ensures known { 0 < length (reason result.status) }
+    ensures answer { IfReply result (λ reply. IsAnswer users.now (state_in (B.book desk.old)) arrival.entry.connection arrival.entry.moment wire.now (record { reply = reply; server = state_in (B.book desk.new) })) }
+    ensures known { IfReply result (λ reply. 0 < length (reason reply.status)) }
+    ensures book { IsBookOf users.now (B.book desk.new) }
+    ensures goes_on { GoesOn (B.book desk.old) (B.book desk.new) }
+    ensures broken { IsToldBy result (B.broken desk.old) (B.faults desk.old) (B.broken desk.new) (B.faults desk.new) }
+    ensures never_falls { B.faults desk.old ≤ B.faults desk.new }
 {
     journals_follow();
     replies_have_reasons();
-    match read_request(alloc, wire, &server.users) {
+    match read_request(alloc, wire, users) {
         Asked::Request { who, request } => {
-            let _ = server.book.reserve();
+            let _ = desk.reserve();
             let event = Event {
-                session: connection as u64,
+                session: arrival.connection as u64,
                 who,
-                moment: seconds(moment),
+                moment: seconds(arrival.moment),
                 request,
             };
-            server.book.request(alloc, &event, steps)
+            desk.ask(alloc, &event, steps)
         }
-        Asked::Refused(reply) => reply,
-        Asked::NoMemory => bare_reply(alloc, 503),
+        Asked::Refused(reply) => Told::Reply(reply),
+        Asked::NoMemory => Told::Reply(bare_reply(alloc, 503)),
     }
 }
 
 /// Answers a request that came on a connection, where so many were answered there before, and gives
 /// the octets of the reply. Without memory for these the request may have been acted on.
-pub(crate) fn answer<L: Ledger>(
+pub(crate) fn answer<B: Desk, L: Ledger>(
     alloc: Global,
-    server: &mut Server,
+    desk: &mut B,
+    users: &Users,
     arrival: Arrival<'_>,
     before: usize,
-    wire: WireRequest,
+    wire: &WireRequest,
     steps: &mut Steps<L>,
-) -> Result<Octets, NoMemory>
-    requires server { IsServer server.old }
+) -> Result<Octets, Stop<B::Fault>>
+    requires book { IsBookOf users.now (B.book desk.old) }
     requires moment { arrival.moment ≤ last_moment }
     requires before { before < request_limit }
-    requires body { length wire.body ≤ body_limit }
-    ensures answered { IsAnswered server.old.users arrival.entry.connection arrival.entry.moment before wire (state_of server.old) (state_of server.new) result }
-    ensures server { IsServer server.new }
-    ensures goes_on { GoesOn server.old server.new }
+    requires body { length wire.now.body ≤ body_limit }
+    ensures answered { IfOk result (IsAnswered users.now arrival.entry.connection arrival.entry.moment before wire.now (state_in (B.book desk.old)) (state_in (B.book desk.new))) }
+    ensures book { IsBookOf users.now (B.book desk.new) }
+    ensures goes_on { GoesOn (B.book desk.old) (B.book desk.new) }
+    ensures broken { IsBrokenBy result (B.broken desk.old) (B.faults desk.old) (B.broken desk.new) (B.faults desk.new) }
+    ensures desk_never_falls { B.faults desk.old ≤ B.faults desk.new }
 {
-    let reply = reply_to(
-        alloc,
-        server,
-        arrival.connection,
-        arrival.moment,
-        &wire,
-        steps,
-    );
-    write_answer(alloc, before, &wire, &reply, seconds(arrival.moment))
+    match reply_to(alloc, desk, users, arrival, wire, steps) {
+        Told::Reply(reply) => {
+            match write_answer(alloc, before, wire, &reply, seconds(arrival.moment)) {
+                Ok(octets) => Ok(octets),
+                Err(NoMemory) => Err(Stop::Unwritten(Unwritten::NoMemory)),
+            }
+        }
+        Told::Broken(fault) => Err(Stop::Broken(fault)),
+    }
 }
 
 /// A moment, as replies and events have it.

@@ -1,11 +1,20 @@
 //! Running the frames of an input.
-ghost use Rattle.std.specs.Prelude.{◌≡◌, ◌+◌, ◌<◌, ◌≤◌, ◌^◌, [], length, drop, Some, IfOk, IsErrOf, if◌then◌else◌};
+ghost use Rattle.std.specs.Prelude.{◌≡◌, ◌+◌, ◌<◌, ◌≤◌, ◌^◌, List, [], length, drop, All, Some, IfOk, IsErrOf, if◌then◌else◌};
 ghost use Rattle.cal_base.specs.World.Outside.{Rose, Goes};
-ghost use Rattle.cal_script.specs.ScriptEnds.{HasEnded};
+ghost use Rattle.std.specs.List.{Contains};
+ghost use Rattle.cal_book.specs.Cores.{state_in};
+ghost use Rattle.cal_model.specs.History.Claims.{Pair};
+ghost use Rattle.cal_model.specs.History.Journal.{IsLegal};
+ghost use Rattle.cal_model.specs.State.ServerState.{directory_of};
+ghost use Rattle.cal_model.specs.Transcripts.Transcript.{IsPrinted, IsPrintedInPart};
+ghost use Rattle.cal_script.specs.ScriptEnds.{HasEnded, HasEndedOn, IsLeft};
+ghost use Rattle.cal_script.specs.Standings.{IsSound, StandsAt, running, standing_in};
 
 use crate::frames::{Answering, answer_frames};
-use crate::script::start;
+use crate::script::{Script, start};
+use crate::slots::give_up_all;
 use cal_base::{Arc, NoMemory, Octets, Sink, Source, Steps};
+use cal_book::{Book, Desk, journals_are_told};
 use privileges::Users;
 use std::alloc::Global;
 use std::marker::Brand;
@@ -27,6 +36,14 @@ pub enum FrameEnd {
     Output,
     /// There was no memory.
     NoMemory,
+}
+
+/// How running the frames of an input at a desk ended.
+#[derive(Drop)]
+pub enum FramesOn<X> {
+    End(FrameEnd),
+    /// The desk is broken, and told so when it was asked.
+    Broken(X),
 }
 
 /// Why no piece of the input was taken.
@@ -51,77 +68,142 @@ pub fn run_frames<I: Source, O: Sink>(
     input: &mut I,
     output: &mut O,
 ) -> FrameEnd
-    ensures ended { HasEnded users result (I.left input.old) (I.left input.new) (O.written output.old) (O.written output.new) }
+    ensures ended { HasEnded (IsPrinted users) (IsPrintedInPart users) result (I.left input.old) (I.left input.new) (O.written output.old) (O.written output.new) }
     ensures input_fault { result ≡ FrameEnd.Input → Rose (I.faults input.old) (I.faults input.new) }
     ensures output_fault { result ≡ FrameEnd.Output → Rose (O.faults output.old) (O.faults output.new) }
     ensures input_never_falls { I.faults input.old ≤ I.faults input.new }
     ensures output_never_falls { O.faults output.old ≤ O.faults output.new }
 {
-    run_under::<I, O, Brand>(alloc, users, input, output, Blank::new(1))
+    let Ok(shared) = Arc::try_clone(&users) else {
+        return FrameEnd::NoMemory;
+    };
+    let Ok(mut book) = Book::start(alloc, shared) else {
+        return FrameEnd::NoMemory;
+    };
+    match frames_on(alloc, &mut book, &users, input, output) {
+        FramesOn::End(end) => end,
+        FramesOn::Broken(never) => match never {},
+    }
 }
 
-/// The same, with a ledger for the steps.
-fn run_under<I: Source, O: Sink, L: Ledger>(
+/// The same at any desk, from its state on. What the frames' workers still hold at the end is given
+/// up, so that no claim is lost.
+///
+/// Where a request is asked and the desk tells that it is broken, the run ends with the desk's fault:
+/// the replies to the requests before it were written, and no part of another. A request that is
+/// refused as it stands is answered by a broken desk too.
+pub fn frames_on<B: Desk, I: Source, O: Sink>(
     alloc: Global,
-    users: Arc<Users>,
+    desk: &mut B,
+    users: &Users,
+    input: &mut I,
+    output: &mut O,
+) -> FramesOn<B::Fault>
+    requires users { (B.book desk.old).users ≡ users.now }
+    ensures ended { HasEndedOn users.now (state_in (B.book desk.old)) (state_in (B.book desk.new)) result (I.left input.old) (I.left input.new) (O.written output.old) (O.written output.new) }
+    ensures input_fault { result ≡ FramesOn.End FrameEnd.Input → Rose (I.faults input.old) (I.faults input.new) }
+    ensures output_fault { result ≡ FramesOn.End FrameEnd.Output → Rose (O.faults output.old) (O.faults output.new) }
+    ensures broken { IsLeft result (B.broken desk.old) (B.faults desk.old) (B.broken desk.new) (B.faults desk.new) }
+    ensures users { (B.book desk.new).users ≡ users.now }
+    ensures legal { IsLegal (directory_of users.now) (B.book desk.new).work.journal }
+    ensures claims { All (Contains (B.book desk.old).work.out) (B.book desk.new).work.out }
+    ensures desk_never_falls { B.faults desk.old ≤ B.faults desk.new }
+    ensures input_never_falls { I.faults input.old ≤ I.faults input.new }
+    ensures output_never_falls { O.faults output.old ≤ O.faults output.new }
+{
+    journals_are_told();
+    // A look at how many entries there are, which tells a proof that the journal is legal.
+    let _entries = desk.entries();
+    let Ok(mut script) = start(alloc) else {
+        return FramesOn::End(FrameEnd::NoMemory);
+    };
+    let end = run_under::<B, I, O, Brand>(
+        alloc,
+        desk,
+        users,
+        &mut script,
+        input,
+        output,
+        Blank::new(1),
+    );
+    give_up_all(desk, script.slots);
+    end
+}
+
+/// Runs a script at a desk, with a ledger for the steps.
+fn run_under<B: Desk, I: Source, O: Sink, L: Ledger>(
+    alloc: Global,
+    desk: &mut B,
+    users: &Users,
+    script: &mut Script,
     input: &mut I,
     output: &mut O,
     blank: Blank,
-) -> FrameEnd
+) -> FramesOn<B::Fault>
     requires name { blank.name ≡ L.name }
     requires parts { blank.parts ≡ L.parts }
     requires some { 0 < blank.parts }
-    ensures ended { HasEnded users result (I.left input.old) (I.left input.new) (O.written output.old) (O.written output.new) }
-    ensures input_fault { result ≡ FrameEnd.Input → Rose (I.faults input.old) (I.faults input.new) }
-    ensures output_fault { result ≡ FrameEnd.Output → Rose (O.faults output.old) (O.faults output.new) }
+    requires sound { (kept : List Pair) × IsSound users.now kept (running (B.book desk.old) script.old) }
+    requires stands { StandsAt (standing_in (state_in (B.book desk.old))) (running (B.book desk.old) script.old) }
+    ensures ended { HasEndedOn users.now (state_in (B.book desk.old)) (state_in (B.book desk.new)) result (I.left input.old) (I.left input.new) (O.written output.old) (O.written output.new) }
+    ensures sound { (kept : List Pair) → IsSound users.now kept (running (B.book desk.old) script.old) → IsSound users.now kept (running (B.book desk.new) script.new) }
+    ensures input_fault { result ≡ FramesOn.End FrameEnd.Input → Rose (I.faults input.old) (I.faults input.new) }
+    ensures output_fault { result ≡ FramesOn.End FrameEnd.Output → Rose (O.faults output.old) (O.faults output.new) }
+    ensures broken { IsLeft result (B.broken desk.old) (B.faults desk.old) (B.broken desk.new) (B.faults desk.new) }
+    ensures desk_never_falls { B.faults desk.old ≤ B.faults desk.new }
     ensures input_never_falls { I.faults input.old ≤ I.faults input.new }
     ensures output_never_falls { O.faults output.old ≤ O.faults output.new }
 {
     let mut steps = Steps::<L>::open(blank);
-    run_counted(alloc, users, input, output, &mut steps)
+    run_counted(alloc, desk, users, script, input, output, &mut steps)
 }
 
 /// The same, counting.
-fn run_counted<I: Source, O: Sink, L: Ledger>(
+fn run_counted<B: Desk, I: Source, O: Sink, L: Ledger>(
     alloc: Global,
-    users: Arc<Users>,
+    desk: &mut B,
+    users: &Users,
+    script: &mut Script,
     input: &mut I,
     output: &mut O,
     steps: &mut Steps<L>,
-) -> FrameEnd
-    ensures ended { HasEnded users result (I.left input.old) (I.left input.new) (O.written output.old) (O.written output.new) }
-    ensures input_fault { result ≡ FrameEnd.Input → Rose (I.faults input.old) (I.faults input.new) }
-    ensures output_fault { result ≡ FrameEnd.Output → Rose (O.faults output.old) (O.faults output.new) }
+) -> FramesOn<B::Fault>
+    requires sound { (kept : List Pair) × IsSound users.now kept (running (B.book desk.old) script.old) }
+    requires stands { StandsAt (standing_in (state_in (B.book desk.old))) (running (B.book desk.old) script.old) }
+    ensures ended { HasEndedOn users.now (state_in (B.book desk.old)) (state_in (B.book desk.new)) result (I.left input.old) (I.left input.new) (O.written output.old) (O.written output.new) }
+    ensures sound { (kept : List Pair) → IsSound users.now kept (running (B.book desk.old) script.old) → IsSound users.now kept (running (B.book desk.new) script.new) }
+    ensures input_fault { result ≡ FramesOn.End FrameEnd.Input → Rose (I.faults input.old) (I.faults input.new) }
+    ensures output_fault { result ≡ FramesOn.End FrameEnd.Output → Rose (O.faults output.old) (O.faults output.new) }
+    ensures broken { IsLeft result (B.broken desk.old) (B.faults desk.old) (B.broken desk.new) (B.faults desk.new) }
+    ensures desk_never_falls { B.faults desk.old ≤ B.faults desk.new }
     ensures input_never_falls { I.faults input.old ≤ I.faults input.new }
     ensures output_never_falls { O.faults output.old ≤ O.faults output.new }
 {
-    let Ok(mut script) = start(alloc, users) else {
-        return FrameEnd::NoMemory;
-    };
     let Ok(mut piece) = make_piece(alloc) else {
-        return FrameEnd::NoMemory;
+        return FramesOn::End(FrameEnd::NoMemory);
     };
     let mut kept = Octets::new(alloc);
     let mut place: u64 = 0;
     'reading: loop {
         match take_piece(input, piece.as_mut_slice(), &mut kept) {
-            Ok(0) => return end_at(place, kept.is_empty()),
+            Ok(0) => return FramesOn::End(end_at(place, kept.is_empty())),
             Ok(_) => {}
-            Err(NoPiece::Input) => return FrameEnd::Input,
-            Err(NoPiece::NoMemory) => return FrameEnd::NoMemory,
+            Err(NoPiece::Input) => return FramesOn::End(FrameEnd::Input),
+            Err(NoPiece::NoMemory) => return FramesOn::End(FrameEnd::NoMemory),
         }
-        match answer_frames(alloc, kept.as_slice(), &mut script, output, steps) {
+        match answer_frames(alloc, desk, users, kept.as_slice(), script, output, steps) {
             Answering::Cut(len) => {
                 place += len as u64;
                 kept = behind_front(kept, len);
             }
             Answering::Bad(len) => {
-                return FrameEnd::Frame {
+                return FramesOn::End(FrameEnd::Frame {
                     place: place + len as u64,
-                };
+                });
             }
-            Answering::OutputFault => return FrameEnd::Output,
-            Answering::NoMemory => return FrameEnd::NoMemory,
+            Answering::OutputFault => return FramesOn::End(FrameEnd::Output),
+            Answering::NoMemory => return FramesOn::End(FrameEnd::NoMemory),
+            Answering::Broken(fault) => return FramesOn::Broken(fault),
         }
     }
 }

@@ -1,6 +1,15 @@
 use Rattle.std.proofs.Common.{arith, ◌∙◌}
-use Rattle.cal_script.proofs.AnsweredLemmas.{place_rises, answered_next, cut_off}
+use Rattle.cal_script.proofs.AnsweredLemmas.{place_rises, answered_start, answered_next, cut_off, broke_off}
+use Rattle.cal_script.proofs.AnsweringLemmas.{rose_since, stopped_short, stopped_broken, stopped_same, stopped_by}
 use Rattle.cal_script.proofs.frames.answer_frames.Goals as goal
+
+pub take_turn-requires-clause-sound : goal.take_turn-requires-clause-sound
+take_turn-requires-clause-sound g c κs bounds = (c.requires.sound.0, c.frames.invariant.sound c.requires.sound.0 c.requires.sound.1)
+
+pub take_turn-requires-clause-stands : goal.take_turn-requires-clause-stands
+take_turn-requires-clause-stands g c κs bounds =
+    let far = c.frames.invariant.answered c.requires.stands.0 c.requires.stands.1 in
+    (far.whole.after, far.whole.stands)
 
 pub frames-smaller : goal.frames-smaller
 frames-smaller g c =
@@ -13,16 +22,44 @@ frames-smaller g c =
 pub frames-preserved : goal.frames-preserved
 frames-preserved g c = record {
   within = (place_rises c.frames.at c.args.octets.now _ c.in-Whole.rest.now _ c.behind.ensures c.frames.invariant.within c.in-Whole.ensures).1;
-  answered = λ standing stands. answered_next _ c.frames.at c.args.octets.now _ c.in-Whole.rest.now _ standing _ _ _ _ _ c.behind.ensures (c.frames.invariant.answered standing stands) c.in-Whole.ensures _ c.frames.invariant.users c.in-Ok.ensures.turn;
-  sound = c.in-Ok.ensures.sound;
-  users = c.in-Ok.ensures.users ∙ c.frames.invariant.users;
+  answered = λ standing stands. answered_next _ c.frames.at c.args.octets.now _ c.in-Whole.rest.now _ standing _ _ _ _ _ c.behind.ensures (c.frames.invariant.answered standing stands) c.in-Whole.ensures c.in-Ok.ensures.turn;
+  sound = λ kept sound. c.in-Ok.ensures.sound kept (c.frames.invariant.sound kept sound);
+  broken = c.in-Ok.ensures.broken ∙ c.frames.invariant.broken;
+  desk_count = omega (arith, c.in-Ok.ensures.desk_never_falls);
   count = omega (arith, c.in-Ok.ensures.never_falls);
 }
 
-pub returns-in-Err-Output-clause-answered : goal.returns-in-Err-Output-clause-answered
-returns-in-Err-Output-clause-answered g c = λ standing stands.
-    cut_off _ c.frames.at c.args.octets.now _ c.in-Whole.rest.now _ standing _ _ _ _ c.behind.ensures (c.frames.invariant.answered standing stands) c.in-Whole.ensures _ c.frames.invariant.users c.in-Err-Output.ensures.in_part
+pub returns-in-Err-Unwritten-Output-clause-answered : goal.returns-in-Err-Unwritten-Output-clause-answered
+returns-in-Err-Unwritten-Output-clause-answered g c = λ standing stands.
+    cut_off _ c.frames.at c.args.octets.now _ c.in-Whole.rest.now _ standing _ _ _ _ c.behind.ensures (c.frames.invariant.answered standing stands) c.in-Whole.ensures
+    (stopped_short c.in-Err-Unwritten-Output.field-0 _ _ _ c.in-Err-Unwritten-Output.field-0-is c.in-Err-Unwritten-Output.ensures.stopped)
 
-pub returns-in-Err-NoMemory-clause-answered : goal.returns-in-Err-NoMemory-clause-answered
-returns-in-Err-NoMemory-clause-answered g c = λ standing stands.
-    cut_off _ c.frames.at c.args.octets.now _ c.in-Whole.rest.now _ standing _ _ _ _ c.behind.ensures (c.frames.invariant.answered standing stands) c.in-Whole.ensures _ c.frames.invariant.users c.in-Err-NoMemory.ensures.in_part
+pub returns-in-Err-Unwritten-Output-clause-sound : goal.returns-in-Err-Unwritten-Output-clause-sound
+returns-in-Err-Unwritten-Output-clause-sound g c = λ kept sound. c.in-Err-Unwritten-Output.ensures.sound kept (c.frames.invariant.sound kept sound)
+
+pub returns-in-Err-Unwritten-Output-clause-broken : goal.returns-in-Err-Unwritten-Output-clause-broken
+returns-in-Err-Unwritten-Output-clause-broken g c = stopped_same c.in-Err-Unwritten-Output.field-0 _ _ _ _ _ c.in-Err-Unwritten-Output.field-0-is c.in-Err-Unwritten-Output.ensures.broken ∙ c.frames.invariant.broken
+
+pub returns-in-Err-Unwritten-NoMemory-clause-answered : goal.returns-in-Err-Unwritten-NoMemory-clause-answered
+returns-in-Err-Unwritten-NoMemory-clause-answered g c = λ standing stands.
+    cut_off _ c.frames.at c.args.octets.now _ c.in-Whole.rest.now _ standing _ _ _ _ c.behind.ensures (c.frames.invariant.answered standing stands) c.in-Whole.ensures
+    (stopped_short c.in-Err-Unwritten-NoMemory.field-0 _ _ _ c.in-Err-Unwritten-NoMemory.field-0-is c.in-Err-Unwritten-NoMemory.ensures.stopped)
+
+pub returns-in-Err-Unwritten-NoMemory-clause-sound : goal.returns-in-Err-Unwritten-NoMemory-clause-sound
+returns-in-Err-Unwritten-NoMemory-clause-sound g c = λ kept sound. c.in-Err-Unwritten-NoMemory.ensures.sound kept (c.frames.invariant.sound kept sound)
+
+pub returns-in-Err-Unwritten-NoMemory-clause-broken : goal.returns-in-Err-Unwritten-NoMemory-clause-broken
+returns-in-Err-Unwritten-NoMemory-clause-broken g c = stopped_same c.in-Err-Unwritten-NoMemory.field-0 _ _ _ _ _ c.in-Err-Unwritten-NoMemory.field-0-is c.in-Err-Unwritten-NoMemory.ensures.broken ∙ c.frames.invariant.broken
+
+pub returns-in-Err-Broken-clause-answered : goal.returns-in-Err-Broken-clause-answered
+returns-in-Err-Broken-clause-answered g c = λ standing stands.
+    broke_off _ c.frames.at c.args.octets.now _ c.in-Whole.rest.now _ standing _ _ _ _ c.behind.ensures (c.frames.invariant.answered standing stands) c.in-Whole.ensures
+    (stopped_broken c.in-Err-Broken.field-0 _ _ _ c.in-Err-Broken.field-0-is c.in-Err-Broken.ensures.stopped)
+
+pub returns-in-Err-Broken-clause-sound : goal.returns-in-Err-Broken-clause-sound
+returns-in-Err-Broken-clause-sound g c = λ kept sound. c.in-Err-Broken.ensures.sound kept (c.frames.invariant.sound kept sound)
+
+pub returns-in-Err-Broken-clause-broken : goal.returns-in-Err-Broken-clause-broken
+returns-in-Err-Broken-clause-broken g c =
+    let by = stopped_by c.in-Err-Broken.field-0 _ _ _ _ _ c.in-Err-Broken.field-0-is c.in-Err-Broken.ensures.broken in
+    (by.0, λ unbroken. rose_since _ _ _ c.frames.invariant.desk_count c.in-Err-Broken.ensures.desk_never_falls (by.1 (c.frames.invariant.broken ∙ unbroken)))

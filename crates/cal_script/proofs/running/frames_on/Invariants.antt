@@ -1,4 +1,4 @@
-use Rattle.cal_script.proofs.running.run_frames.Given as goal
+use Rattle.cal_script.proofs.running.frames_on.Given as goal
 
 -- the ledger is that of the blank
 abbrev pub ghosts-run_under : goal.ghosts-run_under

@@ -1,0 +1,25 @@
+-- Replies to requests that only read, in states that look alike.
+use Rattle.std.proofs.Common.{◌≡◌, ℕ, true, List, sym, ap, ap₂, ◌∙◌, inl, inr}
+use Rattle.cal_model.specs.declared.reply.Reply.{Reply}
+use Rattle.cal_model.specs.declared.request.Request.{Request}
+use Rattle.cal_model.specs.declared.wire.WireRequest.{WireRequest}
+use Rattle.cal_model.specs.Requests.AskedRequests.{asked, asked_of}
+use Rattle.cal_model.specs.Serving.Outcomes.{is_reading}
+use Rattle.cal_model.specs.Sight.LookingAlike.{LookAlike}
+use Rattle.cal_model.specs.State.ServerState.{ServerState, directory_of}
+use Rattle.cal_model.specs.Transcripts.Transcript.{Answer, event_of, answer_to, IsAnswer}
+use Rattle.cal_model.specs.Users.UsersFile.{User}
+use Rattle.cal_model.proofs.Sight.LookingAlikeLaws.{replies_are_alike, reading_changes_nothing}
+use Rattle.cal_script.specs.ReadersSight.{ReadersSeeAlike}
+
+pub readers_see_alike : ReadersSeeAlike
+readers_see_alike users state other connection moment who wire request given asks reads alike (inl is) =
+    let event = event_of connection who moment request in
+    let directory = directory_of users in
+    let here : given ≡ answer_to users state connection moment (asked who request) = is ∙ ap (answer_to users state connection moment) asks in
+    inl (ap₂ (λ (r : Reply) (s : ServerState). record { reply = r; server = s })
+    (ap (λ (a : Answer). a.reply) here ∙ replies_are_alike directory state other event reads alike)
+    (sym (reading_changes_nothing directory other event reads))
+    ∙ sym (ap (answer_to users other connection moment) asks))
+readers_see_alike users state other connection moment who wire request given asks reads alike (inr is) =
+    inr (ap (λ (r : Reply). record { reply = r; server = other }) (ap (λ (a : Answer). a.reply) is))
