@@ -367,6 +367,9 @@ def behind_chunks(octets, at):
 STATUSES = {200, 201, 204, 207, 304, 400, 401, 403, 404, 405, 412, 413, 415, 431, 501, 503, 505, 507}
 
 
+LITTLE = 2000  # octets; what less takes is the noise of the machine
+
+
 def frames(pick, streams):
     """A script of streams, each on a connection of its own, in frames of random lengths, with workers between."""
     parts = []
@@ -515,7 +518,7 @@ def main():
                 statuses[told] = statuses.get(told, 0) + 1
             octets_in_all += len(text)
             seconds_in_all += seconds - start
-            slowest.append(((seconds - start) / (len(text) + len(output)), batch))
+            slowest.append(((seconds - start) / max(len(text) + len(output), LITTLE), batch))
             if len(slowest) > 1000:
                 slowest = sorted(slowest, reverse=True)[:100]
             batch, done = batch + 1, done + 16
@@ -540,10 +543,10 @@ def print_slowest(asked, runner, start, slowest):
             runs = [runner.run(front) for _ in range(3)]
             seconds, output = min(run[2] for run in runs) - start, len(runs[0][1])
             size = len(streams[number]) + output - shown
-            found.append(((seconds - before) / max(size, 1), seconds - before, size, batch, number))
+            found.append(((seconds - before) / max(size, LITTLE), seconds - before, size, batch, number))
             before, shown = seconds, output
     found.sort(reverse=True)
-    print("the streams that take longest for each octet that comes in or goes out:")
+    print(f"the streams that take longest for each octet that comes in or goes out, of at least {LITTLE}:")
     for each, seconds, size, batch, number in found[:100]:
         pick = random.Random(f"{asked.seed}.{batch}").choice
         octets = [stream(pick) for _ in range(16)][number]
