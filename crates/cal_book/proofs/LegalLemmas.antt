@@ -45,9 +45,10 @@ legal_from : (directory : Directory) (state : ServerState) (journal : List Entry
 legal_from directory state [] e = tt
 legal_from directory state (entry ∷ entries) e =
     let result = outcome directory state (asked directory entry) in
-    let after = state_after directory state (asked directory entry) in
-    (accepted_with entry.status state result (front_passes (is_accepted_with entry.status result) (is_legal_from directory after entries) e),
-    legal_from directory after entries (rest_passes (is_accepted_with entry.status result) (is_legal_from directory after entries) e))
+    let after = state_after directory state (asked directory entry) in (
+      accepted_with entry.status state result (front_passes (is_accepted_with entry.status result) (is_legal_from directory after entries) e),
+      legal_from directory after entries (rest_passes (is_accepted_with entry.status result) (is_legal_from directory after entries) e),
+    )
 
 pub legal_told : LegalIsTold
 legal_told = record {

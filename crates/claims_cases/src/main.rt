@@ -4,6 +4,7 @@
 //! the run ended, and the next two claims of the book behind it. So it shows which pieces the script's
 //! workers published, and that the others are open again, those too that a worker still held.
 #![tactic(auto)]
+
 ghost use Rattle.std.specs.Prelude.{◌≡◌, IfSome};
 
 use cal_base::{Arc, List, MemorySink, StdSource};
