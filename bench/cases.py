@@ -825,6 +825,8 @@ def main():
         part()
     for crate, given, told in (("script_cases", CASES, ANSWERS), ("book_cases", WALKS, TOLD)):
         texts = {"stdin": b"".join(given), "stdout": b"".join(told)}
+        if not os.path.isdir(os.path.join(TOP, "crates", crate, "src")):
+            continue
         for name, text in texts.items():
             path = os.path.join(TOP, "crates", crate, name)
             if "--check" in sys.argv:
