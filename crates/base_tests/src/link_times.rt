@@ -1,10 +1,10 @@
-//! How long a connection is read, over a connection of the machine to itself and a clock that the
-//! test sets.
+//! How long a connection is read and written, over a connection of the machine to itself and a clock
+//! that the test sets.
 
 use cal_base::{Failed, Link, TcpLink};
 use std::io;
 use std::io::Write;
-use std::net::{TcpListener, TcpStream};
+use std::net::{Net, TcpListener, TcpStream};
 use std::sync::atomic::{AtomicU64, Ordering};
 use std::test::Fail;
 use std::time::Duration;
@@ -25,65 +25,114 @@ impl std::rt::Clock for StandingClock<'_> {
     }
 }
 
-/// What a read of one octet answers, and how many seconds it might wait.
-fn read_one(
-    link: &mut TcpLink<StandingClock<'_>>,
-    twin: &TcpStream,
-) -> io::Result<(Result<usize, Failed>, Option<Duration>)> {
-    let read = link.read(&mut [0u8; 1]);
-    Ok((read, twin.read_timeout()?))
+/// A call at a second, what it answers, and how many seconds a read might wait then.
+#[derive(Drop)]
+enum Call {
+    Read(u64, Result<usize, Failed>, u64),
+    Write(u64, Result<usize, Failed>),
 }
 
-/// Whether reads at these seconds answer so, and might wait so many seconds.
-fn reads_give(
+/// Whether a call answers so. A read is of one octet, a write of five.
+fn answers(
     link: &mut TcpLink<StandingClock<'_>>,
     twin: &TcpStream,
     second: &AtomicU64,
-    wanted: &[(u64, Result<usize, Failed>, u64)],
+    call: &Call,
 ) -> io::Result<bool> {
-    for (at, read, waits) in wanted {
-        second.store(*at, Ordering::SeqCst);
-        let (got, time) = read_one(link, twin)?;
-        if got != *read || time != Some(Duration::from_secs(*waits)) {
+    match call {
+        Call::Read(at, wanted, waits) => {
+            second.store(*at, Ordering::SeqCst);
+            let got = link.read(&mut [0u8; 1]);
+            Ok(got == *wanted && twin.read_timeout()? == Some(Duration::from_secs(*waits)))
+        }
+        Call::Write(at, wanted) => {
+            second.store(*at, Ordering::SeqCst);
+            Ok(link.write(b"reply") == *wanted)
+        }
+    }
+}
+
+/// Whether calls of a connection that is made at second 1000 answer so. Ten octets come at once.
+fn calls_answer<R: Net<Listener = TcpListener, Stream = TcpStream>>(
+    rt: &R,
+    calls: &[Call],
+) -> io::Result<bool> {
+    let second = AtomicU64::new(1000);
+    let clock = StandingClock { second: &second };
+    let listener = TcpListener::bind(rt, "127.0.0.1:0")?;
+    let mut client = TcpStream::connect(rt, listener.local_addr()?)?;
+    let (stream, _) = listener.accept()?;
+    let twin = stream.try_clone()?;
+    let mut link = TcpLink::new(&clock, stream);
+    client.write_all(b"0123456789")?;
+    for call in calls {
+        if !answers(&mut link, &twin, &second, call)? {
             return Ok(false);
         }
     }
     Ok(true)
 }
 
-/// Each read that is made may wait ten seconds, or what is left of two minutes since the last write.
-const BEFORE_A_WRITE: [(u64, Result<usize, Failed>, u64); 6] = [
-    (1000, Ok(1), 10),
-    (1110, Ok(1), 10),
-    (1111, Ok(1), 9),
-    (1119, Ok(1), 1),
-    (1120, Err(Failed), 1),
-    (9999, Err(Failed), 1),
-];
-
-/// A write at 2000 begins two minutes more. The last read finds no octet for its second.
-const BEHIND_A_WRITE: [(u64, Result<usize, Failed>, u64); 4] = [
-    (2001, Ok(1), 10),
-    (2115, Ok(1), 5),
-    (2119, Err(Failed), 1),
-    (2121, Err(Failed), 1),
-];
-
+/// A read may wait ten seconds, or what is left of thirty from the first octet on.
 #[test]
-fn a_link_is_read_for_two_minutes_after_a_write(rt: HostRuntime) -> Result<(), Fail> {
-    let second = AtomicU64::new(1000);
-    let clock = StandingClock { second: &second };
-    let listener = TcpListener::bind(&rt, "127.0.0.1:0")?;
-    let mut client = TcpStream::connect(&rt, listener.local_addr()?)?;
-    let (stream, _) = listener.accept()?;
-    let twin = stream.try_clone()?;
-    let mut link = TcpLink::new(&clock, stream);
-    assert!(rt; twin.read_timeout()? == Some(Duration::from_secs(10)));
-    assert!(rt; twin.write_timeout()? == Some(Duration::from_secs(10)));
-    client.write_all(b"abcdef")?;
-    assert!(rt; reads_give(&mut link, &twin, &second, &BEFORE_A_WRITE)?);
-    second.store(2000, Ordering::SeqCst);
-    assert!(rt; link.write(b"reply") == Ok(5));
-    assert!(rt; reads_give(&mut link, &twin, &second, &BEHIND_A_WRITE)?);
+fn a_request_is_read_for_thirty_seconds(rt: HostRuntime) -> Result<(), Fail> {
+    let calls = [
+        Call::Read(1005, Ok(1), 10),
+        Call::Read(1025, Ok(1), 10),
+        Call::Read(1026, Ok(1), 9),
+        Call::Read(1034, Ok(1), 1),
+        Call::Read(1035, Err(Failed), 1),
+        Call::Read(9999, Err(Failed), 1),
+    ];
+    assert!(rt; calls_answer(&rt, &calls)?);
+    Ok(())
+}
+
+/// The time at work counts for neither: the write at 1300 is made.
+#[test]
+fn a_reply_is_written_for_two_minutes(rt: HostRuntime) -> Result<(), Fail> {
+    let calls = [
+        Call::Read(1001, Ok(1), 10),
+        Call::Write(1300, Ok(5)),
+        Call::Write(1419, Ok(5)),
+        Call::Write(1421, Err(Failed)),
+        Call::Read(1422, Ok(1), 2),
+        Call::Write(1423, Ok(5)),
+        Call::Write(1543, Ok(5)),
+    ];
+    assert!(rt; calls_answer(&rt, &calls)?);
+    Ok(())
+}
+
+/// Behind a reply the first octet may be waited for two seconds, and those behind it ten.
+#[test]
+fn an_idle_connection_is_read_for_two_seconds(rt: HostRuntime) -> Result<(), Fail> {
+    let calls = [
+        Call::Read(1001, Ok(1), 10),
+        Call::Write(1002, Ok(5)),
+        Call::Read(1100, Ok(1), 2),
+        Call::Read(1101, Ok(1), 10),
+        Call::Read(1125, Ok(1), 5),
+        Call::Write(1126, Ok(5)),
+        Call::Read(1127, Ok(1), 2),
+    ];
+    assert!(rt; calls_answer(&rt, &calls)?);
+    Ok(())
+}
+
+/// A request that began before is read on and answered; none begins later.
+#[test]
+fn no_request_begins_after_ten_minutes(rt: HostRuntime) -> Result<(), Fail> {
+    let calls = [
+        Call::Read(1001, Ok(1), 10),
+        Call::Write(1002, Ok(5)),
+        Call::Read(1599, Ok(1), 1),
+        Call::Read(1605, Ok(1), 10),
+        Call::Write(1620, Ok(5)),
+        Call::Read(1621, Err(Failed), 10),
+    ];
+    assert!(rt; calls_answer(&rt, &calls)?);
+    let idle = [Call::Read(1600, Err(Failed), 10)];
+    assert!(rt; calls_answer(&rt, &idle)?);
     Ok(())
 }

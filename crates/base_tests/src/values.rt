@@ -1,7 +1,9 @@
 //! Lists, texts, shared values, maps, content lines and trees: each call succeeds where there is
 //! memory.
 
-use cal_base::{Arc, Line, List, Name, NameMap, NoMemory, Node, Octets, Param, ReservedList, Word};
+use cal_base::{
+    Arc, Line, List, Name, NameMap, NoMemory, Node, Octets, Param, ReservedList, SharedList, Word,
+};
 use std::alloc::Global;
 use std::test::Fail;
 
@@ -92,6 +94,18 @@ fn shared_values(rt: HostRuntime) -> Result<(), Fail> {
     let first = Arc::new(rt.alloc(), Octets::of(rt.alloc(), b"one")?)?;
     let second = Arc::try_clone(&first)?;
     assert!(rt; second.as_slice() == b"one".as_slice());
+    Ok(())
+}
+
+#[test]
+fn a_shared_list_outlives_its_first_owner(rt: HostRuntime) -> Result<(), Fail> {
+    let first = SharedList::of(rt.alloc(), Octets::of(rt.alloc(), b"one")?)?;
+    let second = SharedList::try_clone(&first)?;
+    let none = SharedList::try_clone(&SharedList::<u8>::new())?;
+    drop(first);
+    assert!(rt; second.as_slice() == b"one".as_slice());
+    assert_eq!(rt; second.len(), 3);
+    assert_eq!(rt; none.len(), 0);
     Ok(())
 }
 

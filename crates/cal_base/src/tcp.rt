@@ -17,21 +17,101 @@ use std::time::{Duration, Instant};
 /// How many seconds a read or a write of a connection may wait for the other side.
 pub const LINK_TIMEOUT_SECONDS: u64 = 10;
 
-/// How many seconds after the last write, at first after the connection, a connection is read. A
-/// client that sends an octet now and then cannot hold its session longer without a reply.
-pub const READING_SECONDS: u64 = 120;
+/// How many seconds a connection that had a reply may wait for the first octet of another request,
+/// so that it does not hold a session that others wait for.
+pub const IDLE_SECONDS: u64 = 2;
+
+/// How many seconds after its first octet a request is read, so that a client that sends an octet
+/// now and then cannot hold its session longer.
+pub const REQUEST_SECONDS: u64 = 30;
+
+/// How many seconds after its first octet a reply is written, so that a client that takes an octet
+/// now and then cannot hold its session longer.
+pub const REPLY_SECONDS: u64 = 120;
+
+/// How many seconds after a connection was made a request may begin on it.
+pub const CONNECTION_SECONDS: u64 = 600;
 
 /// How many milliseconds `rest` of a door waits.
 pub const REST_MILLISECONDS: u64 = 100;
+
+/// What a connection is at.
+#[derive(Clone, Copy)]
+enum Stage {
+    /// No octet has come yet.
+    New,
+    /// A request is read, whose first octets came at that moment.
+    Request(Instant),
+    /// A reply is written, whose first octets went at that moment, or was written.
+    Reply(Instant),
+}
+
+/// The moments from which the times of a connection count.
+#[derive(Clone, Copy)]
+struct Moments {
+    made: Instant,
+    stage: Stage,
+}
+
+impl Moments {
+    /// How long a read may wait for an octet, if it may be made.
+    fn waiting_time(&self, now: Instant) -> Option<Duration> {
+        let (longest, left) = match self.stage {
+            Stage::New => (
+                LINK_TIMEOUT_SECONDS,
+                time_left(self.made, CONNECTION_SECONDS, now),
+            ),
+            Stage::Request(began) => (LINK_TIMEOUT_SECONDS, time_left(began, REQUEST_SECONDS, now)),
+            Stage::Reply(_) => (IDLE_SECONDS, time_left(self.made, CONNECTION_SECONDS, now)),
+        };
+        Some(left?.min(Duration::from_secs(longest)))
+    }
+
+    /// Whether a write may be made.
+    fn may_write(&self, now: Instant) -> bool {
+        match self.stage {
+            Stage::Reply(began) => time_left(began, REPLY_SECONDS, now).is_some(),
+            _ => true,
+        }
+    }
+
+    /// The moments behind a read of octets.
+    fn behind_read(self, now: Instant) -> Moments {
+        let stage = match self.stage {
+            Stage::Request(began) => Stage::Request(began),
+            _ => Stage::Request(now),
+        };
+        Moments {
+            made: self.made,
+            stage,
+        }
+    }
+
+    /// The moments behind a write of octets.
+    fn behind_write(self, now: Instant) -> Moments {
+        let stage = match self.stage {
+            Stage::Reply(began) => Stage::Reply(began),
+            _ => Stage::Reply(now),
+        };
+        Moments {
+            made: self.made,
+            stage,
+        }
+    }
+}
+
+/// What is left of so many seconds from a moment, if they have not passed.
+fn time_left(since: Instant, seconds: u64, now: Instant) -> Option<Duration> {
+    Duration::from_secs(seconds).checked_sub(now.duration_since(since))
+}
 
 /// A connection. It tells nothing of what is left until its end, nor of what was written.
 #[derive(Drop)]
 pub struct TcpLink<R: std::rt::Clock + Copy + Drop> {
     rt: R,
     stream: CountedStream<TcpStream>,
-    /// The moment of the last write, at first that of the connection; none where the system gave no
-    /// moment for the connection, or did not take its options.
-    last_write: Option<Instant>,
+    /// None where the system did not take the options of the connection, or once gave no moment.
+    moments: Option<Moments>,
 }
 
 impl<R: std::rt::Clock + Copy + Drop> Model for TcpLink<R> {
@@ -45,30 +125,27 @@ impl<R: std::rt::Clock + Copy + Drop> Model for TcpLink<R> {
 impl<R: std::rt::Clock + Copy + Drop> TcpLink<R> {
     /// A connection whose small writes the kernel does not hold back.
     ///
-    /// A read and a write fail after `LINK_TIMEOUT_SECONDS` without an octet, and a read also
-    /// `READING_SECONDS` after the last write or, before the first, after the connection. Where the
-    /// system does not grant this, every call of the link fails, since one without a time-out could
-    /// hold its session for ever.
+    /// A read and a write fail after `LINK_TIMEOUT_SECONDS` without an octet, a read for the first
+    /// octet behind a reply after `IDLE_SECONDS`. A request is read for `REQUEST_SECONDS` from its
+    /// first octet on, and a reply written for `REPLY_SECONDS` from its first; the link takes the
+    /// first write behind a read as the first of a reply. `CONNECTION_SECONDS` after the connection
+    /// no request begins. Where the system does not grant this, every call of the link fails, since
+    /// one without a time-out could hold its session for ever.
     pub fn new(rt: &R, stream: TcpStream) -> TcpLink<R>
         ensures { result ≡ new_stream }
     {
-        let last_write = if is_prepared(&stream) {
-            Instant::now(rt).ok()
-        } else {
-            None
-        };
+        let moments = first_moments(rt, &stream);
         TcpLink {
             rt: *rt,
             stream: CountedStream::new(stream),
-            last_write,
+            moments,
         }
     }
 
     /// How long the next read may wait for an octet, if it may be made.
     fn waiting_time(&self) -> Option<Duration> {
-        let since = self.last_write?.elapsed(&self.rt).ok()?;
-        let left = Duration::from_secs(READING_SECONDS).checked_sub(since)?;
-        Some(left.min(Duration::from_secs(LINK_TIMEOUT_SECONDS)))
+        let now = Instant::now(&self.rt).ok()?;
+        self.moments?.waiting_time(now)
     }
 
     /// Whether the next read may be made, and the system took how long it may wait. (A time of no
@@ -80,14 +157,46 @@ impl<R: std::rt::Clock + Copy + Drop> TcpLink<R> {
         }
     }
 
-    /// Keeps the moment of a write, where the system gives one.
+    /// Whether the next write may be made.
+    fn may_write(&self) -> bool {
+        match (self.moments, Instant::now(&self.rt)) {
+            (Some(moments), Ok(now)) => moments.may_write(now),
+            _ => false,
+        }
+    }
+
+    /// Keeps that octets came. Without a moment nothing could bound a request, and the link fails
+    /// from then on.
+    fn note_read(&mut self)
+        ensures { self.new ≡ self.old }
+    {
+        self.moments = match (self.moments, Instant::now(&self.rt)) {
+            (Some(moments), Ok(now)) => Some(moments.behind_read(now)),
+            _ => None,
+        };
+    }
+
+    /// Keeps that octets went, as `note_read` does.
     fn note_write(&mut self)
         ensures { self.new ≡ self.old }
     {
-        if let Ok(now) = Instant::now(&self.rt) {
-            self.last_write = Some(now);
-        }
+        self.moments = match (self.moments, Instant::now(&self.rt)) {
+            (Some(moments), Ok(now)) => Some(moments.behind_write(now)),
+            _ => None,
+        };
     }
+}
+
+/// The moments of a connection that was just made, if the system took its options.
+fn first_moments<R: std::rt::Clock>(rt: &R, stream: &TcpStream) -> Option<Moments> {
+    if !is_prepared(stream) {
+        return None;
+    }
+    let made = Instant::now(rt).ok()?;
+    Some(Moments {
+        made,
+        stage: Stage::New,
+    })
 }
 
 /// Whether the system took the options of a connection.
@@ -111,11 +220,15 @@ impl<R: std::rt::Clock + Copy + Drop> Link for TcpLink<R> {
         if !self.may_read() {
             return Err(self.stream.fail());
         }
-        self.stream.read(into)
+        let n = self.stream.read(into)?;
+        if 0 < n {
+            self.note_read();
+        }
+        Ok(n)
     }
 
     fn write(&mut self, piece: &[u8]) -> Result<usize, Failed> {
-        if self.last_write.is_none() {
+        if !self.may_write() {
             return Err(self.stream.fail());
         }
         let n = self.stream.write(piece)?;

@@ -1,5 +1,5 @@
 -- What several calls on a stream do one after the other.
-use Rattle.std.proofs.Common.{◌≡◌, ℕ, ◌+◌, ◌≤◌, arith, refl, sym, ap, subst, ◌∙◌, List, [], ◌++◌, length, take, drop, length-append, Option, Some, None, IfSome}
+use Rattle.std.proofs.Common.{◌≡◌, ℕ, ◌+◌, ◌≤◌, arith, sym, ap, subst, ◌∙◌, List, [], ◌++◌, length, take, drop, length-append, Option, Some, None, IfSome}
 use Rattle.std.proofs.lemmas.List.{append_assoc, append-nil}
 use Rattle.std.proofs.lemmas.Option.{same_Some}
 use Rattle.std.proofs.Math.Seq.{take-add}

@@ -1,13 +1,12 @@
 -- Each text is a body with one element, or has one first fault, and not both.
-use Rattle.std.specs.Prelude.{◌≡◌, ℕ, suc, ◌+◌, Bool, true, false, not, ◌&&◌, if◌then◌else◌, List, [], ◌∷◌, length, drop, filter_map, Option, Some, None, ◌⊎◌}
-use Rattle.std.proofs.Common.{inl, inr, arith, refl, sym, ap, subst, ◌∙◌}
+use Rattle.std.specs.Prelude.{◌≡◌, ℕ, suc, ◌+◌, Bool, true, false, if◌then◌else◌, List, [], ◌∷◌, length, drop, filter_map, Option, Some, None, ◌⊎◌}
+use Rattle.std.proofs.Common.{inl, inr, arith, refl, sym, ap, ◌∙◌}
 use Rattle.std.proofs.lemmas.Option.{same_Some}
-use Rattle.std.proofs.lemmas.Bool.{ltb-false}
 use Rattle.cal_base.specs.declared.element.Element.{Element}
 use Rattle.cal_base.specs.Lines.ComponentTrees.{or_else}
 use Rattle.cal_base.specs.Xml.XmlMarkup.{Tag, Markup, opening, closing, character, section, reference, skipped, markups, markup_of}
 use Rattle.cal_base.specs.Xml.XmlScopes.{Scope}
-use Rattle.cal_base.specs.Xml.XmlFaults.{Why, Fault, syntax, cut_short, fault_at, tags_behind, rooted_behind, can_stand, own_fault, markup_fault, references_fault, no_markup_fault, end_fault, first_fault, is_declaration, declaration_fault, fault_behind, mark_size, body_fault}
+use Rattle.cal_base.specs.Xml.XmlFaults.{Why, Fault, syntax, fault_at, tags_behind, rooted_behind, can_stand, own_fault, markup_fault, references_fault, no_markup_fault, end_fault, first_fault, is_declaration, declaration_fault, fault_behind, mark_size, body_fault}
 use Rattle.cal_base.specs.Xml.XmlBodies.{Part, said, Level, with_part, with_tag, levels_before, outermost, without_declaration, IsBody, IsBodyFault}
 
 -- Not both

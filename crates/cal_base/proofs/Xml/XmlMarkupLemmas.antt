@@ -1,5 +1,5 @@
 -- The cut of a text into markups: nothing is lost, and each markup is cut off whatever stands behind it.
-use Rattle.std.specs.Prelude.{◌≡◌, ℕ, zero, suc, ◌+◌, ◌-◌, ◌≤◌, Bool, true, false, if◌then◌else◌, List, [], ◌∷◌, ◌++◌, length, take, drop, codes, None, nat_eq, ◌⊎◌}
+use Rattle.std.specs.Prelude.{◌≡◌, ℕ, zero, suc, ◌+◌, ◌-◌, ◌≤◌, Bool, true, false, if◌then◌else◌, List, [], ◌∷◌, ◌++◌, length, take, drop, codes, None, nat_eq}
 use Rattle.std.specs.List.{concat}
 use Rattle.std.specs.Cmp.Lexicographic.{pointwise}
 use Rattle.std.proofs.lemmas.Slice.Eq.{starts_is}
