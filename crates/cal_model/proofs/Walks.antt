@@ -4,3 +4,4 @@ pub mod PickLemmas
 pub mod WantedLemmas
 pub mod BeginLemmas
 pub mod BudgetLemmas
+pub mod PlaceLemmas

@@ -4,4 +4,5 @@ pub mod Clocks
 pub mod KeptMoments
 pub mod Cursors
 pub mod PickedRest
+pub mod Places
 pub mod Budgets

@@ -9,6 +9,7 @@ mod cursor;
 mod kept;
 mod period;
 mod picks;
+mod places;
 pub mod rule_walk;
 pub mod starts;
 mod until;

@@ -1,7 +1,7 @@
 //! Time zones (RFC 5545, 3.6.5).
 
 use crate::rule::Rule;
-use cal_base::{List, Octets};
+use cal_base::{List, Octets, SharedList};
 use cal_moment::{Local, Utc};
 
 /// A STANDARD or DAYLIGHT part of a VTIMEZONE.
@@ -34,6 +34,6 @@ pub struct ZoneTable {
     pub name: Octets,
     /// The offset before the first onset, in seconds east of UTC.
     pub before: i32,
-    /// In rising order, with distinct moments.
-    pub onsets: List<Onset>,
+    /// In rising order, with distinct moments. Tables of equal zones may share them.
+    pub onsets: SharedList<Onset>,
 }

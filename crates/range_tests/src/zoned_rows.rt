@@ -6,7 +6,7 @@ ghost use Rattle.cal_model.specs.TimeZones.TableBounds.{IsTable, IsOffset};
 ghost use Rattle.overlap_rules.specs.Bounds.{IsNear, IsNearRow};
 
 use crate::overlaps::component;
-use cal_base::{List, NoMemory, Octets};
+use cal_base::{List, NoMemory, Octets, SharedList};
 use cal_model::{Component, Extent, Kind, Onset, Range, Row, RowKind, ZoneTable};
 use cal_moment::{Day, Length, Local, Stamp, Utc};
 use overlap_rules::{fixed, row_overlaps};
@@ -26,7 +26,7 @@ fn zone(alloc: Global, before: i32, first: Onset, second: Onset) -> Result<ZoneT
     Ok(ZoneTable {
         name: Octets::new(alloc),
         before,
-        onsets,
+        onsets: SharedList::of(alloc, onsets)?,
     })
 }
 

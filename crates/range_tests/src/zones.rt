@@ -3,7 +3,7 @@
 ghost use Rattle.std.specs.Prelude.{IfOk};
 ghost use Rattle.cal_model.specs.TimeZones.TableBounds.{IsTable, IsOffset};
 
-use cal_base::{List, NoMemory, Octets};
+use cal_base::{List, NoMemory, Octets, SharedList};
 use cal_model::{LocalTimes, Onset, ZoneTable, exists, offset_at, to_utc};
 use cal_moment::{Local, Utc};
 use std::alloc::Global;
@@ -37,7 +37,7 @@ pub fn new_york(alloc: Global) -> Result<ZoneTable, NoMemory>
     Ok(ZoneTable {
         name,
         before: -18_000,
-        onsets,
+        onsets: SharedList::of(alloc, onsets)?,
     })
 }
 
@@ -115,7 +115,7 @@ fn restless(alloc: Global) -> Result<ZoneTable, NoMemory>
     Ok(ZoneTable {
         name: Octets::new(alloc),
         before: 0,
-        onsets,
+        onsets: SharedList::of(alloc, onsets)?,
     })
 }
 

@@ -171,7 +171,7 @@ fn shows(rt: &impl Abort, table: &ZoneTable, before: i32, onsets: &[(i64, i32)],
     assert_eq!(rt; table.before, before);
     assert_eq!(rt; table.onsets.len(), number);
     for (k, (at, offset)) in onsets.iter().enumerate() {
-        match table.onsets.get(k) {
+        match table.onsets.as_slice().get(k) {
             Some(onset) => assert!(rt; onset.at.0 == *at && onset.offset == *offset),
             None => assert!(rt; false),
         }

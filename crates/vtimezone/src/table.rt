@@ -12,7 +12,7 @@ ghost use Rattle.vtimezone.specs.Gathered as spec;
 use crate::change::Change;
 use crate::fault::TableFault;
 use crate::gather::add_parts;
-use cal_base::{List, NoMemory, Octets, Steps};
+use cal_base::{List, NoMemory, Octets, SharedList, Steps};
 use cal_model::{Onset, Rules, ZonePart, ZoneTable};
 use cal_moment::Utc;
 use std::alloc::Global;
@@ -110,6 +110,7 @@ fn table_of(
     keep_last(sorted, &mut kept)?;
     let mut onsets = List::new(alloc);
     add_onsets(kept.as_slice(), &mut onsets)?;
+    let onsets = SharedList::of(alloc, onsets)?;
     let before = offset_before(kept.as_slice(), parts);
     let name = Octets::of(alloc, name)?;
     Ok(ZoneTable {

@@ -181,7 +181,7 @@ module _ (rule : Rule) (start : ℕ) (reading : Reading) where
     | inr some ↦ rw some (All-filter (λ m. some_names_place rule.by_set_pos (place_in_period rule (found_from rule start reading a) m) (size_of_period rule (found_from rule start reading a) m)) (λ m. a ≤ m) (found_from rule start reading a) (found_from_low a))
   ]
 
-  kept_from-end : kept_from rule start reading (86400 * end_day) ≡ []
+  pub kept_from-end : kept_from rule start reading (86400 * end_day) ≡ []
   unfolding kept_from
   kept_from-end = elim (cases_Bool (is_empty rule.by_set_pos)) [
     | inl none ↦ rw (found_from-end, none) refl

@@ -16,6 +16,7 @@ use crate::walk::cursor::{Cursor, is_before, second_after};
 use crate::walk::kept::next_kept;
 use crate::walk::period::period_first;
 use crate::walk::picks::Picks;
+use crate::walk::places::picks_nothing;
 use crate::walk::until::until_passes;
 use cal_base::{List, NoMemory, Steps};
 use cal_moment::Local;
@@ -152,7 +153,7 @@ fn period_begin(rule: &Rule, m: Local) -> Local
 }
 
 /// Where the walk over a rule's moments begins: at the first moment that counts, or with BYSETPOS at
-/// or before the first of its period.
+/// or before the first of its period. Where no period has one of its places, behind all moments.
 fn begin(rule: &Rule, start: Local, low: Local) -> Local
     requires start { IsWritten start }
     requires low { IsWritten low }
@@ -165,6 +166,9 @@ fn begin(rule: &Rule, start: Local, low: Local) -> Local
         wanted rule.now (moment_of_local start) reading (moment_of_local low) high (one_less rule.now.count) (kept_from rule.now (moment_of_local start) reading first_moment)
         ≡ wanted rule.now (moment_of_local start) reading (moment_of_local low) high (one_less rule.now.count) (kept_from rule.now (moment_of_local start) reading (moment_of_local result)) }
 {
+    if picks_nothing(rule) {
+        return END;
+    }
     let from = first_counted(rule, start, low);
     if rule.by_set_pos.is_empty() {
         return from;
