@@ -2,3 +2,4 @@ pub mod BitLemmas
 pub mod CalendarLemmas
 pub mod MonthLemmas
 pub mod StepLemmas
+pub mod RoundLemmas

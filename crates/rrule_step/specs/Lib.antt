@@ -4,3 +4,4 @@ pub mod Clock
 pub mod StartMoment
 pub mod Periods
 pub mod Plans
+pub mod Rounds

@@ -11,6 +11,7 @@ mod days;
 mod month;
 mod parts;
 mod periods;
+mod rounds;
 mod set;
 mod start;
 mod step;

@@ -48,6 +48,17 @@ impl Set {
         Set(self.0 & other.0)
     }
 
+    /// Whether the set has a number.
+    pub fn contains(self, number: u32) -> bool
+        requires { number < 64 }
+        ensures { result ≡ has self number }
+    {
+        match self.next(number, number + 1) {
+            Some(_) => true,
+            None => false,
+        }
+    }
+
     /// The first number of the set from one on and below an end.
     pub fn next(self, from: u32, end: u32) -> Option<u32>
         requires { end ≤ 64 }

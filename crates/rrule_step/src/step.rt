@@ -13,6 +13,7 @@ ghost use Rattle.rrule_step.specs.Sets.{has};
 use crate::days::{days_of, months_of};
 use crate::month::{Month, date_of};
 use crate::periods::{END_MONTH, counted_day, counted_month, hours_on, listed_month, period_of};
+use crate::rounds::never_meets;
 use crate::set::Set;
 use crate::start::Start;
 use crate::times::{Times, next_in_day, times_of};
@@ -228,6 +229,9 @@ impl Rules for PeriodStep {
             return None;
         }
         let plan = plan_of(rule, start, dated);
+        if never_meets(rule, &plan) {
+            return None;
+        }
         let (year, month, _) = date_of(day);
         let second = from.second;
         let found = next_moment(rule, &plan, 12 * year + month - 1, Moment { day, second })?;
