@@ -20,7 +20,7 @@ use Rattle.rrule_sets.specs.MasterRows.{masters_cost, masters_from}
 use Rattle.rrule_sets.specs.NeededDigits.{overrides_in}
 use Rattle.rrule_sets.proofs.AskedLemmas.{sum-cons}
 
-sum_each : {X : Type 0} (f g : X → ℕ) → ((x : X) → f x ≤ g x) → (xs : List X) → sum (map f xs) ≤ sum (map g xs)
+pub sum_each : {X : Type 0} (f g : X → ℕ) → ((x : X) → f x ≤ g x) → (xs : List X) → sum (map f xs) ≤ sum (map g xs)
 sum_each f g le [] = omega arith
 sum_each f g le (x ∷ xs) =
     let first = le x in

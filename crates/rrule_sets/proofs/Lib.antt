@@ -5,6 +5,7 @@ pub mod DigitLemmas
 pub mod EndLemmas
 pub mod InstanceLemmas
 pub mod NearLemmas
+pub mod NearRowLemmas
 pub mod NeededLemmas
 pub mod ReadLemmas
 pub mod CostLemmas
@@ -14,3 +15,4 @@ pub mod SpanLemmas
 pub mod StartsInRange
 pub mod UndatedLemmas
 pub mod WindowedRows
+pub mod SeveralLemmas

@@ -26,7 +26,7 @@ pub record IsNeededSoFar (zones : List ZoneTable) (ids : Stamp) (window : ℤ) (
   pub days : (wide : Digits) → HasRange wide range → All (HasDay wide) (flat_map (days_needed zones ids window) rest) → All (HasDay wide) (flat_map (days_needed zones ids window) all)
   pub least : (z : ℤ) → ((window +ℤ pos 1) *ℤ window_seconds) ≤ℤ z → All (EndsBefore z) (flat_map (days_needed zones ids window) all) → (range.high ≤ℤ z) × All (EndsBefore z) (flat_map (days_needed zones ids window) rest)
 
-has_range : (wide range part : Digits) → HasRange wide range → HasRange range part → HasRange wide part
+pub has_range : (wide range part : Digits) → HasRange wide range → HasRange range part → HasRange wide part
 has_range wide range part a b = let af = a.from in let at_end = a.to in let bf = b.from in let bt = b.to in record { from = omega (arith, ints, af, bf); to = omega (arith, ints, at_end, bt) }
 
 has_day : (wide range : Digits) (midnight : ℤ) → HasRange wide range → HasDay range midnight → HasDay wide midnight

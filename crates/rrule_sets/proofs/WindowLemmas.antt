@@ -41,7 +41,7 @@ use Rattle.rrule_sets.specs.MasterRows.{masters_from, rows_of_master}
 use Rattle.rrule_sets.specs.NeededDigits.{EndsBy, HasDay, HasWindow, days_needed, days_of_start, id_days}
 use Rattle.rrule_sets.proofs.WindowedRows.{KeepsNamed, KeepsNamedBy, KeepsWindow, rows_in-kept}
 
-filter-none : {X : Type 0} (p : X → Bool) (xs : List X) → All (λ x. p x ≡ false) xs → filter p xs ≡ []
+pub filter-none : {X : Type 0} (p : X → Bool) (xs : List X) → All (λ x. p x ≡ false) xs → filter p xs ≡ []
 filter-none p [] all = refl
 filter-none p (x ∷ xs) all = let here = All-head (λ x. p x ≡ false) x xs all in rw here (filter-none p xs (All-tail (λ x. p x ≡ false) x xs all))
 

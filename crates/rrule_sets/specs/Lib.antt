@@ -6,3 +6,5 @@ pub mod NeededDigits
 pub mod MasterRows
 pub mod ExpandableObjects
 pub mod CountedRows
+pub mod NearRows
+pub mod SeveralWindows

@@ -43,7 +43,7 @@ pub fn master_of(components: &[Component]) -> Option<(&Component, u32)>
 }
 
 /// The rows of the master that start in a range.
-fn master_rows<R: Rules, L: Ledger>(
+pub fn master_rows<R: Rules, L: Ledger>(
     alloc: Global,
     body: &R,
     zones: &[LocalTimes<'_>],
@@ -68,7 +68,7 @@ fn master_rows<R: Rules, L: Ledger>(
 
 /// The rows of a window, where the zones are at hand and the stamp is that beside which the ids of the
 /// object are aligned.
-fn rows_beside<L: Ledger>(
+pub fn rows_beside<L: Ledger>(
     alloc: Global,
     zones: &[LocalTimes<'_>],
     ids: Stamp,

@@ -1,0 +1,13 @@
+-- Rows by their ids, and those whose id lies within a day of a range of digits.
+use Rattle.std.specs.Prelude.{Bool, ◌&&◌, int_le, int_lt, ℤ, pos, ◌+ℤ◌, ◌-ℤ◌, ◌<ℤ◌}
+use Rattle.cal_model.specs.declared.row.Row.{Row}
+use Rattle.rrule_sets.specs.declared.range.Digits.{Digits}
+
+abbrev pub HasLesserId : Row → Row → Type 0
+HasLesserId a b = a.id <ℤ b.id
+
+abbrev pub is_near_id : Digits → ℤ → Bool
+is_near_id range id = int_lt id (range.high +ℤ pos 86400) && int_le (range.low -ℤ pos 86400) id
+
+abbrev pub is_near : Digits → Row → Bool
+is_near range row = is_near_id range row.id

@@ -1,0 +1,251 @@
+//! The rows of several windows.
+ghost use Rattle.std.specs.Prelude.{◌≡◌, ℕ, ◌+◌, ◌≤◌, ◌<◌, ◌^◌, ◌++◌, length, false, Some, All, IfOk, OnOk, flat_map, map, sum, ℤ, ◌≤ℤ◌};
+ghost use Rattle.cal_model.specs.Instances.Rows as spec;
+ghost use Rattle.cal_model.specs.Objects.ObjectFacts.{IsRead};
+ghost use Rattle.cal_model.specs.Ranges.Cost.{cost};
+ghost use Rattle.override_merge.specs.Conversions.{tables_of, HasZone, HasConvertibleRow};
+ghost use Rattle.rrule_sets.specs.ExpandableObjects.{HasRowsToFind};
+ghost use Rattle.rrule_sets.specs.MasterRows.{rows_of_master};
+ghost use Rattle.rrule_sets.specs.NeededDigits.{HasRange};
+ghost use Rattle.rrule_sets.specs.SeveralWindows.{IsNeeded, looks_of};
+
+use crate::near::near_rows;
+use crate::needed::needed;
+use crate::range::Digits;
+use crate::window::{master_rows, rows_beside};
+use cal_base::{List, NoMemory, Steps};
+use cal_model::{Component, LocalTimes, Object, Row};
+use cal_moment::Stamp;
+use override_merge::merged_rows;
+use override_merge::rows::Part;
+use override_merge::starts::ids_start;
+use override_merge::zones::local_times;
+use rrule_step::PeriodStep;
+use std::alloc::Global;
+use std::sync::ledger::Ledger;
+
+/// A window, and the digits whose starts it needs.
+#[derive(Clone, Copy)]
+pub struct Needed {
+    pub window: i32,
+    pub range: Digits,
+}
+
+/// The digits that each of several windows needs. Takes a step for each window, and one for each
+/// override beside it.
+fn needed_of_each<L: Ledger>(
+    alloc: Global,
+    zones: &[LocalTimes<'_>],
+    ids: Stamp,
+    components: &[Component],
+    windows: &[i32],
+    steps: &mut Steps<L>,
+) -> Result<List<Needed>, NoMemory>
+    requires ids { HasZone (length zones.now) ids }
+    requires components { All (HasConvertibleRow (length zones.now)) components.now }
+    ensures steps { steps.new ≤ steps.old + sum (map (looks_of components.now) windows.now) }
+    ensures windows { IfOk result (λ each. map (λ (n : Needed). n.window) each ≡ windows.now) }
+    ensures needed { IfOk result (λ each. All (IsNeeded (tables_of zones.now) ids components.now) each) }
+{
+    let mut each = List::new(alloc);
+    let mut rest = windows;
+    'windows: while let Some((window, behind)) = rest.split_first() {
+        steps.tick();
+        let range = needed(zones, ids, components, *window, steps);
+        each.push(Needed {
+            window: *window,
+            range,
+        })?;
+        rest = behind;
+    }
+    Ok(each)
+}
+
+/// One range that has two.
+fn joined(a: Digits, b: Digits) -> Digits
+    ensures first { HasRange result a }
+    ensures second { HasRange result b }
+    ensures least { (z : ℤ) → a.high ≤ℤ z → b.high ≤ℤ z → result.high ≤ℤ z }
+{
+    Digits {
+        low: a.low.min(b.low),
+        high: a.high.max(b.high),
+    }
+}
+
+/// One range that has a first one and those of several windows.
+fn joined_with(first: Digits, each: &[Needed]) -> Digits
+    ensures first { HasRange result first }
+    ensures each { All (λ (n : Needed). HasRange result n.range) each.now }
+    ensures least { (z : ℤ) → first.high ≤ℤ z → All (λ (n : Needed). n.range.high ≤ℤ z) each.now → result.high ≤ℤ z }
+{
+    let mut range = first;
+    let mut rest = each;
+    'widening: while let Some((needed, behind)) = rest.split_first() {
+        range = joined(range, needed.range);
+        rest = behind;
+    }
+    range
+}
+
+/// Puts the rows of a window behind others, given the rows of the master in a range that has what the
+/// window needs.
+fn put_window(
+    alloc: Global,
+    zones: &[LocalTimes<'_>],
+    ids: Stamp,
+    object: &Object,
+    range: Digits,
+    rows: &[Row],
+    needed: &Needed,
+    out: &mut List<Row>,
+) -> Result<(), NoMemory>
+    requires object { HasRowsToFind object.now }
+    requires zones { tables_of zones.now ≡ object.now.zones }
+    requires ids { Some ids ≡ spec.ids_start object.now }
+    requires rows { rows.now ≡ flat_map (rows_of_master object.now.zones range) (spec.masters object.now) }
+    requires range { HasRange range needed.now.range }
+    requires needed { IsNeeded object.now.zones ids object.now.components needed.now }
+    ensures { OnOk result (out.new ≡ out.old ++ spec.rows_in object.now needed.now.window) }
+{
+    let _ = range;
+    let near = near_rows(rows, needed.range);
+    let part = Part::Window(needed.window);
+    let found = merged_rows(alloc, zones, ids, object, near, part)?;
+    out.extend_from_slice(found.as_slice())
+}
+
+/// The rows of several windows, given the rows of the master in a range that has what each of them
+/// needs.
+fn rows_in_range(
+    alloc: Global,
+    zones: &[LocalTimes<'_>],
+    ids: Stamp,
+    object: &Object,
+    range: Digits,
+    rows: &[Row],
+    each: &[Needed],
+) -> Result<List<Row>, NoMemory>
+    requires object { HasRowsToFind object.now }
+    requires zones { tables_of zones.now ≡ object.now.zones }
+    requires ids { Some ids ≡ spec.ids_start object.now }
+    requires rows { rows.now ≡ flat_map (rows_of_master object.now.zones range) (spec.masters object.now) }
+    requires range { All (λ (n : Needed). HasRange range n.range) each.now }
+    requires needed { All (IsNeeded object.now.zones ids object.now.components) each.now }
+    ensures { IfOk result (λ rows. rows ≡ flat_map (spec.rows_in object.now) (map (λ (n : Needed). n.window) each.now)) }
+{
+    let mut out = List::new(alloc);
+    let mut rest = each;
+    'windows: while let Some((needed, behind)) = rest.split_first() {
+        put_window(alloc, zones, ids, object, range, rows, needed, &mut out)?;
+        rest = behind;
+    }
+    Ok(out)
+}
+
+/// The rows of several windows, of which it is known what they need.
+fn rows_of_needed<L: Ledger>(
+    alloc: Global,
+    zones: &[LocalTimes<'_>],
+    ids: Stamp,
+    object: &Object,
+    each: &[Needed],
+    steps: &mut Steps<L>,
+) -> Result<List<Row>, NoMemory>
+    requires object { HasRowsToFind object.now }
+    requires zones { tables_of zones.now ≡ object.now.zones }
+    requires ids { Some ids ≡ spec.ids_start object.now }
+    requires needed { All (IsNeeded object.now.zones ids object.now.components) each.now }
+    ensures steps { (before : ℕ) → steps.old ≤ before + sum (map (looks_of object.now.components) (map (λ (n : Needed). n.window) each.now)) → steps.new ≤ before + sum (map (cost object.now) (map (λ (n : Needed). n.window) each.now)) }
+    ensures rows { IfOk result (λ rows. rows ≡ flat_map (spec.rows_in object.now) (map (λ (n : Needed). n.window) each.now)) }
+{
+    let Some((first, others)) = each.split_first() else {
+        return Ok(List::new(alloc));
+    };
+    let components = object.components.as_slice();
+    let range = joined_with(first.range, others);
+    let rows = master_rows(alloc, &PeriodStep, zones, components, range, steps)?;
+    rows_in_range(alloc, zones, ids, object, range, rows.as_slice(), each)
+}
+
+/// The rows of several windows, found in one walk over each rule as far as the last of them.
+fn rows_of_one_walk<L: Ledger>(
+    alloc: Global,
+    zones: &[LocalTimes<'_>],
+    ids: Stamp,
+    object: &Object,
+    windows: &[i32],
+    steps: &mut Steps<L>,
+) -> Result<List<Row>, NoMemory>
+    requires object { HasRowsToFind object.now }
+    requires zones { tables_of zones.now ≡ object.now.zones }
+    requires ids { Some ids ≡ spec.ids_start object.now }
+    ensures steps { steps.new ≤ steps.old + sum (map (cost object.now) windows.now) }
+    ensures rows { IfOk result (λ rows. rows ≡ flat_map (spec.rows_in object.now) windows.now) }
+{
+    let components = object.components.as_slice();
+    let each = needed_of_each(alloc, zones, ids, components, windows, steps)?;
+    rows_of_needed(alloc, zones, ids, object, each.as_slice(), steps)
+}
+
+/// The same, each window by itself: of a rule without COUNT only what a window needs is walked over.
+fn rows_of_each<L: Ledger>(
+    alloc: Global,
+    zones: &[LocalTimes<'_>],
+    ids: Stamp,
+    object: &Object,
+    windows: &[i32],
+    steps: &mut Steps<L>,
+) -> Result<List<Row>, NoMemory>
+    requires object { HasRowsToFind object.now }
+    requires zones { tables_of zones.now ≡ object.now.zones }
+    requires ids { Some ids ≡ spec.ids_start object.now }
+    ensures steps { steps.new ≤ steps.old + sum (map (cost object.now) windows.now) }
+    ensures rows { IfOk result (λ rows. rows ≡ flat_map (spec.rows_in object.now) windows.now) }
+{
+    let mut out = List::new(alloc);
+    let mut rest = windows;
+    'windows: while let Some((window, behind)) = rest.split_first() {
+        steps.tick();
+        let rows = rows_beside(alloc, zones, ids, object, *window, steps)?;
+        out.extend_from_slice(rows.as_slice())?;
+        rest = behind;
+    }
+    Ok(out)
+}
+
+/// Whether a rule of some components counts its occurrences, so that a walk over it begins with its
+/// start.
+fn is_counted(components: &[Component]) -> bool {
+    components.iter().any(|component| component
+        .rules
+        .as_slice()
+        .iter()
+        .any(|rule| rule.count.is_some()))
+}
+
+/// The dated rows of several windows: of each window those that `window_rows` gives, in the order of
+/// the windows given. Where a rule counts its occurrences, it is walked over once for all windows.
+/// Takes no more steps than finding the rows of each window by itself may cost.
+pub fn windows_rows<L: Ledger>(
+    alloc: Global,
+    object: &Object,
+    windows: &[i32],
+    steps: &mut Steps<L>,
+) -> Result<List<Row>, NoMemory>
+    requires read { IsRead object.now }
+    requires few { length object.now.components < 2 ^ 32 }
+    requires coarse { spec.has_fine_rule object.now ≡ false }
+    ensures steps { steps.new ≤ steps.old + sum (map (cost object.now) windows.now) }
+    ensures rows { IfOk result (λ rows. rows ≡ flat_map (spec.rows_in object.now) windows.now) }
+{
+    let Some(ids) = ids_start(object) else {
+        return Ok(List::new(alloc));
+    };
+    let zones = local_times(alloc, object.zones.as_slice())?;
+    if is_counted(object.components.as_slice()) {
+        rows_of_one_walk(alloc, zones.as_slice(), ids, object, windows, steps)
+    } else {
+        rows_of_each(alloc, zones.as_slice(), ids, object, windows, steps)
+    }
+}
