@@ -13,3 +13,4 @@ pub mod OtherChanges
 pub mod LookLemmas
 pub mod OpeningLemmas
 pub mod StoreLemmas
+pub mod SameOnsets

@@ -18,9 +18,16 @@ use crate::objects::{ObjectEntry, put_object, take_object};
 use crate::settings::set_texts;
 use crate::zone::zone_behind;
 use cal_base::{Arc, List as Items, NameMap, NoMemory, Octets};
-use cal_model::{Acl, CalendarData, Grant, PropSet, Stored};
+use cal_model::{Acl, CalendarData, Grant, PropSet, Stored, ZoneTable};
 use std::alloc::Global;
 use std::marker::Model;
+
+/// Puts a zone, or none, in the place of another.
+fn replace_zone(kept: &mut Option<ZoneTable>, zone: Option<ZoneTable>)
+    ensures { kept.new ≡ zone }
+{
+    *kept = zone;
+}
 
 /// A calendar with its objects by their names and by their UIDs. Contracts see of each object the
 /// octets and the origin.
@@ -161,7 +168,7 @@ impl CalendarStore {
         set_texts(alloc, &mut self.kept.texts, sets)?;
         self.kept.kinds = kinds_behind(self.kept.kinds, sets);
         if let Some(zone) = zone {
-            self.kept.zone = zone;
+            replace_zone(&mut self.kept.zone, zone);
         }
         Ok(())
     }

@@ -14,5 +14,6 @@ mod objects;
 mod settings;
 mod store;
 mod zone;
+mod zone_pool;
 
 pub use store::Store;

@@ -19,9 +19,10 @@ use crate::homes::{
     calendar_in, delete_calendar_in, delete_object_in, make_in, next_calendar_in, opening_homes,
     put_in, set_grants_in, set_in,
 };
+use crate::zone_pool::ZonePool;
 use cal_base::{Arc, NoMemory, Octets};
 use cal_model::view::Applies;
-use cal_model::{CalendarData, Change, Grant, PropSet, Stored};
+use cal_model::{CalendarData, Change, Grant, Object, PropSet, Stored};
 use privileges::Users;
 use std::alloc::Global;
 use std::marker::Model;
@@ -36,6 +37,8 @@ pub struct Store {
     alloc: Global,
     users: Arc<Users>,
     homes: Vec<KeptHome>,
+    /// What contracts don't see: the tables that objects share are equal to their own.
+    zones: ZonePool,
 }
 
 impl Model for Store {
@@ -65,6 +68,7 @@ impl Store {
             alloc,
             users,
             homes,
+            zones: ZonePool::new(alloc),
         })
     }
 
@@ -144,6 +148,14 @@ impl Store {
             Some(calendar) => calendar.uid_holder(uid),
             None => None,
         }
+    }
+
+    /// The same object, in less memory: where its zones have the tables of objects that were put
+    /// before, it shares them. Takes no memory.
+    pub fn shared(&self, object: Object) -> Object
+        ensures { result ≡ object }
+    {
+        self.zones.shared(object)
     }
 
     /// What the changes that were accepted for a home cost in all, in octets: its body for each PUT,
@@ -230,6 +242,7 @@ impl Store {
         ensures origins { OnOk result ((h : ℕ) (c o : List ℕ) → origins_of self.new h c o ≡ origins_after (put stored.now.path.home stored.now.path.calendar stored.now.path.object stored.now.octets) origin (origins_of self.old) h c o) }
         ensures err { OnErr result (self.new ≡ self.old) }
     {
+        self.zones.keep(&stored.object);
         put_in(self.alloc, &mut self.homes, stored, origin)
     }
 
