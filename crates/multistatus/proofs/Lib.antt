@@ -1,3 +1,4 @@
 pub mod TagLemmas
 pub mod ReplyLemmas
 pub mod NameLemmas
+pub mod TextRuns

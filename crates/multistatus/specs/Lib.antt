@@ -1,4 +1,5 @@
 pub mod PropertyTags
 pub mod ReplyPieces
 pub mod Answered
+pub mod EscapedOctets
 pub mod NameKeys

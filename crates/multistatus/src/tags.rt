@@ -1,8 +1,9 @@
 //! Tags of properties, and text, as they are written. What is appended leaves what was there, also
 //! where memory is wanting on the way.
-ghost use Rattle.std.specs.Prelude.{◌≡◌, ◌++◌, ◌+◌, ◌<◌, OnOk, length, take, option_map, codes};
+ghost use Rattle.std.specs.Prelude.{◌≡◌, ◌++◌, ◌+◌, ◌<◌, OnOk, IfSome, length, take, drop, option_map, position, codes};
 ghost use Rattle.cal_base.specs.Xml.CanonicalXml.{text_octet, xml_text, attribute_text, value_octet, known_prefix};
 ghost use Rattle.dav_write.specs.ElementTexts.{element_name, own_declaration, value_text, end_tag};
+ghost use Rattle.multistatus.specs.EscapedOctets.{is_escaped};
 ghost use Rattle.multistatus.specs.PropertyTags.{opened, closed};
 
 use cal_base::{NoMemory, Octets};
@@ -124,16 +125,42 @@ fn prefix_of(space: &[u8]) -> Option<&'static [u8]>
     }
 }
 
-/// Appends some octets as text.
-#[tactic(auto, unfolding(cal_base::specs::Xml::CanonicalXml::xml_text))]
+/// Appends some octets as text. What stands between two octets that are escaped is copied as a whole:
+/// in calendar data these are its lines.
 pub fn push_text(text: &[u8], out: &mut Octets) -> Result<(), NoMemory>
     ensures text { OnOk result (out.new ≡ out.old ++ xml_text text.now) }
     ensures front { take (length out.old) out.new ≡ out.old }
 {
-    'octets: for octet in text {
-        push_text_octet(*octet, out)?;
+    let mut rest = text;
+    'runs: while let Some(place) = first_escaped(rest) {
+        out.extend_from_slice(&rest[..place])?;
+        push_text_octet(rest[place], out)?;
+        rest = behind(rest, place);
     }
-    Ok(())
+    out.extend_from_slice(rest)
+}
+
+/// What stands behind an octet of a text.
+fn behind(text: &[u8], place: usize) -> &[u8]
+    requires { place < length text.now }
+    ensures { result.now ≡ drop (place + 1) text.now }
+{
+    &text[place + 1..]
+}
+
+/// Where the first octet stands that text does not have as it is.
+fn first_escaped(text: &[u8]) -> Option<usize>
+    ensures first { result ≡ position is_escaped text.now }
+    ensures within { IfSome result (λ place. place < length text.now) }
+{
+    text.iter().position(|octet| is_escaped(*octet))
+}
+
+/// Whether text does not have an octet as it is.
+fn is_escaped(octet: u8) -> bool
+    ensures { result ≡ is_escaped octet }
+{
+    octet == b'&' || octet == b'<' || octet == b'>' || octet == b'\r'
 }
 
 /// Appends an octet of text. A CR is escaped, since a reader of XML would make it a line feed.
