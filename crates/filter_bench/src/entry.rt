@@ -4,7 +4,7 @@ ghost use Rattle.cal_model.specs.TimeZones.TableBounds.{IsTable};
 ghost use Rattle.overlap_rules.specs.Bounds.{IsNearRow};
 ghost use Rattle.filter_bench.specs.Entries.{IsEntry};
 
-use cal_base::{Line, List, Name, NoMemory, Node, Octets};
+use cal_base::{Line, List, Name, NoMemory, Node, Octets, SharedList};
 use cal_model::{Component, Extent, Kind, Object, Row, RowKind, ZoneTable};
 use cal_moment::{Length, Stamp, Utc};
 use std::alloc::Global;
@@ -30,7 +30,7 @@ pub fn utc(alloc: Global) -> ZoneTable
     ZoneTable {
         name: Octets::new(alloc),
         before: 0,
-        onsets: List::new(alloc),
+        onsets: SharedList::new(),
     }
 }
 

@@ -40,7 +40,7 @@ out-comp_filter_of tester = ap out-CompFilter (comp_filter_of_out tester) ∙ ou
 
 -- A tester's test of components side by side, by its level.
 
-abbrev own_level : Matched → CompFilter-F CompFilter → CompFilter-F (List Site → Bool)
+abbrev pub own_level : Matched → CompFilter-F CompFilter → CompFilter-F (List Site → Bool)
 own_level matched x = record { name = x.name; absent = x.absent; time = x.time; props = x.props; comps = map (comp_filter_holds matched) x.comps }
 
 holds-level : (matched : Matched) (tester : CompTester) (sites : List Site) → comp_filter_holds matched (comp_filter_of tester) sites ≡ comp_step matched (own_level matched (level_of tester)) sites

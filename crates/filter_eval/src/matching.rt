@@ -213,6 +213,9 @@ impl<'f> Prepared<'f> {
         requires rows { All IsNearRow rows.now }
         ensures { IfOk result (λ matches. matches ≡ spec.matches self.now object.now rows.now zone.now) }
     {
+        if self.needs_row && rows.is_empty() {
+            return Ok(false);
+        }
         let subject = Subject {
             object,
             rows: rows.as_slice(),

@@ -1,8 +1,11 @@
 //! Filters made ready for many objects: each text is folded and analysed once.
 
 ghost use Rattle.std.specs.Prelude.{◌≡◌, IfOk, map};
+ghost use Rattle.std.specs.List.{list_any};
+ghost use Rattle.filter_eval.specs.NeededRows.{asks_row, needs_row};
 ghost use Rattle.filter_eval.specs.Tests.{comp_filter_of};
 
+use crate::components::is_named;
 use crate::props::{PropTester, testers_of_props};
 use cal_base::{List, Name, NoMemory};
 use cal_model::{CompFilter, Filter, PropTest, Range};
@@ -27,19 +30,25 @@ pub struct Prepared<'f> {
     pub(crate) top: CompTester<'f>,
     /// Whether it asks for a date of some property.
     pub(crate) dated: bool,
+    /// Whether no object without rows matches it.
+    pub(crate) needs_row: bool,
 }
 
 impl<'f> Model for Prepared<'f> {
     ghost use Rattle.std.specs.Coded.{codes};
     ghost use Rattle.cal_model.specs.declared.filter.Filter.{Filter as Whole};
     ghost use Rattle.cal_model.specs.contracts.filter.CompFilter as levels;
+    ghost use Rattle.filter_eval.specs.NeededRows as needed;
     ghost use Rattle.filter_eval.specs.Tests.{comp_filter_of};
+    ghost use Rattle.std.specs.Prelude.{◌≡◌};
 
     ghost Value = { Whole };
 
     ghost coded = { Prim.hlevel (codes, levels.the_row.coded) };
 
     ghost view = { λ p. record { top = comp_filter_of p.top } };
+
+    ghost invariant = { λ p. p.needs_row ≡ needed.needs_row (comp_filter_of p.top) };
 }
 
 impl<'f> Prepared<'f> {
@@ -51,6 +60,7 @@ impl<'f> Prepared<'f> {
             Ok(top) => Ok(Prepared {
                 top,
                 dated: asks_date(&filter.top),
+                needs_row: needs_row(&filter.top),
             }),
             Err(fault) => Err(fault),
         }
@@ -72,6 +82,27 @@ fn asks_date(filter: &CompFilter) -> bool {
         }
     }
     false
+}
+
+/// Whether the comp-filter of the outermost component has one in it that some row alone lets pass, so
+/// that it holds of no object without rows.
+fn needs_row(filter: &CompFilter) -> bool
+    ensures { result ≡ needs_row filter.now }
+{
+    !filter.absent && some_asks_row(filter.comps.as_slice())
+}
+
+fn some_asks_row(filters: &[CompFilter]) -> bool
+    ensures { result ≡ list_any asks_row filters.now }
+{
+    filters.iter().any(|filter| asks_row(filter))
+}
+
+/// Whether a comp-filter asks a range of a component that is no VALARM.
+fn asks_row(filter: &CompFilter) -> bool
+    ensures { result ≡ asks_row filter.now }
+{
+    !filter.absent && filter.time.is_some() && !is_named(&filter.name, b"VALARM")
 }
 
 /// A comp-filter made ready.

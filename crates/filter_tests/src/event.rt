@@ -5,7 +5,7 @@ ghost use Rattle.cal_model.specs.TimeZones.TableBounds.{IsTable};
 ghost use Rattle.overlap_rules.specs.Bounds.{IsNearRow};
 
 use crate::line::line;
-use cal_base::{Line, List, Name, NoMemory, Node, Octets};
+use cal_base::{Line, List, Name, NoMemory, Node, Octets, SharedList};
 use cal_model::{
     Alarm, Component, Extent, Kind, Object, Related, Row, RowKind, Trigger, ZoneTable,
 };
@@ -22,7 +22,7 @@ pub fn utc(alloc: Global) -> ZoneTable
     ZoneTable {
         name: Octets::new(alloc),
         before: 0,
-        onsets: List::new(alloc),
+        onsets: SharedList::new(),
     }
 }
 

@@ -6,7 +6,7 @@ ghost use Rattle.cal_model.specs.Objects.ObjectReading.{read_object};
 ghost use Rattle.cal_model.specs.TimeZones.TableBounds.{IsTable};
 ghost use Rattle.expand_limit.specs.InstanceLines.{IsShownRow};
 
-use cal_base::{List, NoMemory, Octets, Steps};
+use cal_base::{List, NoMemory, Octets, SharedList, Steps};
 use cal_model::{Object, Row, Selection, ZoneTable};
 use cal_object::read_object;
 use expand_limit::shown;
@@ -25,7 +25,7 @@ pub fn clock(alloc: Global, is_ahead: bool) -> ZoneTable
     ZoneTable {
         name: Octets::new(alloc),
         before: if is_ahead { 3_600 } else { 0 },
-        onsets: List::new(alloc),
+        onsets: SharedList::new(),
     }
 }
 
