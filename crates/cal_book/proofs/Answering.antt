@@ -5,3 +5,4 @@ pub mod OwnAnswers
 pub mod ReportPlaces
 pub mod RefusalRooms
 pub mod SameReplies
+pub mod HeldCosts

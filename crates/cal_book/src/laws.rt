@@ -1,6 +1,7 @@
 //! What holds of events.
 ghost use Rattle.std.specs.Prelude.{◌++◌, List};
 ghost use Rattle.cal_model.specs.History.Journal.{Entry};
+ghost use Rattle.cal_book.specs.Answering.HeldReadings.{HeldReadingsAreFree};
 ghost use Rattle.cal_book.specs.EventSteps.{JournalsFollow};
 ghost use Rattle.cal_book.specs.LegalJournals.{LegalIsTold};
 ghost use Rattle.cal_book.specs.Publishing.{IsClaimIn};
@@ -25,4 +26,10 @@ pub fn journals_are_told()
 /// Each reply has a status with a reason phrase, so that its octets can be written.
 pub fn replies_have_reasons()
     ensures { RepliesHaveReasons }
+{}
+
+/// A request for a report adds no step once pieces are kept of each window that it needs: what it costs
+/// at most is then 0.
+pub fn held_readings_are_free()
+    ensures { HeldReadingsAreFree }
 {}

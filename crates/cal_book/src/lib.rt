@@ -27,5 +27,7 @@ pub use book::Book;
 pub use claims::{Claim, Expanded, Publish};
 pub use desk::{Desk, JournalEntry, Never, Told};
 pub use expanding::expand;
-pub use laws::{claims_stay, journals_are_told, journals_follow, replies_have_reasons};
+pub use laws::{
+    claims_stay, held_readings_are_free, journals_are_told, journals_follow, replies_have_reasons,
+};
 pub use view::BookView;

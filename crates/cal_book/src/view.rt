@@ -15,7 +15,7 @@ ghost use Rattle.collections.specs.UidHolders.{uid_holder_at, IsAloneWithAt};
 
 use cal_base::Arc;
 use cal_model::view::View;
-use cal_model::{CalendarData, Stored};
+use cal_model::{CalendarData, Object, Stored};
 use collections::Store;
 use privileges::Users;
 use std::marker::Model;
@@ -63,6 +63,14 @@ impl<'a> BookView<'a> {
         ensures alone { IsAloneWithAt (shown_state self.now) home calendar.now uid.now }
     {
         self.store.uid_holder(home, calendar, uid)
+    }
+
+    /// The same object, in less memory: where its zones have the tables of objects that were put
+    /// before, it shares them.
+    pub fn shared(&self, object: Object) -> Object
+        ensures { result ≡ object }
+    {
+        self.store.shared(object)
     }
 
     /// What the changes that were accepted for a home cost in all, in octets: its body for each PUT,

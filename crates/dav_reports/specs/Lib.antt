@@ -1,6 +1,7 @@
 pub mod AskedProperties
 pub mod CalendarObjects
 pub mod FreeBusyLines
+pub mod HeldWindows
 pub mod Lengths
 pub mod MetObjects
 pub mod ObjectTimes

@@ -9,6 +9,7 @@
 mod busy;
 mod dates;
 mod free_busy;
+mod laws;
 mod margin;
 mod multiget;
 mod names;
@@ -23,5 +24,6 @@ mod text;
 mod windows;
 mod zones;
 
+pub use laws::held_reports_are_free;
 pub use report::run_report;
 pub use runs::calendar_runs;

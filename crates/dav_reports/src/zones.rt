@@ -4,7 +4,7 @@ ghost use Rattle.cal_base.specs.Lines.ComponentTrees.{or_else};
 ghost use Rattle.cal_model.specs.Instances.Alignment.{utc_zone};
 ghost use Rattle.cal_model.specs.TimeZones.TableBounds.{IsTable};
 
-use cal_base::{List, Octets};
+use cal_base::{Octets, SharedList};
 use cal_model::{CalendarData, ZoneTable};
 use std::alloc::Global;
 
@@ -16,7 +16,7 @@ pub(crate) fn utc(alloc: Global) -> ZoneTable
     ZoneTable {
         name: Octets::new(alloc),
         before: 0,
-        onsets: List::new(alloc),
+        onsets: SharedList::new(),
     }
 }
 

@@ -82,7 +82,7 @@ fn put_free(
     if is_full(view, target.place.home, size) {
         no_room(alloc)
     } else {
-        put_object(alloc, target, octets, object)
+        put_object(alloc, target, octets, view.shared(object))
     }
 }
 
