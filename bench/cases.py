@@ -286,6 +286,7 @@ def cuttings():
     chunked = head + b"64\r\n" + body[:100] + b"\r\n5b\r\n" + body[100:] + b"\r\n0\r\n\r\n"
     runs("the meeting in chunks of 100 and of 91 octets", [(chunked, steps[0][1]), steps[1]])
     case("a stream that is cut within a body", frame(steps[0][0][:300]), 0, len(frame(steps[0][0][:300])), b"")
+    case("a stream of one octet", frame(b"x"), 0, len(frame(b"x")), b"")
     for cut in range(0, len(chunked), 37):
         text = frame(chunked[:cut], 3) + frame(request("GET", CALENDAR + "one.ics"))
         case(f"a request that is cut at {cut} changes nothing", text, 0, len(text), answer(reply(404)))
@@ -754,6 +755,18 @@ def homes():
     ])
 
 
+def replaced():
+    """An object that is replaced, or replaced and put back, between a worker's frames: a query shows what was put last."""
+    later = event("one", "DTSTART:20250310T110000Z", "DTEND:20250310T120000Z")
+    asked = report(query("20250310T000000Z", "20250311T000000Z"))
+    for title, puts in (("replaced while it is expanded", (E1, later)), ("replaced and put back while it is expanded", (E1, later, E1))):
+        shown = found((CALENDAR + "one.ics", [(200, f'<D:getetag>"{etag(puts[-1])}"</D:getetag>' + data(puts[-1]))]))
+        frames, output = exchange([(put("one.ics", octets), stored(octets, 204) if n else stored(octets)) for n, octets in enumerate(puts)] + [(asked, shown)])
+        first, last = len(frame(put("one.ics", E1))), len(frame(asked))
+        text = frames[:first] + b"claim 0\n" + frames[first:-last] + b"expand 0\npublish 0\n" + frames[-last:]
+        case("an object is " + title, text, 0, len(text), output)
+
+
 def walk(title, steps):
     """A walk through a book: for each step its letter, the request that it answers, if it answers one, and what is printed."""
     letters = "".join(letter for letter, _, _ in steps)
@@ -811,6 +824,14 @@ def books():
         *[step for window in range(310, 323) for step in (claims(0, window), does("e", "3 rows" if window == 310 else "0 rows"), published)],
         does("c", "nothing is open"), shows(first), asks(put("two.ics", E2), 201), claims(1, 310), does("n", "2 entries"),
     ])
+    long = event("one", "DTSTART:20250101T000000Z", "DTEND:20250411T000000Z")
+    hour = report(query("20250410T000000Z", "20250410T010000Z"))
+    held = asks(hour, 207, reply_body(found((CALENDAR + "one.ics", [(200, f'<D:getetag>"{etag(long)}"</D:getetag>' + data(long))]))))
+    walk("a hundred days in one row that begins two windows before a query, with no piece and with all", [
+        asks(put("one.ics", long), 201), held,
+        *[step for window in range(310, 323) for step in (claims(0, window), does("e", "1 rows" if window == 313 else "0 rows"), published)],
+        does("c", "nothing is open"), held, does("n", "1 entries"),
+    ])
     walk("what is refused leaves no entry", [
         asks(put("one.ics", first), 201), asks(put("one.ics", second, if_none="*"), 412), asks(put("one.ics", second, if_match='"0"'), 412),
         asks(put("two.ics", second), 403, reply_body(refused(f"<C:no-uid-conflict><D:href>{CALENDAR}one.ics</D:href></C:no-uid-conflict>"))),
@@ -821,7 +842,7 @@ def books():
 
 
 def main():
-    for part in (ends, cuttings, streams, objects, methods, reading, deleting, putting, properties, granting, reporting, homes, books):
+    for part in (ends, cuttings, streams, objects, methods, reading, deleting, putting, properties, granting, reporting, homes, replaced, books):
         part()
     for crate, given, told in (("script_cases", CASES, ANSWERS), ("book_cases", WALKS, TOLD)):
         texts = {"stdin": b"".join(given), "stdout": b"".join(told)}

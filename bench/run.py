@@ -2,7 +2,7 @@
 """Times the programs over generated input, and prints the figures. It needs Python 3, and Debian's package `time` for the memory.
 
 Build the programs once before: `rt run` in crates/caldav_server and in each crate whose name ends in _bench.
-Words name the parts that are to run (scripts, growth, expansions, lines, values, objects, rules, rows, filters, bodies, requests, wire, busy, index, claims, turns); without a word all do.
+Words name the parts that are to run (scripts, growth, expansions, zones, lines, values, objects, rules, rows, filters, bodies, requests, wire, busy, index, claims, turns); without a word all do.
 """
 import datetime, os, re, resource, subprocess, sys, tempfile, time
 
@@ -41,19 +41,26 @@ CALENDAR = b"/calendars/alice/calendar/"
 WORDS_OF_TEXT = b"we talk over what was done since the last time and what comes next, then about all that is still open "
 
 
-def put(number):
-    """The PUT of an event of half an hour within 2025, of some 700 octets; each third one recurs."""
-    name = b"o%06d" % number
+def name_of(number):
+    return b"o%06d" % number
+
+
+def event(number, zone=()):
+    """An event of half an hour within 2025, of some 700 octets without its zone; each third one recurs."""
     date = datetime.date(2025, 1, 1) + datetime.timedelta(days=number * 7 % 365)
-    moment = b"%sT%02d%02d00Z" % (date.strftime("%Y%m%d").encode(), 8 + number % 9, number * 5 % 60)
+    moment = (b";TZID=NY:%sT%02d%02d00" if zone else b":%sT%02d%02d00Z") % (date.strftime("%Y%m%d").encode(), 8 + number % 9, number * 5 % 60)
     lines = [
-        b"BEGIN:VCALENDAR", b"VERSION:2.0", b"PRODID:-//a//EN", b"BEGIN:VEVENT", b"UID:" + name,
-        b"DTSTAMP:20250101T000000Z", b"DTSTART:" + moment, b"DURATION:PT30M",
+        b"BEGIN:VCALENDAR", b"VERSION:2.0", b"PRODID:-//a//EN", *zone, b"BEGIN:VEVENT", b"UID:" + name_of(number),
+        b"DTSTAMP:20250101T000000Z", b"DTSTART" + moment, b"DURATION:PT30M",
         *([b"RRULE:" + RULES_OF_THIRDS[number // 3 % 3]] if number % 3 == 0 else []),
         b"SUMMARY:Meeting %d" % number, b"LOCATION:Room %d" % (number % 40),
         *[b"X-NOTE-%d:%s" % (n, WORDS_OF_TEXT[:60]) for n in range(7)], b"END:VEVENT", b"END:VCALENDAR", b"",
     ]
-    return request(b"PUT", CALENDAR + name + b".ics", b"\r\n".join(lines), b"text/calendar", connection=number // 1000)
+    return b"\r\n".join(lines)
+
+
+def put(number, zone=()):
+    return request(b"PUT", CALENDAR + name_of(number) + b".ics", event(number, zone), b"text/calendar", connection=number // 1000)
 
 
 def query(start, end, data=b"<C:calendar-data/>"):
@@ -320,6 +327,18 @@ def rules():
         print(f"{f'{label}, {unit}':34} {plain:8d} {step:8d} {plain / step:14.1f}")
 
 
+def zones():
+    print(f"{'PUTs of events of a zone':44} {'MiB':>6} {'kB an object':>13}")
+    count = 5000
+    each = {"none": lambda number: [], "the same": lambda number: NEW_YORK, "one of its own": lambda number: [line.replace(b"DTSTART:16010101T02", b"DTSTART:1601%02d%02dT02" % (1 + number // 28 % 12, 1 + number % 28)) for line in NEW_YORK]}
+    with tempfile.TemporaryDirectory() as folder:
+        words = script_words(folder)
+        for label, zone_of in each.items():
+            scripts_of = [b"".join(put(number, zone_of(number)) for number in range(many)) for many in (count // 5, count)]
+            few, most = (run(SERVER, words, script)[1] - len(script) / 1048576 for script in scripts_of)
+            print(f"{f'{count} in {label}':44} {most:6.1f} {(most - few) * 1048.576 / (count - count // 5):13.1f}")
+
+
 NEW_YORK = [
     b"BEGIN:VTIMEZONE", b"TZID:NY",
     b"BEGIN:DAYLIGHT", b"DTSTART:16010101T020000", b"RRULE:FREQ=YEARLY;BYDAY=2SU;BYMONTH=3", b"TZOFFSETFROM:-0500", b"TZOFFSETTO:-0400", b"END:DAYLIGHT",
@@ -504,7 +523,7 @@ def wire():
 
 
 PARTS = {
-    "scripts": (scripts, SERVER), "growth": (growth, SERVER), "expansions": (expansions, SERVER), "lines": (lines, LINES), "values": (values, VALUES), "objects": (objects, OBJECTS), "rules": (rules, RULES), "rows": (rows, ROWS), "filters": (filters, FILTERS),
+    "scripts": (scripts, SERVER), "growth": (growth, SERVER), "expansions": (expansions, SERVER), "zones": (zones, SERVER), "lines": (lines, LINES), "values": (values, VALUES), "objects": (objects, OBJECTS), "rules": (rules, RULES), "rows": (rows, ROWS), "filters": (filters, FILTERS),
     "bodies": (bodies, BODIES), "requests": (requests, REQUESTS), "wire": (wire, WIRE), "busy": (busy, BUSY), "index": (index, INDEX), "claims": (claims, CLAIMS), "turns": (turns, TURNS),
 }
 chosen = sys.argv[1:] or list(PARTS)
