@@ -334,14 +334,25 @@ fn the_first_of_two_faults_is_told(rt: HostRuntime) -> Result<(), Fail> {
 }
 
 /// Objects with a date outside those that are served: their kind, and the day of the date that is told, from 1970.
-const OUTSIDE: [(&[u8], Kind, i64); 5] = [
+const OUTSIDE: [(&[u8], Kind, i64); 7] = [
     // a DATE that is too early
     (
         b"BEGIN:VCALENDAR\nBEGIN:VEVENT\nUID:a\nDTSTART:15991231\nEND:VEVENT\nEND:VCALENDAR\n",
         Kind::Event,
         -135141,
     ),
-    // a time that is too late
+    // the last second that is too early, and the first that is too late
+    (
+        b"BEGIN:VCALENDAR\nBEGIN:VEVENT\nUID:a\nDTSTART:15991231T235959Z\nEND:VEVENT\nEND:VCALENDAR\n",
+        Kind::Event,
+        -135141,
+    ),
+    (
+        b"BEGIN:VCALENDAR\nBEGIN:VEVENT\nUID:a\nDTSTART:21010101T000000Z\nEND:VEVENT\nEND:VCALENDAR\n",
+        Kind::Event,
+        47847,
+    ),
+    // that of a to-do
     (
         b"BEGIN:VCALENDAR\nBEGIN:VTODO\nUID:a\nDUE:21010101T000000Z\nEND:VTODO\nEND:VCALENDAR\n",
         Kind::Todo,

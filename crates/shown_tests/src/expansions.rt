@@ -1,6 +1,6 @@
 //! Objects as single instances (RFC 4791, 9.6.5), worked out by hand.
 
-use crate::meetings::{WINDOW, daily};
+use crate::meetings::{WEEKLY, WINDOW, daily};
 use crate::selections::{Span, range, whole};
 use crate::showing::shown_of;
 use cal_base::{NoMemory, Octets};
@@ -114,6 +114,59 @@ fn daily_meeting_is_expanded(rt: HostRuntime) -> Result<(), Fail> {
         let (span, wanted) = *case;
         let found = expanded(rt.alloc(), text.as_slice(), WINDOW, span, false)?;
         assert!(rt; found.as_slice() == wanted, "range {place}");
+    }
+    Ok(())
+}
+
+/// What is shown of the weekly meeting from 1 to 28 March, over its rows of each of two windows: the
+/// second begins on 13 March.
+const WEEKS: [(i32, &[u8]); 2] = [
+    (
+        WINDOW,
+        b"BEGIN:VCALENDAR\r\n\
+        VERSION:2.0\r\n\
+        PRODID:-//a//EN\r\n\
+        BEGIN:VEVENT\r\n\
+        UID:meet\r\n\
+        DTSTART:20250304T150000Z\r\n\
+        RECURRENCE-ID:20250304T150000Z\r\n\
+        DTEND:20250304T160000Z\r\n\
+        SUMMARY:Plan\r\n\
+        END:VEVENT\r\n\
+        BEGIN:VEVENT\r\n\
+        UID:meet\r\n\
+        DTSTART:20250311T140000Z\r\n\
+        RECURRENCE-ID:20250311T140000Z\r\n\
+        DTEND:20250311T150000Z\r\n\
+        SUMMARY:Plan\r\n\
+        END:VEVENT\r\n\
+        END:VCALENDAR\r\n",
+    ),
+    (
+        WINDOW + 1,
+        b"BEGIN:VCALENDAR\r\n\
+        VERSION:2.0\r\n\
+        PRODID:-//a//EN\r\n\
+        BEGIN:VEVENT\r\n\
+        UID:meet\r\n\
+        RECURRENCE-ID:20250325T140000Z\r\n\
+        DTSTART:20250326T180000Z\r\n\
+        DTEND:20250326T190000Z\r\n\
+        SUMMARY:Plan moved\r\n\
+        END:VEVENT\r\n\
+        END:VCALENDAR\r\n",
+    ),
+];
+
+#[test]
+fn weekly_meeting_is_expanded(rt: HostRuntime) -> Result<(), Fail> {
+    let march = (
+        b"20250301T000000Z".as_slice(),
+        b"20250329T000000Z".as_slice(),
+    );
+    for (window, wanted) in WEEKS {
+        let found = expanded(rt.alloc(), WEEKLY, window, march, false)?;
+        assert!(rt; found.as_slice() == wanted, "window {window}");
     }
     Ok(())
 }

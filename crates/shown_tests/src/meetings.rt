@@ -66,3 +66,40 @@ pub fn daily(alloc: Global, has_override: bool) -> Result<Octets, NoMemory> {
     text.extend_from_slice(DAILY_END)?;
     Ok(text)
 }
+
+/// A weekly meeting at ten in New York, five times from 4 March 2025 on, without the 18th; that of the
+/// 25th is moved to 14:00 on the 26th. The clocks go forward on the 9th.
+pub const WEEKLY: &[u8] = b"BEGIN:VCALENDAR\r\n\
+    VERSION:2.0\r\n\
+    PRODID:-//a//EN\r\n\
+    BEGIN:VTIMEZONE\r\n\
+    TZID:NY\r\n\
+    BEGIN:DAYLIGHT\r\n\
+    DTSTART:16010101T020000\r\n\
+    RRULE:FREQ=YEARLY;BYDAY=2SU;BYMONTH=3\r\n\
+    TZOFFSETFROM:-0500\r\n\
+    TZOFFSETTO:-0400\r\n\
+    END:DAYLIGHT\r\n\
+    BEGIN:STANDARD\r\n\
+    DTSTART:16010101T020000\r\n\
+    RRULE:FREQ=YEARLY;BYDAY=1SU;BYMONTH=11\r\n\
+    TZOFFSETFROM:-0400\r\n\
+    TZOFFSETTO:-0500\r\n\
+    END:STANDARD\r\n\
+    END:VTIMEZONE\r\n\
+    BEGIN:VEVENT\r\n\
+    UID:meet\r\n\
+    DTSTART;TZID=NY:20250304T100000\r\n\
+    DTEND;TZID=NY:20250304T110000\r\n\
+    RRULE:FREQ=WEEKLY;COUNT=5\r\n\
+    EXDATE;TZID=NY:20250318T100000\r\n\
+    SUMMARY:Plan\r\n\
+    END:VEVENT\r\n\
+    BEGIN:VEVENT\r\n\
+    UID:meet\r\n\
+    RECURRENCE-ID;TZID=NY:20250325T100000\r\n\
+    DTSTART;TZID=NY:20250326T140000\r\n\
+    DTEND;TZID=NY:20250326T150000\r\n\
+    SUMMARY:Plan moved\r\n\
+    END:VEVENT\r\n\
+    END:VCALENDAR\r\n";

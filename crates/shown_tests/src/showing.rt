@@ -81,8 +81,8 @@ fn shown_of_object(
     shown(alloc, text, object, &rows, select, zone)
 }
 
-/// What is shown of the object that a text is, whose dated rows all lie in one window of 64 days;
-/// floating times are read an hour ahead of UTC, or in UTC. Two words where it is no object.
+/// What is shown of the object that a text is, over its rows of one window of 64 days; floating times
+/// are read an hour ahead of UTC, or in UTC. Two words where it is no object.
 pub fn shown_of(
     alloc: Global,
     text: &[u8],
