@@ -2,9 +2,9 @@
 """Times the programs over generated input, and prints the figures. It needs Python 3, and Debian's package `time` for the memory.
 
 Build the programs once before: `rt run` in crates/caldav_server and in each crate whose name ends in _bench.
-Words name the parts that are to run (scripts, growth, expansions, zones, lines, values, objects, rules, rows, filters, bodies, requests, wire, busy, index, claims, turns); without a word all do.
+Words name the parts that are to run (scripts, growth, puts, expansions, zones, lines, values, objects, rules, rows, filters, bodies, requests, wire, busy, index, claims, turns); without a word all do.
 """
-import datetime, os, re, resource, subprocess, sys, tempfile, time
+import base64, contextlib, datetime, os, re, resource, socket, subprocess, sys, tempfile, time
 
 TOP = os.path.dirname(os.path.dirname(os.path.abspath(__file__)))
 SERVER = os.path.join(TOP, "crates/caldav_server/out/caldav_server")
@@ -28,12 +28,17 @@ MOMENT = 1741600000  # 09:46:40 on 10 March 2025
 RULES_OF_THIRDS = (b"FREQ=WEEKLY;COUNT=52", b"FREQ=DAILY;COUNT=30", b"FREQ=MONTHLY;COUNT=24")
 
 
-def request(method, target, body=b"", media=b"application/xml", depth=b"", connection=15):
-    """The frame of a request of alice. A connection takes 1,000 requests."""
-    fields = [b"%s %s HTTP/1.1" % (method, target), b"Host: h", b"Authorization: Basic YWxpY2U6YWJj"]
+def octets_of(method, target, body=b"", media=b"application/xml", depth=b"", user=b"alice"):
+    """The octets of a request of a user."""
+    fields = [b"%s %s HTTP/1.1" % (method, target), b"Host: h", b"Authorization: Basic " + base64.b64encode(user + b":abc")]
     fields += [b"Depth: " + depth] if depth else []
     fields += [b"Content-Type: " + media, b"Content-Length: %d" % len(body)] if body else []
-    payload = b"\r\n".join(fields + [b"", body])
+    return b"\r\n".join(fields + [b"", body])
+
+
+def request(method, target, body=b"", media=b"application/xml", depth=b"", connection=15):
+    """The frame of a request of alice. A connection takes 1,000 requests."""
+    payload = octets_of(method, target, body, media, depth)
     return b"bytes %d %d %d\n%s\n" % (connection, MOMENT, len(payload), payload)
 
 
@@ -160,6 +165,82 @@ def growth():
             scripts_of = [b"".join(put(n) for n in range(many)) for many in (count - 1000, count)]
             before, after = (min(processor_run(SERVER, words, script)[0] for _ in range(5)) for script in scripts_of)
             print(f"{count:44d} {(after - before) * 1000:8.1f}")
+
+
+@contextlib.contextmanager
+def served(users):
+    """A program that serves some users, whose password is `abc`, at a free port of this machine: its number and the port."""
+    with tempfile.TemporaryDirectory() as folder:
+        path = os.path.join(folder, "users")
+        with open(path, "wb") as file:
+            file.write(b"".join(USERS.replace(b"alice", user) for user in users))
+        with socket.create_server(("127.0.0.1", 0)) as free:
+            port = free.getsockname()[1]
+        words = ["serve", "--users", path, "--listen", f"127.0.0.1:{port}", "--sessions", "1", "--workers", "0"]
+        program = subprocess.Popen([SERVER, *words], stderr=subprocess.PIPE)
+        try:
+            if not program.stderr.readline().startswith(b"listening on "):
+                sys.exit(f"{SERVER} does not serve")
+            yield program.pid, port
+        finally:
+            program.kill()
+            program.wait()
+
+
+def created(link, requests):
+    """Sends PUTs one after the other over a connection. Each has to be answered 201, which has no body."""
+    for sent in requests:
+        link.sendall(sent)
+        reply = b""
+        while not reply.endswith(b"\r\n\r\n"):
+            more = link.recv(65536)
+            if not more:
+                sys.exit("the server closed a connection")
+            reply += more
+        if not reply.startswith(b"HTTP/1.1 201 "):
+            sys.exit(f"the server answered {reply[:200]}")
+
+
+def put_times(users, octets, count):
+    """Microseconds of processor of the server for each PUT, thousand by thousand, and its memory in MiB. The users take turns at a thousand."""
+    taken = []
+    with served(users) as (program, port):
+        clock = ~program * 8 + 2  # the time that the system counts for all threads of a program (Linux)
+        for begin in range(0, count, 1000):
+            user = users[begin // 1000 % len(users)]
+            target = CALENDAR.replace(b"alice", user)
+            requests = [octets_of(b"PUT", target + name_of(n) + b".ics", octets(n), b"text/calendar", user=user) for n in range(begin, begin + 1000)]
+            before = time.clock_gettime(clock)
+            with socket.create_connection(("127.0.0.1", port), timeout=30) as link:
+                created(link, requests)
+            taken.append((time.clock_gettime(clock) - before) * 1000)
+        with open(f"/proc/{program}/status") as file:
+            memory = int(re.search(r"VmHWM:\s+(\d+)", file.read())[1]) / 1024
+    return taken, memory
+
+
+def small_event(number):
+    """An event of 300 octets."""
+    lines = [
+        b"BEGIN:VCALENDAR", b"VERSION:2.0", b"PRODID:-//a//EN", b"BEGIN:VEVENT", b"UID:" + name_of(number), b"DTSTAMP:20250101T000000Z",
+        b"DTSTART:%s" % (datetime.date(2025, 1, 1) + datetime.timedelta(days=number % 365)).strftime("%Y%m%dT090000Z").encode(),
+        b"DURATION:PT30M", b"SUMMARY:Meeting", b"X-NOTE:", b"END:VEVENT", b"END:VCALENDAR", b"",
+    ]
+    lines[9] += (WORDS_OF_TEXT * 2)[:300 - sum(len(line) + 2 for line in lines[:-1])]
+    return b"\r\n".join(lines)
+
+
+def puts():
+    print(f"{'the last thousand of so many PUTs':44} {'us each':>8} {'MiB':>6}")
+    homes = [b"alice", b"bob", b"carol"]
+    for label, users, octets, counts in (
+        ("of 700 octets, three calendars", homes, event, (1000, 10000, 100000)),
+        ("of 300 octets, one calendar", homes[:1], small_event, (1000, 10000, 60000)),
+    ):
+        for count in counts:
+            runs = [put_times(users, octets, count) for _ in range(3 if count == 1000 else 1)]
+            best = min(min(taken[-3:]) for taken, _ in runs)
+            print(f"{f'{count} {label}':44} {best:8.1f} {max(memory for _, memory in runs):6.1f}")
 
 
 def expansions():
@@ -523,7 +604,7 @@ def wire():
 
 
 PARTS = {
-    "scripts": (scripts, SERVER), "growth": (growth, SERVER), "expansions": (expansions, SERVER), "zones": (zones, SERVER), "lines": (lines, LINES), "values": (values, VALUES), "objects": (objects, OBJECTS), "rules": (rules, RULES), "rows": (rows, ROWS), "filters": (filters, FILTERS),
+    "scripts": (scripts, SERVER), "growth": (growth, SERVER), "puts": (puts, SERVER), "expansions": (expansions, SERVER), "zones": (zones, SERVER), "lines": (lines, LINES), "values": (values, VALUES), "objects": (objects, OBJECTS), "rules": (rules, RULES), "rows": (rows, ROWS), "filters": (filters, FILTERS),
     "bodies": (bodies, BODIES), "requests": (requests, REQUESTS), "wire": (wire, WIRE), "busy": (busy, BUSY), "index": (index, INDEX), "claims": (claims, CLAIMS), "turns": (turns, TURNS),
 }
 chosen = sys.argv[1:] or list(PARTS)

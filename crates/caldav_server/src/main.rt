@@ -1,33 +1,59 @@
 //! The CalDAV server.
 //!
-//! Given: the words of the command, standard input and files. Gives: what the command's function
-//! answers, as standard output, a line on standard error and the status. Used by: whoever runs the
-//! server.
+//! Given: the words of the command, standard input, files and the network. Gives: what the command's
+//! function answers, as standard output, a line on standard error and the status. Used by: whoever
+//! runs the server.
 #![tactic(auto)]
 
-use cal_base::{List, NoMemory, StdFiles, StdSink, StdSource, Word};
+mod help;
+mod options;
+mod serve;
+mod serve_words;
+mod sessions;
+mod telling_door;
+mod users;
+
+use crate::help::{HELP, asked_text};
+use crate::options::VERSION;
+use crate::serve::run_serve;
+use crate::serve_words::serve_command;
+use crate::telling_door::TellingDoor;
+use cal_base::{List, NoMemory, StdFiles, StdSink, StdSource, TcpDoor, Word};
 use cal_script::{ScriptEnd, run_script};
 use std::process::ExitCode;
 use std::{env, io};
 
-/// Makes the list of words, and the real input, output and files, and calls the command.
+/// Makes the list of words, and calls the command that the first of them names.
 fn main(rt: HostRuntime) -> ExitCode {
-    let end = match words(&rt) {
-        Ok(words) => run_script(
-            rt.alloc(),
-            &words,
-            &mut StdFiles::new(&rt),
-            &mut StdSource::new(&rt),
-            &mut StdSink::new(&rt),
-        ),
-        Err(NoMemory) => ScriptEnd {
-            status: 7,
-            place: 0,
-        },
+    let Ok(words) = words(&rt) else {
+        return ended(&rt, USAGE_OF_SCRIPT, WITHOUT_MEMORY);
     };
-    let _ = report(&rt, end);
-    ExitCode::from(end.status)
+    if is_answered(&rt, &words) {
+        return ExitCode::SUCCESS;
+    }
+    if first_word(&words) == "serve" {
+        let mut door = TellingDoor::new(&rt, TcpDoor::new(&rt));
+        let end = run_serve(&rt, rt.alloc(), &words, &mut StdFiles::new(&rt), &mut door);
+        return ended(&rt, "serve", end);
+    }
+    let end = run_script(
+        rt.alloc(),
+        &words,
+        &mut StdFiles::new(&rt),
+        &mut StdSource::new(&rt),
+        &mut StdSink::new(&rt),
+    );
+    ended(&rt, USAGE_OF_SCRIPT, end)
 }
+
+/// The words of the command `script`, as its usage shows them.
+const USAGE_OF_SCRIPT: &str = "script --users FILE";
+
+/// The end of a command for whose words there is no memory.
+const WITHOUT_MEMORY: ScriptEnd = ScriptEnd {
+    status: 7,
+    place: 0,
+};
 
 /// The words behind the program's name. Where one is not UTF-8 there are none, which no command
 /// takes.
@@ -45,11 +71,45 @@ fn words(rt: &HostRuntime) -> Result<List<Word>, NoMemory> {
     Ok(words)
 }
 
-/// Prints the line of a status on standard error; status 0 has none.
-fn report(rt: &HostRuntime, end: ScriptEnd) -> io::Result<()> {
+/// The first word, if there is one.
+fn first_word(words: &List<Word>) -> &str {
+    match words.get(0) {
+        Some(word) => word.as_str(),
+        None => "",
+    }
+}
+
+/// Prints help or the version where the words ask for it, and says whether they do.
+fn is_answered(rt: &HostRuntime, words: &List<Word>) -> bool {
+    let first = first_word(words);
+    if first == "--help" || first == "-h" {
+        let _ = print!(rt; "{HELP}");
+        return true;
+    }
+    if first == "--version" || first == "-V" {
+        let _ = println!(rt; "caldav_server {VERSION}");
+        return true;
+    }
+    if first == "serve" {
+        if let Some(text) = asked_text(serve_command(rt.alloc()), words.as_slice()) {
+            let _ = text.print(rt);
+            return true;
+        }
+    }
+    false
+}
+
+/// Prints the line of a status on standard error, and gives the status to the system.
+fn ended(rt: &HostRuntime, usage: &str, end: ScriptEnd) -> ExitCode {
+    let _ = report(rt, usage, end);
+    ExitCode::from(end.status)
+}
+
+/// Prints the line of a status; status 0 has none.
+fn report(rt: &HostRuntime, usage: &str, end: ScriptEnd) -> io::Result<()> {
     let place = end.place;
     match end.status {
-        2 => eprintln!(rt; "usage: caldav_server script --users FILE"),
+        2 => eprintln!(rt; "usage: caldav_server {usage}"),
         3 => eprintln!(rt; "users file: bad line at octet {place}"),
         4 => eprintln!(rt; "input fault"),
         5 => eprintln!(rt; "output fault"),
@@ -58,3 +118,6 @@ fn report(rt: &HostRuntime, end: ScriptEnd) -> io::Result<()> {
         _ => Ok(()),
     }
 }
+
+#[cfg(test)]
+mod tests;

@@ -1,0 +1,5 @@
+mod FaultCounts
+mod Moves
+mod Numbers
+mod Sharing
+mod WordLaws

@@ -1,0 +1,57 @@
+//! The users file.
+ghost use Rattle.std.specs.Prelude.{◌≡◌, ◌≤◌, ℕ, IfOk, IfSome, IsErrOf, length};
+ghost use Rattle.cal_base.specs.World.Outside.{Rose};
+ghost use Rattle.cal_script.specs.UsersTaken.{AreUsersOf, IsRefusedAt, file_limit};
+
+use cal_base::{Arc, FileFault, Files};
+use privileges::{Users, UsersFault, read_users};
+use std::alloc::Global;
+
+/// The most octets of a users file.
+const FILE_LIMIT: u64 = 65_536;
+
+/// Why a users file is not taken.
+pub(crate) enum NoUsers {
+    /// It is too long, which is said of the place behind its limit, or has a bad line at this place.
+    Line(u64),
+    /// Reading it failed.
+    Files,
+    /// There was no memory for it.
+    NoMemory,
+}
+
+/// The users of the users file, which is taken as the command `script` takes it.
+pub(crate) fn take_users<F: Files>(
+    alloc: Global,
+    files: &mut F,
+    path: &str,
+) -> Result<Arc<Users>, NoUsers>
+    ensures taken { IfOk result (λ users. IfSome (F.content files.old path.now) (λ octets. AreUsersOf octets users)) }
+    ensures refused { (place : ℕ) → IsErrOf result (NoUsers.Line place) → IfSome (F.content files.old path.now) (λ octets. IsRefusedAt octets place) }
+    ensures fault { IsErrOf result NoUsers.Files → Rose (F.faults files.old) (F.faults files.new) }
+    ensures never_falls { F.faults files.old ≤ F.faults files.new }
+{
+    match files.read(alloc, path, FILE_LIMIT) {
+        Ok(octets) => users_in(alloc, octets.as_slice()),
+        Err(FileFault::Failed) => Err(NoUsers::Files),
+        Err(FileFault::TooLong) => Err(NoUsers::Line(FILE_LIMIT)),
+        Err(FileFault::NoMemory) => Err(NoUsers::NoMemory),
+    }
+}
+
+/// The users of the octets of a file.
+fn users_in(alloc: Global, octets: &[u8]) -> Result<Arc<Users>, NoUsers>
+    requires { length octets.now ≤ file_limit }
+    ensures taken { IfOk result (AreUsersOf octets.now) }
+    ensures refused { (place : ℕ) → IsErrOf result (NoUsers.Line place) → IsRefusedAt octets.now place }
+    ensures read { ¬ IsErrOf result NoUsers.Files }
+{
+    match read_users(alloc, octets) {
+        Ok(users) => match Arc::new(alloc, users) {
+            Ok(shared) => Ok(shared),
+            Err(_) => Err(NoUsers::NoMemory),
+        },
+        Err(UsersFault::Line { place }) => Err(NoUsers::Line(place)),
+        Err(UsersFault::NoMemory) => Err(NoUsers::NoMemory),
+    }
+}
