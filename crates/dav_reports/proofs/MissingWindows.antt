@@ -1,6 +1,7 @@
 -- Windows of which no rows are held, as far as they follow one another.
-use Rattle.std.proofs.Common.{◌≡◌, ℕ, zero, suc, ◌+◌, ◌≤◌, List, [], ◌∷◌, ◌++◌, length, map, refl, sym, ap, ◌∙◌, arith, ℤ, append_assoc, false}
+use Rattle.std.proofs.Common.{◌≡◌, ℕ, zero, suc, ◌+◌, ◌≤◌, List, [], ◌∷◌, ◌++◌, map, refl, sym, ap, ◌∙◌, arith, ℤ, append_assoc, false}
 use Rattle.std.specs.Prelude.{All, drop, flat_map, sum, take, is_some, if◌then◌else◌, Option, Some, None}
+use Rattle.std.proofs.lemmas.List.{take-append-drop}
 use Rattle.std.proofs.lemmas.List.Elements.{All-cons, All-head, All-tail}
 use Rattle.std.specs.Borrow.{Bor}
 use Rattle.std.specs.Option.{option_copied}
@@ -46,7 +47,14 @@ missing_cost held origin object (window ∷ run) left missing =
     let after = sum-cons (cost object window) (map (cost object) run) in
     omega (arith, first, rest, before, after)
 
--- the steps of a run of windows and of those that are left
+-- the windows from one without rows on, and those that are left
+pub run_split : (held : Held) (origin : ℕ) (window : ℤ) (windows behind run left : List ℤ) (count : ℕ) → windows ≡ window ∷ behind → None ≡ held origin window → All (IsMissing held origin) (take count behind) →
+    run ≡ take (1 + count) windows → left ≡ drop (1 + count) windows → (run ++ left ≡ windows) × All (IsMissing held origin) run
+run_split held origin window windows behind run left count first none missing front back =
+    let next : 1 + count ≡ suc count = omega arith in
+    (rw (front, back) (take-append-drop (1 + count) windows), rw (front, first, next) (All-cons (IsMissing held origin) window (take count behind) (sym none) missing))
+
+-- the steps of such a run and of those that are left
 pub run_counted : (held : Held) (origin : ℕ) (object : Object) (windows run left : List ℤ) (before after all : ℕ) → run ++ left ≡ windows → All (IsMissing held origin) run →
     after ≤ before + sum (map (cost object) run) → before + windows_cost held origin object windows ≤ all → after + windows_cost held origin object left ≤ all
 run_counted held origin object windows run left before after all split missing took so_far =
@@ -70,11 +78,6 @@ times_by_window zone object [] = refl
 times_by_window zone object (window ∷ windows) =
     flat_map-append (times_of_row zone object) (rows_in object window) (flat_map (rows_in object) windows)
     ∙ ap (λ times. times_of_rows zone object (rows_in object window) ++ times) (times_by_window zone object windows)
-
-pub run_missing : (held : Held) (origin : ℕ) (window : ℤ) (behind : List ℤ) (count : ℕ) → None ≡ held origin window → All (IsMissing held origin) (take count behind) → All (IsMissing held origin) (take (1 + count) (window ∷ behind))
-run_missing held origin window behind count none missing =
-    let next : 1 + count ≡ suc count = omega arith in
-    rw next (All-cons (IsMissing held origin) window (take count behind) (sym none) missing)
 
 -- what a look for a piece says where it finds none
 pub none_held : (found : Option (Bor (List Row))) (held : Option (List Row)) → option_copied found ≡ held → is_some found ≡ false → held ≡ None

@@ -1,4 +1,4 @@
-use Rattle.std.proofs.Common.{[], ◌∷◌, ◌∙◌, sym, arith, rules, length, FitsSigned, w32, to_z-of_z}
+use Rattle.std.proofs.Common.{[], ◌∷◌, ◌∙◌, sym, arith, rules, FitsSigned, w32, to_z-of_z}
 use Rattle.std.specs.Prelude.{take}
 use Rattle.std.proofs.lemmas.List.Elements.{All-append, All-cons, All-nil}
 use Rattle.dav_reports.specs.PieceRows.{IsMissing}
