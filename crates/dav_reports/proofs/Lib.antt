@@ -9,6 +9,7 @@ pub mod LengthLemmas
 pub mod ListSteps
 pub mod LookedRows
 pub mod MetLemmas
+pub mod MissingWindows
 pub mod NeededRows
 pub mod QueryWalks
 pub mod RangeLemmas

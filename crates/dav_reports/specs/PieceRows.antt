@@ -1,5 +1,5 @@
 -- The rows of an object where some pieces of them are held: which pieces are right, and what it costs to find the other rows.
-use Rattle.std.specs.Prelude.{◌≡◌, ℕ, ◌<◌, ◌^◌, false, List, length, map, sum, is_some, if◌then◌else◌, ℤ, Option, Some}
+use Rattle.std.specs.Prelude.{◌≡◌, ℕ, ◌<◌, ◌^◌, false, List, length, map, sum, is_some, if◌then◌else◌, ℤ, Option, Some, None}
 use Rattle.cal_model.specs.declared.object.Object.{Object}
 use Rattle.cal_model.specs.declared.row.Row.{Row}
 use Rattle.cal_model.specs.Instances.Rows.{rows_in, has_fine_rule}
@@ -26,3 +26,7 @@ window_cost held origin object window = if is_some (held origin window) then 0 e
 
 abbrev pub windows_cost : Held → ℕ → Object → List ℤ → ℕ
 windows_cost held origin object windows = sum (map (window_cost held origin object) windows)
+
+-- no rows are held of a window
+abbrev pub IsMissing : Held → ℕ → ℤ → Type 0
+IsMissing held origin window = held origin window ≡ None

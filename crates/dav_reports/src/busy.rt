@@ -1,16 +1,17 @@
 //! The busy times of an object (RFC 4791, 7.10).
-ghost use Rattle.std.specs.Prelude.{◌≡◌, ◌+◌, ◌≤◌, ◌++◌, All, IfOk, OnOk, flat_map};
+ghost use Rattle.std.specs.Prelude.{◌≡◌, ◌+◌, ◌≤◌, ◌++◌, All, IfOk, OnOk, flat_map, map, sum};
 ghost use Rattle.cal_model.specs.declared.object.Component.{Component};
 ghost use Rattle.cal_model.specs.declared.report.ReportRequest.TheVariants.{FreeBusy};
 ghost use Rattle.cal_model.specs.Busy.BusyTimes as spec;
-ghost use Rattle.cal_model.specs.Instances.Rows.{rows_in};
+ghost use Rattle.cal_model.specs.Ranges.Cost.{cost};
 ghost use Rattle.cal_model.specs.Reports.NeededWindows.{windows_needed as needed_windows};
 ghost use Rattle.cal_model.specs.TimeZones.TableBounds.{IsTable};
 ghost use Rattle.freebusy.specs.Times.{times_of};
 ghost use Rattle.overlap_rules.specs.Bounds.{IsNearRow};
 ghost use Rattle.dav_reports.specs.ObjectTimes.{IsNearStored, stored_times, times_by_windows, times_in, times_of_rows};
-ghost use Rattle.dav_reports.specs.PieceRows.{AreRowsOf, IsKept, window_cost, windows_cost};
+ghost use Rattle.dav_reports.specs.PieceRows.{AreRowsOf, IsKept, windows_cost};
 
+use crate::rows::missing_first;
 use crate::windows::windows_needed;
 use cal_base::{List, NoMemory, Steps};
 use cal_model::view::Pieces;
@@ -19,7 +20,7 @@ use cal_moment::Period;
 use freebusy::BusyRow;
 use overlap_rules::{fixed, stored_period};
 use override_merge::zones::local_times;
-use rrule_sets::window_rows;
+use rrule_sets::windows_rows;
 use std::alloc::Global;
 use std::sync::ledger::Ledger;
 
@@ -76,32 +77,9 @@ fn put_rows(
     Ok(())
 }
 
-/// Puts the times of an object's rows in a window behind others. The rows are those of its piece, where
-/// there is one, and else they are found anew.
-fn put_window<P: Pieces, L: Ledger>(
-    alloc: Global,
-    pieces: &P,
-    origin: u64,
-    object: &Object,
-    window: i32,
-    zone: &ZoneTable,
-    out: &mut List<BusyRow>,
-    steps: &mut Steps<L>,
-) -> Result<(), NoMemory>
-    requires object { IsKept object.now }
-    requires right { AreRowsOf (P.held pieces.now) origin object.now }
-    requires zone { IsTable zone.now }
-    ensures steps { steps.new ≤ steps.old + window_cost (P.held pieces.now) origin object.now window }
-    ensures times { OnOk result (times_of out.new ≡ times_of out.old ++ times_of_rows zone.now object.now (rows_in object.now window)) }
-{
-    if let Some(rows) = pieces.rows(origin, window) {
-        return put_rows(object, rows.as_slice(), zone, out);
-    }
-    let rows = window_rows(alloc, object, window, steps)?;
-    put_rows(object, rows.as_slice(), zone, out)
-}
-
-/// The same of several windows.
+/// Puts the times of an object's rows in several windows behind others. The rows are those of pieces,
+/// where there are some, and else they are found anew, those of windows that follow one another in one
+/// walk.
 fn put_windows<P: Pieces, L: Ledger>(
     alloc: Global,
     pieces: &P,
@@ -120,10 +98,34 @@ fn put_windows<P: Pieces, L: Ledger>(
 {
     let mut rest = windows;
     'windows: while let Some((window, behind)) = rest.split_first() {
-        put_window(alloc, pieces, origin, object, *window, zone, out, steps)?;
-        rest = behind;
+        if let Some(rows) = pieces.rows(origin, *window) {
+            put_rows(object, rows.as_slice(), zone, out)?;
+            rest = behind;
+            continue 'windows;
+        }
+        let (missing, left) = rest.split_at(1 + missing_first(pieces, origin, behind));
+        put_missing(alloc, object, missing, zone, out, steps)?;
+        rest = left;
     }
     Ok(())
+}
+
+/// Puts the times of an object's rows in windows without a piece behind others.
+fn put_missing<L: Ledger>(
+    alloc: Global,
+    object: &Object,
+    windows: &[i32],
+    zone: &ZoneTable,
+    out: &mut List<BusyRow>,
+    steps: &mut Steps<L>,
+) -> Result<(), NoMemory>
+    requires object { IsKept object.now }
+    requires zone { IsTable zone.now }
+    ensures steps { steps.new ≤ steps.old + sum (map (cost object.now) windows.now) }
+    ensures times { OnOk result (times_of out.new ≡ times_of out.old ++ times_in zone.now object.now windows.now) }
+{
+    let rows = windows_rows(alloc, object, windows, steps)?;
+    put_rows(object, rows.as_slice(), zone, out)
 }
 
 /// Puts a stored period behind other times, unless it is free.

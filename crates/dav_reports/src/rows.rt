@@ -1,9 +1,10 @@
 //! The rows of one object that a report looks at.
-ghost use Rattle.std.specs.Prelude.{◌≡◌, ℕ, ◌+◌, ◌≤◌, ◌++◌, IfOk, IfSome, OnOk, filter, flat_map};
+ghost use Rattle.std.specs.Prelude.{◌≡◌, ℕ, ◌+◌, ◌≤◌, ◌++◌, All, IfOk, IfSome, OnOk, filter, flat_map, length, map, sum, take};
 ghost use Rattle.cal_model.specs.declared.object.Object.{Object as ObjectSpec};
 ghost use Rattle.cal_model.specs.Instances.Rows.{in_order, rows_in};
+ghost use Rattle.cal_model.specs.Ranges.Cost.{cost};
 ghost use Rattle.cal_model.specs.Reports.NeededWindows.{counts, stated_windows};
-ghost use Rattle.dav_reports.specs.PieceRows.{AreRowsOf, IsKept, window_cost, windows_cost};
+ghost use Rattle.dav_reports.specs.PieceRows.{AreRowsOf, IsKept, IsMissing, windows_cost};
 
 use crate::windows::windows_needed;
 use cal_base::{List, NoMemory, Steps};
@@ -11,7 +12,7 @@ use cal_model::view::Pieces;
 use cal_model::{Object, Range, Row};
 use override_merge::order::put_in_order;
 use override_merge::zones::local_times;
-use rrule_sets::window_rows;
+use rrule_sets::windows_rows;
 use std::alloc::Global;
 use std::sync::ledger::Ledger;
 
@@ -46,30 +47,25 @@ pub(crate) fn lent_rows<'a, P: Pieces>(
     }
 }
 
-/// Puts the rows of an object in a window behind others: those of its piece, where there is one, and
-/// else they are found anew.
-fn put_window<P: Pieces, L: Ledger>(
-    alloc: Global,
-    pieces: &P,
-    origin: u64,
-    object: &Object,
-    window: i32,
-    out: &mut List<Row>,
-    steps: &mut Steps<L>,
-) -> Result<(), NoMemory>
-    requires object { IsKept object.now }
-    requires right { AreRowsOf (P.held pieces.now) origin object.now }
-    ensures steps { steps.new ≤ steps.old + window_cost (P.held pieces.now) origin object.now window }
-    ensures rows { OnOk result (out.new ≡ out.old ++ rows_in object.now window) }
+/// How many of some windows, from the first on, have no piece.
+pub(crate) fn missing_first<P: Pieces>(pieces: &P, origin: u64, windows: &[i32]) -> usize
+    ensures bound { result ≤ length windows.now }
+    ensures missing { All (IsMissing (P.held pieces.now) origin) (take result windows.now) }
 {
-    if let Some(rows) = pieces.rows(origin, window) {
-        return out.extend_from_slice(rows.as_slice());
+    let mut count = 0;
+    let mut rest = windows;
+    'missing: while let Some((window, behind)) = rest.split_first() {
+        if pieces.rows(origin, *window).is_some() {
+            return count;
+        }
+        count += 1;
+        rest = behind;
     }
-    let rows = window_rows(alloc, object, window, steps)?;
-    out.extend_from_slice(rows.as_slice())
+    count
 }
 
-/// The same of several windows.
+/// Puts the rows of an object in several windows behind others: those of pieces, where there are some,
+/// and else they are found anew, those of windows that follow one another in one walk.
 fn put_windows<P: Pieces, L: Ledger>(
     alloc: Global,
     pieces: &P,
@@ -86,10 +82,32 @@ fn put_windows<P: Pieces, L: Ledger>(
 {
     let mut rest = windows;
     'windows: while let Some((window, behind)) = rest.split_first() {
-        put_window(alloc, pieces, origin, object, *window, out, steps)?;
-        rest = behind;
+        if let Some(rows) = pieces.rows(origin, *window) {
+            out.extend_from_slice(rows.as_slice())?;
+            rest = behind;
+            continue 'windows;
+        }
+        let (missing, left) = rest.split_at(1 + missing_first(pieces, origin, behind));
+        put_missing(alloc, object, missing, out, steps)?;
+        rest = left;
     }
     Ok(())
+}
+
+/// Puts the rows of an object in windows without a piece behind others.
+fn put_missing<L: Ledger>(
+    alloc: Global,
+    object: &Object,
+    windows: &[i32],
+    out: &mut List<Row>,
+    steps: &mut Steps<L>,
+) -> Result<(), NoMemory>
+    requires { IsKept object.now }
+    ensures steps { steps.new ≤ steps.old + sum (map (cost object.now) windows.now) }
+    ensures rows { OnOk result (out.new ≡ out.old ++ flat_map (rows_in object.now) windows.now) }
+{
+    let rows = windows_rows(alloc, object, windows, steps)?;
+    out.extend_from_slice(rows.as_slice())
 }
 
 /// The rows of an object that a report looks at: those without a date, then those of some windows, put
