@@ -16,7 +16,8 @@ use Rattle.cal_model.specs.Pieces.PieceLists.{rows_at}
 use Rattle.cal_model.specs.State.ServerState.{Directory, Calendar, ServerState, calendar_at, octets_at}
 use Rattle.cal_model.specs.State.SoundStates.{IsSound}
 use Rattle.cal_model.proofs.Pieces.FoundPieces.{right_if_found}
-use Rattle.dav_reports.specs.CalendarObjects.{IsHeldRight, AreHeldRight, objects_at}
+use Rattle.object_walk.specs.WalkedObjects.{objects_at}
+use Rattle.dav_reports.specs.CalendarObjects.{IsHeldRight, AreHeldRight}
 use Rattle.dav_reports.proofs.QueryWalks.{AreEntriesOf, entries_found}
 
 -- the octets of an object that is still there are those of the state

@@ -13,3 +13,4 @@ pub mod Showing
 pub mod Keeping
 pub mod Answering
 pub mod Checking
+pub mod Moves

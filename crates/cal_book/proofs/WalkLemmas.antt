@@ -1,25 +1,23 @@
 -- A walk over the objects of a calendar that ends them one after another: so far those that it has passed, and at its end all.
-use Rattle.std.proofs.Common.{◌≡◌, ◌≢◌, ℕ, ◌<◌, Bool, true, false, ◌&&◌, ◌||◌, cond, List, [], ◌∷◌, length, filter, Option, Some, None, refl, sym, ap, ◌∙◌, arith, ◌⊎◌, inl, inr}
+use Rattle.std.proofs.Common.{◌≡◌, ◌≢◌, ℕ, ◌<◌, Bool, true, false, ◌&&◌, ◌||◌, cond, List, [], ◌∷◌, length, filter, Option, Some, None, refl, sym, ap, ◌∙◌, subst, arith, ◌⊎◌, inl, inr}
 use Rattle.std.specs.Prelude.{not, is_none, ◌==◌, bytes_eq, flat_map, option_and_then, option_to_list}
 use Rattle.std.specs.Option.{option_map_or}
-use Rattle.std.specs.Ordering.{is_lt}
-use Rattle.std.specs.declared.cmp.Ordering.{Ordering}
-use Rattle.std.specs.declared.cmp.Ordering.TheVariants.{Less, Equal, Greater}
+use Rattle.std.specs.List.Sorted.{IsStrictlySortedBy}
 use Rattle.std.proofs.lemmas.Bool.{cases_eq, false≢true, eqb-true, eq-eqb, and_parts, and_from}
 use Rattle.std.proofs.lemmas.List.{append-nil, get_or-set_same, get_or-set_other, length-set}
 use Rattle.std.proofs.lemmas.Map.Text.{is_eq-slice_cmp}
 use Rattle.std.proofs.lemmas.Slice.Eq.{bytes_eq-Decides}
-use Rattle.cal_base.specs.Lists.NameMap.{Named, name_order, value_at, above}
+use Rattle.cal_base.specs.Lists.NameMap.{Named, IsInOrder, value_at}
 use Rattle.cal_model.specs.declared.piece.Piece.{Piece}
 use Rattle.cal_model.specs.History.Journal.{Entry}
 use Rattle.cal_model.specs.History.LiveObjects.{Placed, is_in_calendar, live_at}
 use Rattle.cal_model.specs.History.Origins.{Origins, AreLive}
 use Rattle.cal_model.specs.Pieces.PieceLists.{is_other_piece}
-use Rattle.cal_model.specs.State.NameWalks.{objects_above}
 use Rattle.cal_model.specs.State.ServerState.{Directory, Calendar, ServerState, calendar_at, octets_at}
 use Rattle.cal_model.specs.State.SoundStates.{IsSound}
-use Rattle.cal_model.specs.State.StoredData.{next_object}
-use Rattle.cal_model.proofs.State.NameWalkLaws.{objects_above-first, objects_above-next, objects_above-end}
+use Rattle.cal_model.proofs.State.NameWalkLaws.{calendar-sound}
+use Rattle.object_walk.specs.WalkedObjects.{objects_at}
+use Rattle.collections.proofs.NamedLemmas.{absent_below}
 use Rattle.number_set.specs.Sets.{has}
 use Rattle.piece_claims.specs.Boards.{Board}
 use Rattle.cal_book.specs.EndedObjects.{IsWithout, is_object, is_passed, without_object}
@@ -95,25 +93,22 @@ IsWithout-more journal test other old new origin more within is = record {
       ∙ is.live n
       ∙ ap (λ b. has old.live n && not b) (sym (more n ∙ ap (λ b. is_object journal test n || b) (not_equal n origin apart) ∙ or-false (is_object journal test n)))
 
--- no name is above itself
-none_above : (named : Named (List ℕ)) (name : List ℕ) → value_at (above named name) name ≡ None
-none_above [] name = refl
-none_above (entry ∷ named) name = by (name_order name entry.0) refl (none_above named name) where
-  by : (o : Ordering) → name_order name entry.0 ≡ o → value_at (above named name) name ≡ None → value_at (cond (is_lt (name_order name entry.0)) (entry ∷ above named name) (above named name)) name ≡ None
-  by Less e later = rw (e, e) later
-  by Equal e later = rw e later
-  by Greater e later = rw e later
+-- The names of the objects of a calendar rise, and so do those of the ones that are left.
 
-none_above_itself : (state : ServerState) (home : ℕ) (calendar name : List ℕ) → value_at (objects_above state home calendar name) name ≡ None
-none_above_itself state home calendar name = by (calendar_at state home calendar) where
-  by : (o : Option Calendar) → value_at (flat_map (λ (c : Calendar). above c.objects name) (option_to_list o)) name ≡ None
-  by None = refl
-  by (Some c) = ap (λ named. value_at named name) (append-nil (above c.objects name)) ∙ none_above c.objects name
+pub walk-in_order : (directory : Directory) (state : ServerState) (home : ℕ) (calendar : List ℕ) → IsSound directory state → IsInOrder (objects_at state home calendar)
+unfolding IsStrictlySortedBy
+walk-in_order directory state home calendar sound = by (calendar_at state home calendar) refl where
+  by : (found : Option Calendar) → calendar_at state home calendar ≡ found → IsInOrder (flat_map (λ (c : Calendar). c.objects) (option_to_list found))
+  by None e = tt
+  by (Some c) e = subst IsInOrder (sym (append-nil c.objects)) (calendar-sound directory state home calendar c sound e).objects_in_order
 
-module _ (journal : List Entry) (origins : Origins) (directory : Directory) (state : ServerState) (live : AreLive journal origins) (octets : HasLiveOctets journal state) (sound : IsSound directory state)
-    (home : ℕ) (calendar : List ℕ) where
-  abbrev passed : List ℕ → Placed → Bool
-  passed = is_passed state home calendar
+pub walk-left_in_order : (entry : List ℕ × List ℕ) (left : Named (List ℕ)) → IsInOrder (entry ∷ left) → IsInOrder left
+unfolding IsStrictlySortedBy
+walk-left_in_order entry left in_order = in_order.1
+
+module _ (journal : List Entry) (origins : Origins) (state : ServerState) (live : AreLive journal origins) (octets : HasLiveOctets journal state) (home : ℕ) (calendar : List ℕ) where
+  abbrev passed : Named (List ℕ) → Placed → Bool
+  passed left = is_passed left home calendar
 
   place_is : (placed : Placed) → is_in_calendar placed home calendar ≡ true → (placed.home ≡ home) × (placed.calendar ≡ calendar)
   place_is placed t =
@@ -121,51 +116,53 @@ module _ (journal : List Entry) (origins : Origins) (directory : Directory) (sta
       (eqb-true placed.home home parts.0, (bytes_eq-Decides placed.calendar calendar).0 parts.1)
 
   -- at first none is passed
-  first_names : (placed : Placed) → octets_at state home calendar placed.object ≡ Some placed.octets → is_none (value_at (objects_above state home calendar []) placed.object) ≡ false
-  first_names placed e =
-      ap (λ named. is_none (value_at named placed.object)) (objects_above-first directory state home calendar sound)
-      ∙ by (calendar_at state home calendar) e where
-        by : (o : Option Calendar) → option_and_then (λ (c : Calendar). value_at c.objects placed.object) o ≡ Some placed.octets
-            → is_none (value_at (flat_map (λ (c : Calendar). c.objects) (option_to_list o)) placed.object) ≡ false
-        by None e = absurd cc
-        by (Some c) e = ap (λ named. is_none (value_at named placed.object)) (append-nil c.objects) ∙ ap is_none e
+  first_names : (placed : Placed) → octets_at state home calendar placed.object ≡ Some placed.octets → is_none (value_at (objects_at state home calendar) placed.object) ≡ false
+  first_names placed e = by (calendar_at state home calendar) e where
+    by : (o : Option Calendar) → option_and_then (λ (c : Calendar). value_at c.objects placed.object) o ≡ Some placed.octets
+        → is_none (value_at (flat_map (λ (c : Calendar). c.objects) (option_to_list o)) placed.object) ≡ false
+    by None e = absurd cc
+    by (Some c) e = ap (λ named. is_none (value_at named placed.object)) (append-nil c.objects) ∙ ap is_none e
 
-  none_passed : (n : ℕ) → is_object journal (passed []) n ≡ false
+  none_passed : (n : ℕ) → is_object journal (passed (objects_at state home calendar)) n ≡ false
   none_passed n = by (live_at journal n) refl where
-    in_place : (placed : Placed) → live_at journal n ≡ Some placed → (b : Bool) → is_in_calendar placed home calendar ≡ b → passed [] placed ≡ false
+    in_place : (placed : Placed) → live_at journal n ≡ Some placed → (b : Bool) → is_in_calendar placed home calendar ≡ b → passed (objects_at state home calendar) placed ≡ false
     in_place placed e true t =
         let place = place_is placed t in
-        ap (λ b. b && is_none (value_at (objects_above state home calendar []) placed.object)) t
+        ap (λ b. b && is_none (value_at (objects_at state home calendar) placed.object)) t
         ∙ first_names placed ((λ i. octets_at state (sym place.0 i) (sym place.1 i) placed.object) ∙ octets n placed e)
-    in_place placed e false t = ap (λ b. b && is_none (value_at (objects_above state home calendar []) placed.object)) t
+    in_place placed e false t = ap (λ b. b && is_none (value_at (objects_at state home calendar) placed.object)) t
 
-    by : (o : Option Placed) → live_at journal n ≡ o → is_object journal (passed []) n ≡ false
-    by None e = ap (λ o. option_map_or (passed []) o false) e
-    by (Some placed) e = ap (λ o. option_map_or (passed []) o false) e ∙ in_place placed e (is_in_calendar placed home calendar) refl
+    by : (o : Option Placed) → live_at journal n ≡ o → is_object journal (passed (objects_at state home calendar)) n ≡ false
+    by None e = ap (λ o. option_map_or (passed (objects_at state home calendar)) o false) e
+    by (Some placed) e = ap (λ o. option_map_or (passed (objects_at state home calendar)) o false) e ∙ in_place placed e (is_in_calendar placed home calendar) refl
 
   -- The walk begins.
-  pub walk-first : (board : Board) → IsWithout journal (passed []) board board
-  walk-first board = IsWithout-none journal (passed []) board none_passed
+  pub walk-first : (board : Board) → IsWithout journal (passed (objects_at state home calendar)) board board
+  walk-first board = IsWithout-none journal (passed (objects_at state home calendar)) board none_passed
 
-  module _ (name next text : List ℕ) (origin : ℕ) (there : next_object state home calendar name ≡ Some (next, text)) (known : origins home calendar next ≡ Some origin) where
-    above_is : objects_above state home calendar name ≡ (next, text) ∷ objects_above state home calendar next
-    above_is = objects_above-next directory state home calendar name (next, text) sound there
+  module _ (next text : List ℕ) (rest : Named (List ℕ)) (origin : ℕ) (in_order : IsInOrder ((next, text) ∷ rest)) (known : origins home calendar next ≡ Some origin) where
+    -- the name of the next one is none of those behind it
+    absent : value_at rest next ≡ None
+    unfolding IsStrictlySortedBy
+    absent = absent_below rest next in_order.0
 
-    -- a name is not above, or is the next one
-    names_more : (object : List ℕ) → is_none (value_at (objects_above state home calendar next) object) ≡ (is_none (value_at (objects_above state home calendar name) object) || bytes_eq object next)
-    names_more object = by (bytes_eq object next) refl ∙ ap (λ named. is_none (value_at named object) || bytes_eq object next) (sym above_is) where
-      by : (b : Bool) → bytes_eq object next ≡ b
-          → is_none (value_at (objects_above state home calendar next) object) ≡ (is_none (value_at ((next, text) ∷ objects_above state home calendar next) object) || bytes_eq object next)
+    -- a name is none of those that are left, or is the next one
+    names_more : (object : List ℕ) → is_none (value_at rest object) ≡ (is_none (value_at ((next, text) ∷ rest) object) || bytes_eq object next)
+    names_more object = by (bytes_eq object next) refl where
+      by : (b : Bool) → bytes_eq object next ≡ b → is_none (value_at rest object) ≡ (is_none (value_at ((next, text) ∷ rest) object) || bytes_eq object next)
       by true same =
           let names : object ≡ next = (bytes_eq-Decides object next).0 same in
-          ap (λ o. is_none (value_at (objects_above state home calendar next) o)) names
-          ∙ ap is_none (none_above_itself state home calendar next)
-          ∙ sym (or-true (is_none (value_at ((next, text) ∷ objects_above state home calendar next) object)))
-          ∙ ap (λ b. is_none (value_at ((next, text) ∷ objects_above state home calendar next) object) || b) (sym same)
+          ap (λ o. is_none (value_at rest o)) names
+          ∙ ap is_none absent
+          ∙ sym (or-true (is_none (value_at ((next, text) ∷ rest) object)))
+          ∙ ap (λ b. is_none (value_at ((next, text) ∷ rest) object) || b) (sym same)
       by false apart =
-          sym (or-false (is_none (value_at (objects_above state home calendar next) object)))
-          ∙ ap (λ b. is_none (value_at (objects_above state home calendar next) object) || b) (sym apart)
-          ∙ ap (λ b. is_none (cond b (Some text) (value_at (objects_above state home calendar next) object)) || bytes_eq object next) (sym (is_eq-slice_cmp object next ∙ apart))
+          sym (or-false (is_none (value_at rest object)))
+          ∙ ap (λ b. is_none (value_at rest object) || b) (sym apart)
+          ∙ ap (λ b. is_none (cond b (Some text) (value_at rest object)) || bytes_eq object next) (sym (is_eq-slice_cmp object next ∙ apart))
+
+    abbrev left : Named (List ℕ)
+    left = (next, text) ∷ rest
 
     -- it is the next one where its origin is that one's
     origin_of : (n : ℕ) (placed : Placed) → live_at journal n ≡ Some placed → is_in_calendar placed home calendar ≡ true → bytes_eq placed.object next ≡ (n == origin)
@@ -193,18 +190,18 @@ module _ (journal : List Entry) (origins : Origins) (directory : Directory) (sta
           absurd (false≢true (sym apart ∙ (bytes_eq-Decides placed.object next).1 names))
 
     -- the object of the next origin is passed then, and no other is
-    passed_more : (n : ℕ) → is_object journal (passed next) n ≡ (is_object journal (passed name) n || (n == origin))
+    passed_more : (n : ℕ) → is_object journal (passed rest) n ≡ (is_object journal (passed left) n || (n == origin))
     passed_more n = by (live_at journal n) refl where
-      in_place : (placed : Placed) → live_at journal n ≡ Some placed → (b : Bool) → is_in_calendar placed home calendar ≡ b → passed next placed ≡ (passed name placed || (n == origin))
+      in_place : (placed : Placed) → live_at journal n ≡ Some placed → (b : Bool) → is_in_calendar placed home calendar ≡ b → passed rest placed ≡ (passed left placed || (n == origin))
       in_place placed e true t =
-          ap (λ b. b && is_none (value_at (objects_above state home calendar next) placed.object)) t
+          ap (λ b. b && is_none (value_at rest placed.object)) t
           ∙ names_more placed.object
-          ∙ ap (λ b. is_none (value_at (objects_above state home calendar name) placed.object) || b) (origin_of n placed e t)
-          ∙ ap (λ b. (b && is_none (value_at (objects_above state home calendar name) placed.object)) || (n == origin)) (sym t)
+          ∙ ap (λ b. is_none (value_at left placed.object) || b) (origin_of n placed e t)
+          ∙ ap (λ b. (b && is_none (value_at left placed.object)) || (n == origin)) (sym t)
       in_place placed e false t =
-          ap (λ b. b && is_none (value_at (objects_above state home calendar next) placed.object)) t
+          ap (λ b. b && is_none (value_at rest placed.object)) t
           ∙ sym (not_equal n origin (λ one. elsewhere one))
-          ∙ ap (λ b. (b && is_none (value_at (objects_above state home calendar name) placed.object)) || (n == origin)) (sym t) where
+          ∙ ap (λ b. (b && is_none (value_at left placed.object)) || (n == origin)) (sym t) where
             inside : Option Placed → Bool
             inside None = false
             inside (Some p) = is_in_calendar p home calendar
@@ -214,33 +211,31 @@ module _ (journal : List Entry) (origins : Origins) (directory : Directory) (sta
                 let found = live.known home calendar next origin known in
                 false≢true (sym t ∙ ap inside (sym e ∙ ap (live_at journal) one ∙ found.1) ∙ and_from _ _ (eq-eqb home home refl) ((bytes_eq-Decides calendar calendar).1 refl))
 
-      by : (o : Option Placed) → live_at journal n ≡ o → is_object journal (passed next) n ≡ (is_object journal (passed name) n || (n == origin))
+      by : (o : Option Placed) → live_at journal n ≡ o → is_object journal (passed rest) n ≡ (is_object journal (passed left) n || (n == origin))
       by None e =
-          ap (λ o. option_map_or (passed next) o false) e
+          ap (λ o. option_map_or (passed rest) o false) e
           ∙ sym (not_equal n origin (λ one. nobody one))
-          ∙ ap (λ o. option_map_or (passed name) o false || (n == origin)) (sym e) where
+          ∙ ap (λ o. option_map_or (passed left) o false || (n == origin)) (sym e) where
             nobody : n ≡ origin → ⊥
             nobody one = let found = live.known home calendar next origin known in let both = sym e ∙ ap (live_at journal) one ∙ found.1 in cc
       by (Some placed) e =
-          ap (λ o. option_map_or (passed next) o false) e
+          ap (λ o. option_map_or (passed rest) o false) e
           ∙ in_place placed e (is_in_calendar placed home calendar) refl
-          ∙ ap (λ o. option_map_or (passed name) o false || (n == origin)) (sym e)
+          ∙ ap (λ o. option_map_or (passed left) o false || (n == origin)) (sym e)
 
     -- The walk ends one object more.
-    pub walk-next : (old new : Board) → IsUpToDate journal old → IsWithout journal (passed name) old new → IsWithout journal (passed next) old (without_object (Some origin) new)
+    pub walk-next : (old new : Board) → IsUpToDate journal old → IsWithout journal (passed left) old new → IsWithout journal (passed rest) old (without_object (Some origin) new)
     walk-next old new before is =
-        IsWithout-more journal (passed name) (passed next) old new origin passed_more
+        IsWithout-more journal (passed left) (passed rest) old new origin passed_more
         (let within = origin-within journal origins live home calendar next origin known in let size = before.entries in let same = is.size in omega (arith, within, size, same)) is
 
   -- At its end all objects of the calendar are gone.
-  pub walk-end : (name : List ℕ) (old new : Board) → next_object state home calendar name ≡ None → IsWithout journal (passed name) old new → IsWithout journal (λ placed. is_in_calendar placed home calendar) old new
-  walk-end name old new none is = IsWithout-same journal (passed name) (λ placed. is_in_calendar placed home calendar) old new (λ n. by (live_at journal n)) is where
+  pub walk-end : (old new : Board) → IsWithout journal (passed []) old new → IsWithout journal (λ placed. is_in_calendar placed home calendar) old new
+  walk-end old new is = IsWithout-same journal (passed []) (λ placed. is_in_calendar placed home calendar) old new (λ n. by (live_at journal n)) is where
     and-true : (b : Bool) → (b && true) ≡ b
     and-true true = refl
     and-true false = refl
 
-    by : (o : Option Placed) → option_map_or (passed name) o false ≡ option_map_or (λ (placed : Placed). is_in_calendar placed home calendar) o false
+    by : (o : Option Placed) → option_map_or (passed []) o false ≡ option_map_or (λ (placed : Placed). is_in_calendar placed home calendar) o false
     by None = refl
-    by (Some placed) =
-        ap (λ named. is_in_calendar placed home calendar && is_none (value_at named placed.object)) (objects_above-end state home calendar name none)
-        ∙ and-true (is_in_calendar placed home calendar)
+    by (Some placed) = and-true (is_in_calendar placed home calendar)

@@ -2,15 +2,13 @@
 -- Given: the origins of the objects that are there, a change, or a journal and a place in a calendar.
 use Rattle.std.specs.Prelude.{◌≡◌, ℕ, Bool, true, false, not, ◌&&◌, List, [], ◌∷◌, ◌++◌, ◌-◌, filter, length, slice_set, Option, Some, None, is_none}
 use Rattle.std.specs.Option.{option_map_or}
-use Rattle.cal_base.specs.Lists.NameMap.{value_at}
+use Rattle.cal_base.specs.Lists.NameMap.{Named, value_at}
 use Rattle.cal_model.specs.declared.piece.Piece.{Piece}
 use Rattle.cal_model.specs.History.Journal.{Entry}
 use Rattle.cal_model.specs.History.LiveObjects.{Placed, is_in_calendar, live_at}
 use Rattle.cal_model.specs.History.Origins.{Origins}
 use Rattle.cal_model.specs.Pieces.PieceLists.{is_other_piece}
 use Rattle.cal_model.specs.State.Changes.{Change, put}
-use Rattle.cal_model.specs.State.NameWalks.{objects_above}
-use Rattle.cal_model.specs.State.ServerState.{ServerState}
 use Rattle.number_set.specs.Sets.{has}
 use Rattle.piece_claims.specs.Boards.{Board}
 
@@ -37,9 +35,9 @@ without_object (Some origin) board = record board { live = slice_set board.live 
 
 -- A walk over the objects of a calendar, by their names
 
--- an object of the calendar whose name is not above the one at which the walk stands
-abbrev pub is_passed : ServerState → ℕ → List ℕ → List ℕ → Placed → Bool
-is_passed state home calendar name placed = is_in_calendar placed home calendar && is_none (value_at (objects_above state home calendar name) placed.object)
+-- an object of the calendar that is none of those that are left
+abbrev pub is_passed : Named (List ℕ) → ℕ → List ℕ → Placed → Bool
+is_passed left home calendar placed = is_in_calendar placed home calendar && is_none (value_at left placed.object)
 
 -- a test of the object that an entry made, if it is still there
 abbrev pub is_object : List Entry → (Placed → Bool) → ℕ → Bool

@@ -11,6 +11,7 @@ use crate::history::History;
 use cal_base::Steps;
 use cal_model::Change;
 use cal_model::view::View;
+use object_walk::Walks;
 use piece_claims::Claims;
 use std::sync::ledger::Ledger;
 
@@ -83,9 +84,7 @@ pub(crate) fn end_all<L: Ledger>(
 {
     let _entries = history.entries();
     let view = history.view();
-    let mut last: &[u8] = &[];
-    'objects: while let Some((stored, origin)) = view.object_after(home, calendar, last) {
+    'walk: for (_, origin) in view.objects(home, calendar) {
         claims.ended(origin, steps);
-        last = stored.path.object.as_slice();
     }
 }

@@ -17,6 +17,7 @@ use cal_base::Arc;
 use cal_model::view::View;
 use cal_model::{CalendarData, Object, Stored};
 use collections::Store;
+use object_walk::{ObjectWalk, Walks};
 use privileges::Users;
 use std::marker::Model;
 
@@ -121,5 +122,11 @@ impl<'a> View for BookView<'a> {
 
     fn find_user(&self, name: &[u8]) -> Option<u32> {
         self.users.find(name)
+    }
+}
+
+impl<'a> Walks for BookView<'a> {
+    fn objects(&self, home: u32, calendar: &[u8]) -> ObjectWalk<'_> {
+        self.store.objects(home, calendar)
     }
 }

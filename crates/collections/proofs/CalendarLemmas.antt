@@ -13,7 +13,7 @@ use Rattle.cal_model.specs.declared.store.CalendarData.{CalendarData}
 use Rattle.cal_model.specs.declared.stored.Stored.{Stored}
 use Rattle.cal_model.specs.History.KeptChanges.{IsAtPlace}
 use Rattle.cal_model.specs.Refusals.Preconditions.{has_uid, uid_of, holder}
-use Rattle.collections.specs.declared.objects.ObjectEntry.{ObjectEntry}
+use Rattle.object_walk.specs.declared.entry.ObjectEntry.{ObjectEntry}
 use Rattle.collections.specs.KeptCalendars.{KeptObject, KeptCalendar, each_value}
 use Rattle.collections.specs.Objects.{IsIndexed, IsAlone, ArePlaced}
 use Rattle.collections.specs.Calendars.{kept_entry, kept_with, IsCalendar}

@@ -4,7 +4,7 @@ use Rattle.std.proofs.lemmas.Cmp.{nat_list_cmp_total}
 use Rattle.cal_base.specs.Lists.NameMap.{Named, IsInOrder, value_at, with_value, without}
 use Rattle.cal_model.specs.declared.stored.Stored.{Stored}
 use Rattle.cal_model.proofs.State.OrderLaws.{sorted-insert, sorted-remove}
-use Rattle.collections.specs.declared.objects.ObjectEntry.{ObjectEntry}
+use Rattle.object_walk.specs.declared.entry.ObjectEntry.{ObjectEntry}
 use Rattle.collections.specs.Objects.{IsIndexed, IsAlone}
 use Rattle.collections.proofs.NamedLemmas.{same_or_not, value_at_with_same, value_at_with_other, value_at_without_same, value_at_without_other}
 

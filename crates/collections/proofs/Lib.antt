@@ -14,3 +14,4 @@ pub mod LookLemmas
 pub mod OpeningLemmas
 pub mod StoreLemmas
 pub mod SameOnsets
+pub mod WalkLemmas

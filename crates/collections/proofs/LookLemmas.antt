@@ -1,6 +1,6 @@
 -- What a store shows of what it keeps: calendars, objects and their origins, and the next ones.
-use Rattle.std.proofs.Common.{◌≡◌, ℕ, ◌≤◌, List, Option, Some, None, refl, sym, ap, ◌∙◌, subst}
-use Rattle.std.specs.Prelude.{length, slice_get, option_map, option_and_then, IfSome, IsSome}
+use Rattle.std.proofs.Common.{◌≡◌, ℕ, ◌≤◌, List, [], Option, Some, None, refl, sym, ap, ◌∙◌, subst, append-nil}
+use Rattle.std.specs.Prelude.{flat_map, length, slice_get, option_map, option_and_then, option_to_list, IfSome, IsSome}
 use Rattle.std.specs.Option.{option_map_or}
 use Rattle.std.proofs.lemmas.List.{length-map}
 use Rattle.cal_base.specs.Lists.NameMap.{value_at, next_above}
@@ -8,6 +8,7 @@ use Rattle.cal_model.specs.declared.store.CalendarData.{CalendarData}
 use Rattle.cal_model.specs.Words.Limits.{home_limit}
 use Rattle.cal_model.specs.State.ServerState.{Calendar, Home, home_at, calendar_at, octets_at}
 use Rattle.cal_model.specs.State.StoredData.{data_of, data_at, next_calendar, next_object}
+use Rattle.object_walk.specs.WalkedObjects.{objects_at}
 use Rattle.collections.specs.declared.home.KeptHome.{KeptHome}
 use Rattle.collections.specs.KeptCalendars.{KeptObject, KeptCalendar, calendar_of}
 use Rattle.collections.specs.Kept.{Kept, home_of, state_of, origins_of, kept_calendar, kept_object}
@@ -105,6 +106,13 @@ module _ (kept : Kept) (store : IsStore kept) (number : ℕ) where
 
   pub next_object_none : (calendar name : List ℕ) → kept_calendar kept.homes number calendar ≡ None → None ≡ next_object (state_of kept) number calendar name
   next_object_none calendar name at = sym (ap (option_and_then (λ (k : Calendar). next_above k.objects name)) (calendar_at_some calendar None at))
+
+  -- all objects of a calendar
+  pub objects_some : (calendar : List ℕ) (c : KeptCalendar) → kept_calendar kept.homes number calendar ≡ Some c → (calendar_of c).objects ≡ objects_at (state_of kept) number calendar
+  objects_some calendar c at = sym (ap (λ found. flat_map (λ (k : Calendar). k.objects) (option_to_list found)) (calendar_at_some calendar (Some c) at) ∙ append-nil (calendar_of c).objects)
+
+  pub objects_none : (calendar : List ℕ) → kept_calendar kept.homes number calendar ≡ None → [] ≡ objects_at (state_of kept) number calendar
+  objects_none calendar at = sym (ap (λ found. flat_map (λ (k : Calendar). k.objects) (option_to_list found)) (calendar_at_some calendar None at))
 
   pub uid_some : (calendar uid : List ℕ) (c : KeptCalendar) → kept_calendar kept.homes number calendar ≡ Some c → with_uid (calendar_of c).objects uid ≡ uid_holder_at (state_of kept) number calendar uid
   uid_some calendar uid c at = sym (ap (option_and_then (λ (k : Calendar). with_uid k.objects uid)) (calendar_at_some calendar (Some c) at))

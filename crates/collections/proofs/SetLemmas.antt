@@ -11,7 +11,7 @@ use Rattle.cal_model.specs.declared.zone.ZoneTable.{ZoneTable}
 use Rattle.cal_model.specs.State.PropertyTexts.{Texts, prop_order, as_settings}
 use Rattle.cal_model.specs.State.ServerState.{own_zone}
 use Rattle.cal_model.specs.Properties.Settings.{texts_after_all, kinds_after_all}
-use Rattle.collections.specs.declared.objects.ObjectEntry.{ObjectEntry}
+use Rattle.object_walk.specs.declared.entry.ObjectEntry.{ObjectEntry}
 use Rattle.collections.specs.KeptCalendars.{KeptCalendar}
 use Rattle.collections.specs.Calendars.{kept_with, IsCalendar}
 use Rattle.collections.specs.Settings.{texts_of, last_zone, zone_set, Changes}

@@ -8,13 +8,17 @@ use Rattle.cal_model.specs.declared.stored.Stored.{Stored}
 use Rattle.cal_model.specs.declared.store.CalendarData.{CalendarData}
 use Rattle.cal_model.specs.State.PropertyTexts.{prop_order, as_settings}
 use Rattle.cal_model.specs.State.ServerState.{own_zone}
-use Rattle.collections.specs.declared.objects.ObjectEntry.{ObjectEntry}
+use Rattle.object_walk.specs.declared.entry.ObjectEntry.{ObjectEntry}
 use Rattle.collections.specs.KeptCalendars.{KeptObject, KeptCalendar, each_value}
 use Rattle.collections.specs.Objects.{IsIndexed, ArePlaced}
 use Rattle.collections.specs.Settings.{texts_of}
 
 abbrev pub kept_entry : ObjectEntry → KeptObject
 kept_entry entry = record { octets = entry.stored.octets; origin = entry.origin }
+
+-- the name of an object, with what is shown of it
+abbrev pub shown_object : ObjectEntry → List ℕ × KeptObject
+shown_object entry = (entry.stored.path.object, kept_entry entry)
 
 abbrev pub kept_with : List ℕ → CalendarData → Named ObjectEntry → KeptCalendar
 kept_with name kept by_name = record {

@@ -3,7 +3,7 @@
 use Rattle.std.specs.Prelude.{◌≡◌, ℕ, List, Some}
 use Rattle.cal_base.specs.Lists.NameMap.{Named, IsInOrder, value_at}
 use Rattle.cal_model.specs.declared.stored.Stored.{Stored}
-use Rattle.collections.specs.declared.objects.ObjectEntry.{ObjectEntry}
+use Rattle.object_walk.specs.declared.entry.ObjectEntry.{ObjectEntry}
 
 -- The index has each object at its UID, and nothing else.
 pub record IsIndexed (by_name : Named ObjectEntry) (by_uid : Named Stored) : Type 0 where

@@ -1,5 +1,6 @@
 //! A calendar that is kept: its data, its objects, and the index of their UIDs.
-ghost use Rattle.std.specs.Prelude.{◌≡◌, ℕ, List, [], Option, None, OnOk, OnErr, IfOk, IfSome, option_map};
+ghost use Rattle.std.specs.Prelude.{◌≡◌, ℕ, List, [], Option, Some, None, OnOk, OnErr, IfOk, IfSome, map, option_map};
+ghost use Rattle.std.specs.List.{AllByRecursion};
 ghost use Rattle.std.specs.Option.{option_copied};
 ghost use Rattle.std.specs.Borrow.{Bor};
 ghost use Rattle.cal_base.specs.Lists.NameMap.{value_at, with_value, without, next_above};
@@ -9,16 +10,19 @@ ghost use Rattle.cal_model.specs.Properties.Settings.{kinds_after_all, texts_aft
 ghost use Rattle.cal_model.specs.Refusals.Preconditions.{holder};
 ghost use Rattle.cal_model.specs.State.ServerState.{every_kind};
 ghost use Rattle.cal_model.specs.State.StoredData.{data_of};
+ghost use Rattle.collections.specs.Calendars.{kept_entry, shown_object};
 ghost use Rattle.collections.specs.KeptCalendars.{KeptObject, calendar_of};
 ghost use Rattle.collections.specs.Settings.{last_zone, IsShort};
 ghost use Rattle.collections.specs.UidHolders.{with_uid, IsAloneWith};
+ghost use Rattle.object_walk.specs.WalkedObjects.{AreInCalendar};
 
 use crate::kinds::kinds_behind;
-use crate::objects::{ObjectEntry, put_object, take_object};
+use crate::objects::{put_object, take_object};
 use crate::settings::set_texts;
 use crate::zone::zone_behind;
 use cal_base::{Arc, List as Items, NameMap, NoMemory, Octets};
 use cal_model::{Acl, CalendarData, Grant, PropSet, Stored, ZoneTable};
+use object_walk::{ObjectEntry, ObjectWalk};
 use std::alloc::Global;
 use std::marker::Model;
 
@@ -113,6 +117,15 @@ impl CalendarStore {
             Some((_, entry)) => Some((&entry.stored, entry.origin)),
             None => None,
         }
+    }
+
+    /// All objects, in the order of their names.
+    pub(crate) fn objects(&self) -> ObjectWalk<'_>
+        ensures objects { map shown_object result ≡ self.now.objects }
+        ensures there { AllByRecursion (λ entry. value_at self.now.objects entry.stored.path.object ≡ Some (kept_entry entry)) result }
+        ensures places { AreInCalendar self.now.home self.now.name result }
+    {
+        ObjectWalk::of(&self.by_name)
     }
 
     /// The object that has a UID.

@@ -2,7 +2,8 @@
 //!
 //! Given: changes that were accepted, each with the number of its entry in the journal. Gives: the
 //! state that they lead to, looked at by names: a calendar, an object and its origin, the next one
-//! above a name, the object that has a UID, and what a home's changes cost. Used by: the book, which
+//! above a name, all of a calendar one after another, the object that has a UID, and what a home's
+//! changes cost. Used by: the book, which
 //! keeps one store beside its journal.
 #![tactic(auto)]
 

@@ -1,19 +1,13 @@
 //! The objects of a calendar by their names, and the index of their UIDs.
 ghost use Rattle.std.specs.Prelude.{◌≡◌, OnOk, OnErr, option_map};
 ghost use Rattle.cal_base.specs.Lists.NameMap.{value_at, with_value, without};
-ghost use Rattle.collections.specs.declared.objects.ObjectEntry.{ObjectEntry as Entry};
 ghost use Rattle.collections.specs.Objects.{IsIndexed, IsAlone};
+ghost use Rattle.object_walk.specs.declared.entry.ObjectEntry.{ObjectEntry as Entry};
 
 use cal_base::{Arc, NameMap, NoMemory, Octets};
 use cal_model::Stored;
+use object_walk::ObjectEntry;
 use std::alloc::Global;
-
-/// An object, and its origin: the number of the journal's entry that made it.
-#[derive(Drop)]
-pub(crate) struct ObjectEntry {
-    pub(crate) stored: Arc<Stored>,
-    pub(crate) origin: u64,
-}
 
 /// Puts an object under its name and its UID, in the place of the one that was there. Without memory
 /// the objects stay as they were.

@@ -1,5 +1,5 @@
 //! The store: the homes of all users.
-ghost use Rattle.std.specs.Prelude.{◌≡◌, ◌≤◌, ℕ, List, [], Some, None, OnOk, OnErr, IfOk, IfSome, IsSome, length, option_map};
+ghost use Rattle.std.specs.Prelude.{◌≡◌, ◌≤◌, ℕ, List, [], Some, None, OnOk, OnErr, IfOk, IfSome, IsSome, length, map, option_map};
 ghost use Rattle.std.specs.Option.{option_copied, option_map_or};
 ghost use Rattle.std.specs.Borrow.{Bor};
 ghost use Rattle.cal_model.specs.declared.stored.Stored.{Stored as StoredData};
@@ -13,6 +13,7 @@ ghost use Rattle.cal_model.specs.State.StoredData.{data_at, next_calendar, next_
 ghost use Rattle.cal_model.specs.Words.Limits.{home_limit};
 ghost use Rattle.collections.specs.Settings.{last_zone, IsShort};
 ghost use Rattle.collections.specs.UidHolders.{uid_holder_at, IsAloneWithAt};
+ghost use Rattle.object_walk.specs.WalkedObjects.{AreInCalendar, HaveOriginsOf, named_octets, objects_at};
 
 use crate::home::KeptHome;
 use crate::homes::{
@@ -23,6 +24,7 @@ use crate::zone_pool::ZonePool;
 use cal_base::{Arc, NoMemory, Octets};
 use cal_model::view::Applies;
 use cal_model::{CalendarData, Change, Grant, Object, PropSet, Stored};
+use object_walk::ObjectWalk;
 use privileges::Users;
 use std::alloc::Global;
 use std::marker::Model;
@@ -134,6 +136,20 @@ impl Store {
         match calendar_in(&self.homes, home, calendar) {
             Some(calendar) => calendar.object_after(name),
             None => None,
+        }
+    }
+
+    /// The objects of a calendar in the order of their names, with their origins; none where it isn't
+    /// there. Takes no memory, and about the logarithm of how many calendars the home has.
+    pub fn objects(&self, home: u32, calendar: &[u8]) -> ObjectWalk<'_>
+        ensures octets { map named_octets result ≡ objects_at (state_of self.now) home calendar.now }
+        ensures origins { HaveOriginsOf (origins_of self.now home calendar.now) result }
+        ensures places { AreInCalendar home calendar.now result }
+        ensures sound { IsSound (users_of self.now) (state_of self.now) }
+    {
+        match calendar_in(&self.homes, home, calendar) {
+            Some(calendar) => calendar.objects(),
+            None => ObjectWalk::empty(),
         }
     }
 

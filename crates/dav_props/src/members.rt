@@ -16,6 +16,7 @@ use cal_base::{NoMemory, Octets};
 use cal_model::view::View;
 use cal_model::{CalendarData, Path, PropName, Props, Seen, Stored};
 use dav_write::append_path;
+use object_walk::Walks;
 use privileges::held;
 use std::alloc::Global;
 
@@ -26,7 +27,7 @@ pub(crate) const ANSWER_LIMIT: usize = 67_108_864;
 const READ: u16 = 2;
 
 /// Appends the responses of the members of what is seen at a path, until the reply is too long.
-pub(crate) fn push_members<V: View>(
+pub(crate) fn push_members<V: Walks>(
     alloc: Global,
     seen: &Seen<'_, V>,
     path: &Path,
@@ -140,7 +141,7 @@ fn push_calendar<V: View>(
 }
 
 /// Appends the responses of the objects of a calendar, where they are seen.
-fn push_calendar_members<V: View>(
+fn push_calendar_members<V: Walks>(
     alloc: Global,
     seen: &Seen<'_, V>,
     user: &Octets,
@@ -170,7 +171,7 @@ fn push_calendar_members<V: View>(
 }
 
 /// Appends the responses of the objects of a calendar that are there, given the privileges held on it.
-fn push_read_members<V: View>(
+fn push_read_members<V: Walks>(
     alloc: Global,
     seen: &Seen<'_, V>,
     owner: u32,
@@ -207,7 +208,7 @@ fn push_read_members<V: View>(
 }
 
 /// Appends the responses of the objects of a calendar.
-fn push_objects<V: View>(
+fn push_objects<V: Walks>(
     alloc: Global,
     seen: &Seen<'_, V>,
     owner: u32,
@@ -225,15 +226,13 @@ fn push_objects<V: View>(
     requires member { (name : List ℕ) → with_last member.old name ≡ ObjectPath user.now calendar.now name }
     ensures { OnOk result ((sight : Sight) → sight.held ≡ held → IsUpTo answer_limit out.new (out.old ++ flat_map (object_text (V.directory seen.now.view.now) seen.now.who props.now user.now calendar.now sight) (objects_of (V.state seen.now.view.now) owner calendar.now))) }
 {
-    let mut last: &[u8] = &[];
-    'objects: while let Some((stored, _)) = seen.view.object_after(owner, calendar, last) {
+    'walk: for (stored, _) in seen.view.objects(owner, calendar) {
         if out.len() > ANSWER_LIMIT {
             return Ok(());
         }
         push_object(
             alloc, seen, held, user, calendar, stored, props, named, member, href, out,
         )?;
-        last = stored.path.object.as_slice();
     }
     Ok(())
 }

@@ -17,6 +17,7 @@ use cal_base::{List, NoMemory, Octets};
 use cal_model::view::View;
 use cal_model::{Media, Path, PropName, Props, Reply, Seen};
 use multistatus::{begin_multistatus, end_multistatus, once};
+use object_walk::Walks;
 use std::alloc::Global;
 
 /// The body of the refusal of an answer that is too long (RFC 4791, 7.8).
@@ -27,7 +28,7 @@ const TOO_LONG: &[u8] =
 /// members behind it, each with what is asked of it (RFC 4918, 9.1). A name that is asked for twice is
 /// shown once. An answer of more than 67,108,864 octets is refused, and is not written to its end. What is
 /// not there gives a reply without responses.
-pub fn find<V: View>(
+pub fn find<V: Walks>(
     alloc: Global,
     seen: &Seen<'_, V>,
     path: &Path,
@@ -54,7 +55,7 @@ fn names_once(alloc: Global, props: &Props) -> Result<List<PropName>, NoMemory>
 }
 
 /// Appends the responses of what is seen at a path, until the reply is too long.
-fn push_all<V: View>(
+fn push_all<V: Walks>(
     alloc: Global,
     seen: &Seen<'_, V>,
     path: &Path,

@@ -18,7 +18,8 @@ use Rattle.cal_model.specs.Reports.NeededWindows.{windows_needed}
 use Rattle.cal_model.specs.State.ServerState.{Calendar, Directory, ServerState, calendar_at, object_of, objects_of}
 use Rattle.cal_model.specs.State.SoundStates.{IsSound}
 use Rattle.cal_model.proofs.State.NameWalkLaws.{calendar-sound}
-use Rattle.dav_reports.specs.CalendarObjects.{OriginOf, entry_cost, object_cost, objects_at, times_needed, times_of_entries}
+use Rattle.object_walk.specs.WalkedObjects.{objects_at}
+use Rattle.dav_reports.specs.CalendarObjects.{OriginOf, entry_cost, object_cost, times_needed, times_of_entries}
 use Rattle.dav_reports.specs.PieceRows.{Held, windows_cost}
 
 -- each object of a calendar can be served

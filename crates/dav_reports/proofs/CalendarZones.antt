@@ -22,7 +22,8 @@ use Rattle.cal_model.specs.TimeZones.TableBounds.{IsTable}
 use Rattle.cal_model.proofs.Objects.ObjectFactLaws.{IsZone-read_zone}
 use Rattle.cal_model.proofs.TimeZones.NearTimes.{HasShortOffsets-table}
 use Rattle.cal_model.proofs.TimeZones.ZoneTableLaws.{IsTable-table_of}
-use Rattle.dav_reports.specs.CalendarObjects.{objects_at, times_of_entries}
+use Rattle.object_walk.specs.WalkedObjects.{objects_at}
+use Rattle.dav_reports.specs.CalendarObjects.{times_of_entries}
 use Rattle.dav_reports.specs.PieceRows.{IsKept}
 use Rattle.dav_reports.proofs.CalendarWalks.{IsServed, all_served}
 use Rattle.dav_reports.proofs.KeptObjects.{IsKept-stored}

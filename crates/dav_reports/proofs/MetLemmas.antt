@@ -20,7 +20,8 @@ use Rattle.cal_model.specs.Serving.ReportReplies.{Reported, href_response, objec
 use Rattle.cal_model.specs.State.ServerState.{Calendar, ServerState, calendar_at, octets_at}
 use Rattle.rrule_sets.proofs.AskedLemmas.{sum-cons}
 use Rattle.dav_reports.specs.declared.multiget.Place.{Place}
-use Rattle.dav_reports.specs.CalendarObjects.{OriginOf, entry_cost, objects_at}
+use Rattle.object_walk.specs.WalkedObjects.{objects_at}
+use Rattle.dav_reports.specs.CalendarObjects.{OriginOf, entry_cost}
 use Rattle.dav_reports.specs.MetObjects.{AreResponses, AreWithin, IsWithin, Met, cost_unless_met, named_response, place_behind, response_at, text_at, unmet_cost}
 use Rattle.dav_reports.specs.PieceRows.{Held}
 

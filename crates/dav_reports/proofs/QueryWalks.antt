@@ -25,7 +25,8 @@ use Rattle.cal_model.specs.Reports.NeededWindows.{counts, stated_windows, window
 use Rattle.cal_model.specs.State.ServerState.{Directory, ServerState, calendar_at}
 use Rattle.cal_model.specs.State.SoundStates.{IsSound}
 use Rattle.cal_model.proofs.State.NameWalkLaws.{calendar-sound}
-use Rattle.dav_reports.specs.CalendarObjects.{objects_at, sought_responses}
+use Rattle.object_walk.specs.WalkedObjects.{objects_at}
+use Rattle.dav_reports.specs.CalendarObjects.{sought_responses}
 use Rattle.cal_model.specs.Replies.XmlText.{multistatus}
 use Rattle.multistatus.specs.ReplyPieces.{begun}
 use Rattle.multistatus.proofs.ReplyLemmas.{begun_size, multistatus_filled}

@@ -1,5 +1,5 @@
 -- The objects of a calendar in a state, which pieces of their rows are right, and what it costs to find the other rows that a report needs.
-use Rattle.std.specs.Prelude.{◌≡◌, ℕ, List, filter, map, flat_map, option_to_list, sum, Option, Some, None, Ok}
+use Rattle.std.specs.Prelude.{◌≡◌, ℕ, List, filter, map, flat_map, sum, Option, Some, None, Ok}
 use Rattle.std.specs.List.{AllByRecursion}
 use Rattle.cal_base.specs.Lists.NameMap.{Named}
 use Rattle.cal_model.specs.declared.object.Object.{Object}
@@ -16,13 +16,10 @@ use Rattle.cal_model.specs.Busy.BusyTimes.{BusyTime}
 use Rattle.cal_model.specs.History.Origins.{Origins}
 use Rattle.cal_model.specs.Objects.ObjectReading.{read_object}
 use Rattle.cal_model.specs.Reports.NeededWindows.{windows_needed}
-use Rattle.cal_model.specs.State.ServerState.{Calendar, ServerState, calendar_at, object_of, objects_of}
+use Rattle.cal_model.specs.State.ServerState.{ServerState, object_of, objects_of}
+use Rattle.object_walk.specs.WalkedObjects.{objects_at}
 use Rattle.dav_reports.specs.ObjectTimes.{times_by_windows}
 use Rattle.dav_reports.specs.PieceRows.{AreRowsOf, Held, windows_cost}
-
--- the objects of a calendar, by their names
-abbrev pub objects_at : ServerState → ℕ → List ℕ → Named (List ℕ)
-objects_at state home calendar = flat_map (λ (c : Calendar). c.objects) (option_to_list (calendar_at state home calendar))
 
 -- the origins of the objects of a calendar, by their names
 abbrev pub OriginOf : Type 0

@@ -2,20 +2,22 @@
 ghost use Rattle.std.specs.Prelude.{◌≡◌, ◌+◌, ◌≤◌, pos, ◌≤ℤ◌, IfOk, IsSome};
 ghost use Rattle.cal_model.specs.declared.report.ReportRequest.TheVariants.{FreeBusy};
 ghost use Rattle.cal_model.specs.State.ServerState.{Calendar, calendar_at};
-ghost use Rattle.dav_reports.specs.CalendarObjects.{AreHeldRight, entries_cost, objects_at};
+ghost use Rattle.object_walk.specs.WalkedObjects.{objects_at};
+ghost use Rattle.dav_reports.specs.CalendarObjects.{AreHeldRight, entries_cost};
 ghost use Rattle.dav_reports.specs.ReportOutcomes.{IsServedRange, busy_text};
 ghost use Rattle.dav_reports.specs.SeenCalendars.{IsBody};
 
 use crate::runs::calendar_runs;
 use crate::text::free_busy_text;
 use cal_base::{NoMemory, Octets, Steps};
-use cal_model::view::{Pieces, View};
+use cal_model::view::Pieces;
 use cal_model::{Range, Seen};
+use object_walk::Walks;
 use std::alloc::Global;
 use std::sync::ledger::Ledger;
 
 /// The answer to a query for busy times, or none where it is too long.
-pub(crate) fn busy_body<V: View, P: Pieces, L: Ledger>(
+pub(crate) fn busy_body<V: Walks, P: Pieces, L: Ledger>(
     alloc: Global,
     seen: &Seen<'_, V>,
     calendar: (u32, &[u8]),

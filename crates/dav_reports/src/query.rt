@@ -15,7 +15,8 @@ ghost use Rattle.cal_model.specs.declared.path.Path.TheVariants.{Object as Objec
 ghost use Rattle.expand_limit.specs.InstanceLines.{IsShownRow};
 ghost use Rattle.overlap_rules.specs.Bounds.{IsNearRow};
 ghost use Rattle.multistatus.specs.ReplyPieces.{begun};
-ghost use Rattle.dav_reports.specs.CalendarObjects.{AreHeldRight, objects_at, query_cost, sought_responses};
+ghost use Rattle.object_walk.specs.WalkedObjects.{objects_at};
+ghost use Rattle.dav_reports.specs.CalendarObjects.{AreHeldRight, query_cost, sought_responses};
 ghost use Rattle.dav_reports.specs.AskedProperties.{names_asked};
 ghost use Rattle.dav_reports.specs.PieceRows.{AreRowsOf, IsKept, windows_cost};
 ghost use Rattle.dav_reports.specs.SeenCalendars.{IsBody, IsWritten, MayRead, reported_of};
@@ -32,6 +33,7 @@ use cal_model::{
 use expand_limit::{shown, takes_all};
 use filter_eval::Prepared;
 use multistatus::{begin_multistatus, end_multistatus};
+use object_walk::Walks;
 use rrule_sets::undated_rows;
 use std::alloc::Global;
 use std::sync::ledger::Ledger;
@@ -196,7 +198,7 @@ pub(crate) const ANSWER_LIMIT: usize = 67_108_864;
 
 /// Appends the responses of the objects of a calendar that match a filter, by name; ends as soon as they
 /// are longer than an answer may be, and then gives false.
-fn push_all_sought<V: View, A: PropAnswers, P: Pieces, L: Ledger>(
+fn push_all_sought<V: Walks, A: PropAnswers, P: Pieces, L: Ledger>(
     alloc: Global,
     seen: &Seen<'_, V>,
     home: u32,
@@ -223,8 +225,7 @@ fn push_all_sought<V: View, A: PropAnswers, P: Pieces, L: Ledger>(
     ensures steps { steps.new ≤ steps.old + query_cost (P.held pieces.now) select.now wanted.now (V.origins seen.now.view.now home calendar.now) (objects_at (V.state seen.now.view.now) home calendar.now) }
     ensures written { IfOk result (λ whole. (c : Calendar) → MayRead (V.directory seen.now.view.now) (V.state seen.now.view.now) seen.now.who home calendar.now c → IsWritten whole out.old out.new (sought_responses (reported_of (V.directory seen.now.view.now) seen.now.who home calendar.now c) select.now zone.now props.now wanted.now c.objects)) }
 {
-    let mut last: &[u8] = &[];
-    'objects: while let Some((stored, origin)) = seen.view.object_after(home, calendar, last) {
+    'walk: for (stored, origin) in seen.view.objects(home, calendar) {
         push_sought(
             alloc, seen, home, calendar, pieces, answers, origin, stored, ranges, wanted, props,
             names, select, zone, out, steps,
@@ -232,7 +233,6 @@ fn push_all_sought<V: View, A: PropAnswers, P: Pieces, L: Ledger>(
         if out.len() > ANSWER_LIMIT {
             return Ok(false);
         }
-        last = stored.path.object.as_slice();
     }
     Ok(true)
 }
@@ -240,7 +240,7 @@ fn push_all_sought<V: View, A: PropAnswers, P: Pieces, L: Ledger>(
 /// The body of the reply to a calendar-query: the objects that match the filter, by name. None where it
 /// would be longer than an answer may be (64 MiB), which is not written whole. Whether the user may read
 /// the calendar is not looked at here.
-pub(crate) fn query<V: View, A: PropAnswers, P: Pieces, L: Ledger>(
+pub(crate) fn query<V: Walks, A: PropAnswers, P: Pieces, L: Ledger>(
     alloc: Global,
     seen: &Seen<'_, V>,
     calendar: (u32, &[u8]),

@@ -8,7 +8,8 @@ ghost use Rattle.cal_model.specs.Serving.ReadingReplies.{report_reply};
 ghost use Rattle.cal_model.specs.Sight.Scenes.{held_in};
 ghost use Rattle.cal_model.specs.State.ServerState.{Calendar, calendar_at};
 ghost use Rattle.cal_model.specs.TimeZones.TableBounds.{IsTable};
-ghost use Rattle.dav_reports.specs.CalendarObjects.{AreHeldRight, entries_cost, objects_at};
+ghost use Rattle.object_walk.specs.WalkedObjects.{objects_at};
+ghost use Rattle.dav_reports.specs.CalendarObjects.{AreHeldRight, entries_cost};
 ghost use Rattle.dav_reports.specs.ReportOutcomes.{HasServedRange, IsBodyOf, MaySee, answer_body, calendar_scene, privilege_needed, reply_of, reply_to_report, unless_long, unless_outside, zone_given, zone_of_text};
 ghost use Rattle.dav_reports.specs.SeenCalendars.{IsBody};
 
@@ -19,13 +20,14 @@ use crate::query::query;
 use crate::refusals::{refused, refused_length, refused_range};
 use crate::zones::{report_zone, utc};
 use cal_base::{NoMemory, Octets, Steps};
-use cal_model::view::{Pieces, View};
+use cal_model::view::Pieces;
 use cal_model::{Media, PropAnswers, Refusal, Reply, ReportRequest, Seen, ZoneTable};
+use object_walk::Walks;
 use std::alloc::Global;
 use std::sync::ledger::Ledger;
 
 /// The answer to a report, or none where it is too long. Floating times are read in the zone.
-fn report_body<V: View, A: PropAnswers, P: Pieces, L: Ledger>(
+fn report_body<V: Walks, A: PropAnswers, P: Pieces, L: Ledger>(
     alloc: Global,
     seen: &Seen<'_, V>,
     calendar: (u32, &[u8]),
@@ -72,7 +74,7 @@ fn report_body<V: View, A: PropAnswers, P: Pieces, L: Ledger>(
 }
 
 /// The same in the zone of the report, or else in that of the calendar, or in UTC.
-fn body_in_zone<V: View, A: PropAnswers, P: Pieces, L: Ledger>(
+fn body_in_zone<V: Walks, A: PropAnswers, P: Pieces, L: Ledger>(
     alloc: Global,
     seen: &Seen<'_, V>,
     calendar: (u32, &[u8]),
@@ -135,7 +137,7 @@ fn finished(alloc: Global, request: &ReportRequest, body: Option<Octets>) -> Res
 }
 
 /// The reply to a report of which no range leaves the dates that are served.
-fn answered<V: View, A: PropAnswers, P: Pieces, L: Ledger>(
+fn answered<V: Walks, A: PropAnswers, P: Pieces, L: Ledger>(
     alloc: Global,
     seen: &Seen<'_, V>,
     calendar: (u32, &[u8]),
@@ -164,7 +166,7 @@ fn answered<V: View, A: PropAnswers, P: Pieces, L: Ledger>(
 }
 
 /// The reply to a report whose own zone, if it has one, was read.
-fn reply_in_zone<V: View, A: PropAnswers, P: Pieces, L: Ledger>(
+fn reply_in_zone<V: Walks, A: PropAnswers, P: Pieces, L: Ledger>(
     alloc: Global,
     seen: &Seen<'_, V>,
     calendar: (u32, &[u8]),
@@ -199,7 +201,7 @@ fn reply_in_zone<V: View, A: PropAnswers, P: Pieces, L: Ledger>(
 /// gives), where a range leaves the dates that are served, or where the answer is longer than 64 MiB;
 /// or else the answer. Rows come from pieces wherever there is one, and no answer is written that is
 /// too long. `moment`, in seconds since 1970, is when an answer to a query for busy times is given.
-pub fn run_report<V: View, A: PropAnswers, P: Pieces, L: Ledger>(
+pub fn run_report<V: Walks, A: PropAnswers, P: Pieces, L: Ledger>(
     alloc: Global,
     seen: &Seen<'_, V>,
     calendar: (u32, &[u8]),

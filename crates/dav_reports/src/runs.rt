@@ -7,20 +7,22 @@ ghost use Rattle.cal_model.specs.State.ServerState.{Calendar, calendar_at, objec
 ghost use Rattle.cal_model.specs.State.SoundStates.{IsSound};
 ghost use Rattle.cal_model.specs.TimeZones.TableBounds.{IsTable};
 ghost use Rattle.freebusy.specs.Times.{time_of_run, times_of};
-ghost use Rattle.dav_reports.specs.CalendarObjects.{AreHeldRight, entries_cost, objects_at, times_of_entries};
+ghost use Rattle.object_walk.specs.WalkedObjects.{objects_at};
+ghost use Rattle.dav_reports.specs.CalendarObjects.{AreHeldRight, entries_cost, times_of_entries};
 
 use crate::busy::put_object;
 use crate::zones::{utc, zone_or};
 use cal_base::{List, NoMemory, Steps};
-use cal_model::view::{Pieces, View};
+use cal_model::view::Pieces;
 use cal_model::{Range, Seen, ZoneTable};
 use freebusy::{BusyRow, Run, busy_runs};
+use object_walk::Walks;
 use std::alloc::Global;
 use std::sync::ledger::Ledger;
 
 /// The times at which the objects of a calendar may make busy in a range. Floating times are read in
 /// the zone.
-fn times_in_calendar<V: View, P: Pieces, L: Ledger>(
+fn times_in_calendar<V: Walks, P: Pieces, L: Ledger>(
     alloc: Global,
     view: &V,
     home: u32,
@@ -37,8 +39,7 @@ fn times_in_calendar<V: View, P: Pieces, L: Ledger>(
     ensures times { IfOk result (λ times. times_of times ≡ times_of_entries zone.now range (objects_at (V.state view.now) home name.now)) }
 {
     let mut times = List::new(alloc);
-    let mut last: &[u8] = &[];
-    'objects: while let Some((stored, origin)) = view.object_after(home, name, last) {
+    'walk: for (stored, origin) in view.objects(home, name) {
         put_object(
             alloc,
             pieces,
@@ -49,7 +50,6 @@ fn times_in_calendar<V: View, P: Pieces, L: Ledger>(
             &mut times,
             steps,
         )?;
-        last = stored.path.object.as_slice();
     }
     Ok(times)
 }
@@ -57,7 +57,7 @@ fn times_in_calendar<V: View, P: Pieces, L: Ledger>(
 /// The longest runs of one class of a calendar in a range, in order (RFC 4791, 7.10). Floating times are
 /// read in the calendar's own zone, or in UTC where it has none. Rows come from pieces wherever there is
 /// one. Whether the user may see them is not looked at here.
-pub fn calendar_runs<V: View, P: Pieces, L: Ledger>(
+pub fn calendar_runs<V: Walks, P: Pieces, L: Ledger>(
     alloc: Global,
     seen: &Seen<'_, V>,
     calendar: (u32, &[u8]),

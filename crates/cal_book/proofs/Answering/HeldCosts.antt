@@ -10,7 +10,7 @@ use Rattle.cal_model.specs.Sight.Views.{sight_of}
 use Rattle.cal_model.specs.State.ServerState.{ServerState}
 use Rattle.cal_book.specs.Answering.HeldReadings.{HeldReadingsAreFree}
 use Rattle.cal_book.specs.Answering.ReadingCost.{cost_of, report_in, report_run}
-use Rattle.dav_reports.specs.CalendarObjects.{objects_at}
+use Rattle.object_walk.specs.WalkedObjects.{objects_at}
 use Rattle.dav_reports.specs.HeldWindows.{AreNeededHeld}
 use Rattle.dav_reports.specs.PieceRows.{Held}
 use Rattle.dav_reports.proofs.HeldCosts.{held_reports_free}

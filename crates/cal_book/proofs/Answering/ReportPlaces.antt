@@ -19,7 +19,8 @@ use Rattle.cal_model.specs.State.ServerState.{Directory, ServerState, calendar_a
 use Rattle.cal_model.specs.State.StoredData.{data_at}
 use Rattle.cal_model.proofs.History.ReplayLaws.{user_name-number}
 use Rattle.dav_props.proofs.SeenLemmas.{some_calendar}
-use Rattle.dav_reports.specs.CalendarObjects.{entries_cost, objects_at}
+use Rattle.object_walk.specs.WalkedObjects.{objects_at}
+use Rattle.dav_reports.specs.CalendarObjects.{entries_cost}
 use Rattle.dav_reports.specs.PieceRows.{Held}
 use Rattle.dav_reports.specs.ReportOutcomes.{calendar_scene, privilege_needed}
 use Rattle.cal_book.specs.Answering.ReadingCost.{cost_of, report_in}

@@ -6,7 +6,7 @@ use Rattle.cal_model.specs.History.Origins.{Origins}
 use Rattle.cal_model.specs.Sight.Scenes.{calendar_in}
 use Rattle.cal_model.specs.State.ServerState.{Directory, ServerState}
 use Rattle.cal_book.specs.Answering.ReadingCost.{reading_cost, report_in}
-use Rattle.dav_reports.specs.CalendarObjects.{objects_at}
+use Rattle.object_walk.specs.WalkedObjects.{objects_at}
 use Rattle.dav_reports.specs.HeldWindows.{AreNeededHeld}
 use Rattle.dav_reports.specs.PieceRows.{Held}
 use Rattle.request_checks.specs.Sightings.{user_seen}

@@ -13,7 +13,8 @@ use Rattle.cal_model.specs.Serving.Outcomes.{scene_by}
 use Rattle.cal_model.specs.Sight.Scenes.{Scene, calendar_in}
 use Rattle.cal_model.specs.Sight.Views.{sight_of}
 use Rattle.cal_model.specs.State.ServerState.{Directory, ServerState}
-use Rattle.dav_reports.specs.CalendarObjects.{entries_cost, objects_at}
+use Rattle.object_walk.specs.WalkedObjects.{objects_at}
+use Rattle.dav_reports.specs.CalendarObjects.{entries_cost}
 use Rattle.dav_reports.specs.PieceRows.{Held}
 use Rattle.request_checks.specs.Sightings.{user_seen}
 

@@ -7,13 +7,13 @@ ghost use Rattle.cal_model.specs.Serving.SeenResources.{scene_seen};
 ghost use Rattle.cal_book.specs.Answering.OwnReplies.{own_reply};
 
 use cal_base::NoMemory;
-use cal_model::view::View;
 use cal_model::{Content, Reply, Request, Seen};
 use dav_props::find;
+use object_walk::Walks;
 use std::alloc::Global;
 
 /// The answer to a PROPFIND that no row of the shared table refuses.
-pub(crate) fn answer_find<V: View>(
+pub(crate) fn answer_find<V: Walks>(
     alloc: Global,
     seen: &Seen<'_, V>,
     request: &Request,

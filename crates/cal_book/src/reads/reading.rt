@@ -17,8 +17,9 @@ ghost use Rattle.request_checks.specs.Sightings.{AreShort, IsDataAt, user_seen};
 use crate::reads::finding::answer_find;
 use crate::reads::reports::answer_report;
 use cal_base::{NoMemory, ReservedList, Steps};
-use cal_model::view::{Pieces, View};
+use cal_model::view::Pieces;
 use cal_model::{Event, Method, Reply, Request, Seen};
+use object_walk::Walks;
 use request_checks::{Look, Scene, get_reply, options_reply, refuse, scene_at, shared_refusal};
 use std::alloc::Global;
 use std::sync::ledger::Ledger;
@@ -29,7 +30,7 @@ use std::sync::ledger::Ledger;
 /// written to its end. The body that tells which privilege is lacking stands in the room, which it uses
 /// up; without memory the room stays as it was. Rows that no piece has are found anew, which counts as
 /// steps; nothing else does.
-pub fn answer_reading<V: View, P: Pieces, L: Ledger>(
+pub fn answer_reading<V: Walks, P: Pieces, L: Ledger>(
     alloc: Global,
     seen: &Seen<'_, V>,
     pieces: &P,
@@ -72,7 +73,7 @@ pub fn answer_reading<V: View, P: Pieces, L: Ledger>(
 }
 
 /// The answer to a request that only reads and that no row of the shared table refuses, by its method.
-fn answer_unrefused<V: View, P: Pieces, L: Ledger>(
+fn answer_unrefused<V: Walks, P: Pieces, L: Ledger>(
     alloc: Global,
     seen: &Seen<'_, V>,
     pieces: &P,

@@ -13,17 +13,18 @@ ghost use Rattle.request_checks.specs.Sightings.{IsDataAt, user_seen};
 
 use crate::reads::zones::zone_given;
 use cal_base::{NoMemory, Steps};
-use cal_model::view::{Pieces, View};
+use cal_model::view::Pieces;
 use cal_model::{Content, Path, Reply, Request, Seen};
 use dav_props::DavAnswers;
 use dav_reports::run_report;
+use object_walk::Walks;
 use request_checks::Scene;
 use std::alloc::Global;
 use std::sync::ledger::Ledger;
 
 /// The answer to a REPORT that no row of the shared table refuses: so the calendar of its path is there,
 /// and its caller holds on it what the report needs.
-pub(crate) fn answer_report<V: View, P: Pieces, L: Ledger>(
+pub(crate) fn answer_report<V: Walks, P: Pieces, L: Ledger>(
     alloc: Global,
     seen: &Seen<'_, V>,
     pieces: &P,

@@ -1,15 +1,15 @@
-use Rattle.std.proofs.Common.{◌≡◌, ◌+◌, length}
-use Rattle.cal_model.specs.State.NameWalks.{objects_above}
-use Rattle.cal_book.specs.Keeping.KeptHistories.{state_in}
+use Rattle.std.proofs.Common.{◌≡◌, ◌+◌, length, map}
+use Rattle.cal_base.specs.Lists.NameMap.{IsInOrder}
+use Rattle.object_walk.specs.WalkedObjects.{HaveOriginsOf, named_octets}
+use Rattle.cal_book.specs.Keeping.KeptHistories.{origins_in}
 use Rattle.cal_book.specs.EndedObjects.{IsWithout, is_passed}
 use Rattle.cal_book.proofs.ending.end_all.Given as goal
 
 -- the objects that were passed are gone, and each of their pieces was a step
-abbrev pub invariant-objects : goal.invariant-objects
-invariant-objects g l = record {
-  gone : IsWithout l.history.journal (is_passed (state_in l.history) l.home l.calendar l.last) l.initial.claims l.claims;
+abbrev pub invariant-walk : goal.invariant-walk
+invariant-walk g l = record {
+  gone : IsWithout l.history.journal (is_passed (map named_octets l.origin-iterator) l.home l.calendar) l.initial.claims l.claims;
   counted : l.steps + length l.claims.pieces ≡ l.initial.steps + length l.initial.claims.pieces;
+  in_order : IsInOrder (map named_octets l.origin-iterator);
+  origins : HaveOriginsOf (origins_in l.history l.home l.calendar) l.origin-iterator;
 }
-
-abbrev pub decreases-objects : goal.decreases-objects
-decreases-objects g l = length (objects_above (state_in l.history) l.home l.calendar l.last)

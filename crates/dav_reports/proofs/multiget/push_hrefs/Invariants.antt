@@ -2,7 +2,7 @@ use Rattle.std.proofs.Common.{◌≡◌, ◌+◌, ◌≤◌, ◌++◌, length}
 use Rattle.std.specs.Prelude.{flat_map}
 use Rattle.cal_model.specs.Serving.ReportReplies.{href_response}
 use Rattle.cal_model.specs.State.ServerState.{Calendar}
-use Rattle.dav_reports.specs.CalendarObjects.{objects_at}
+use Rattle.object_walk.specs.WalkedObjects.{objects_at}
 use Rattle.dav_reports.specs.MetObjects.{AreResponses, AreWithin, multiget_cost, unmet_cost}
 use Rattle.dav_reports.specs.SeenCalendars.{MayRead, reported_of}
 use Rattle.dav_reports.proofs.multiget.push_hrefs.Given as goal

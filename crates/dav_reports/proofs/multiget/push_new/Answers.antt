@@ -8,7 +8,8 @@ use Rattle.cal_model.specs.Properties.PropertyReplies.{status_response}
 use Rattle.cal_model.specs.Serving.ReportReplies.{object_response}
 use Rattle.cal_model.specs.State.ServerState.{octets_at}
 use Rattle.rrule_sets.proofs.AskedLemmas.{on_ok_both}
-use Rattle.dav_reports.specs.CalendarObjects.{IsHeldRight, objects_at}
+use Rattle.object_walk.specs.WalkedObjects.{objects_at}
+use Rattle.dav_reports.specs.CalendarObjects.{IsHeldRight}
 use Rattle.dav_reports.specs.MetObjects.{AreWithin, Met, place_behind, unmet_cost}
 use Rattle.dav_reports.specs.PieceRows.{AreRowsOf, IsKept}
 use Rattle.dav_reports.specs.SeenCalendars.{reported_of}

@@ -1,6 +1,6 @@
 use Rattle.std.proofs.Common.{◌∙◌, ℕ, List, Some, ap, sym}
 use Rattle.std.specs.Prelude.{option_map}
-use Rattle.collections.specs.declared.objects.ObjectEntry.{ObjectEntry}
+use Rattle.object_walk.specs.declared.entry.ObjectEntry.{ObjectEntry}
 use Rattle.collections.specs.Calendars.{kept_entry}
 use Rattle.collections.proofs.CalendarLemmas.{place_shown, object_shown, next_shown, next_named, next_again}
 use Rattle.collections.proofs.calendar.CalendarStore.object_after.Goals as goal

@@ -1,6 +1,6 @@
 use Rattle.std.proofs.Common.{◌≡◌, ◌∙◌, None, ap, sym, subst}
 use Rattle.std.proofs.lemmas.Result.{on_ok_weaker}
-use Rattle.collections.specs.declared.objects.ObjectEntry.{ObjectEntry}
+use Rattle.object_walk.specs.declared.entry.ObjectEntry.{ObjectEntry}
 use Rattle.collections.specs.KeptCalendars.{KeptCalendar, calendar_of}
 use Rattle.cal_model.specs.Refusals.Preconditions.{holder}
 use Rattle.collections.proofs.CalendarLemmas.{alone_from_free, placed_after_put, put_shown}
