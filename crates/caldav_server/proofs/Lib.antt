@@ -1,4 +1,17 @@
 mod FaultCounts
+mod LoadConnections
+mod LoadCounts
+mod LoadDoneLemmas
+mod LoadEndings
+mod LoadJoins
+mod LoadMoves
+mod LoadPasses
+mod LoadPrinted
+mod LoadReplies
+mod LoadSeatLemmas
+mod LoadSums
+mod LoadWhole
+mod LoadWordLaws
 mod Moves
 mod Numbers
 mod Sharing

@@ -11,10 +11,11 @@ Usage: caldav_server COMMAND OPTIONS
 
 Commands:
   serve   serves calendars to calendar programs
+  load    runs sessions and workers over memory, and prints what they did
   script  reads a script of requests from standard input and prints the replies
 
 Options:
-  --help     prints help, also behind the name of serve
+  --help     prints help, also behind the name of serve or load
   --version  prints the version
 ";
 

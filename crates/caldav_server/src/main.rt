@@ -6,6 +6,10 @@
 #![tactic(auto)]
 
 mod help;
+mod load;
+mod load_joins;
+mod load_sessions;
+mod load_words;
 mod options;
 mod serve;
 mod serve_words;
@@ -14,6 +18,8 @@ mod telling_door;
 mod users;
 
 use crate::help::{HELP, asked_text};
+use crate::load::run_load;
+use crate::load_words::load_command;
 use crate::options::VERSION;
 use crate::serve::run_serve;
 use crate::serve_words::serve_command;
@@ -35,6 +41,10 @@ fn main(rt: HostRuntime) -> ExitCode {
         let mut door = TellingDoor::new(&rt, TcpDoor::new(&rt));
         let end = run_serve(&rt, rt.alloc(), &words, &mut StdFiles::new(&rt), &mut door);
         return ended(&rt, "serve", end);
+    }
+    if first_word(&words) == "load" {
+        let end = run_load(&rt, rt.alloc(), &words, &mut StdSink::new(&rt));
+        return ended(&rt, "load", end);
     }
     let end = run_script(
         rt.alloc(),
@@ -96,6 +106,12 @@ fn is_answered(rt: &HostRuntime, words: &List<Word>) -> bool {
             return true;
         }
     }
+    if first == "load" {
+        if let Some(text) = asked_text(load_command(rt.alloc()), words.as_slice()) {
+            let _ = text.print(rt);
+            return true;
+        }
+    }
     false
 }
 
@@ -118,6 +134,9 @@ fn report(rt: &HostRuntime, usage: &str, end: ScriptEnd) -> io::Result<()> {
         _ => Ok(()),
     }
 }
+
+#[cfg(test)]
+mod load_tests;
 
 #[cfg(test)]
 mod tests;

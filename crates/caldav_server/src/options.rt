@@ -94,6 +94,7 @@ pub(crate) fn number_said(text: &str, low: u64, high: u64, other: u64) -> u64
     requires { low ≤ other }
     ensures said { result ≡ number_said low high other text.now }
     ensures least { low ≤ result }
+    ensures most { other ≤ high → result ≤ high }
 {
     match text.parse::<u64>() {
         Ok(number) => {

@@ -1,0 +1,89 @@
+-- The seats of the threads of `load`, each with a pass of its own, and the passes once they are joined into one again.
+-- Given: the pass before and after, and the passes that were split off it, or joined into it.
+use Rattle.std.specs.Prelude.{◌≡◌, ◌≢◌, ℕ, ◌+◌, ◌<◌, List, [], ◌∷◌, ◌++◌, map, length, Some, false}
+use Rattle.atomic_table.specs.Seated.{TableId}
+use Rattle.std.specs.List.{AllByRecursion}
+use Rattle.turn_lock.specs.Journals.{entries_by, KeepsEntriesOf}
+use Rattle.turn_lock.specs.Numbers.{Has}
+use Rattle.turn_lock.specs.Passes.{PassState, IsWhole}
+use Rattle.cal_model.specs.History.Journal.{Entry}
+use Rattle.caldav_server.specs.Shares.{IsPassFor}
+use Rattle.caldav_server.specs.declared.load_sessions.Duty.{Duty}
+use Rattle.caldav_server.specs.declared.load_sessions.Duty.TheVariants.{Serve, Expand}
+use Rattle.caldav_server.specs.declared.load_sessions.Seat.{Seat}
+use Rattle.cal_model.specs.Users.UsersFile.{User}
+
+abbrev pub Known : Type 0
+Known = PassState Entry (List User)
+
+abbrev pub author : Entry → ℕ
+author entry = entry.session
+
+-- what one pass has seen is a beginning of what another has, which has of its number the same entries
+pub record IsWithin (other pass : Known) : Type 0 where
+  pub begins : (rest : List Entry) × (pass.seen ≡ other.seen ++ rest)
+  pub same : entries_by author other.number pass.seen ≡ entries_by author other.number other.seen
+
+abbrev pub numbers : List Known → List ℕ
+numbers passes = map (λ (pass : Known). pass.number) passes
+
+-- a pass that split none off, and into which none was joined
+abbrev pub IsLeaf : Known → Type 0
+IsLeaf pass = (pass.kin ≡ []) × (pass.gone ≡ [])
+
+pub record HasJoined (old new : Known) (others : List Known) : Type 0 where
+  pub number_is : new.number ≡ old.number
+  pub kin_is : new.kin ≡ old.kin
+  pub gone_is : new.gone ≡ old.gone ++ numbers others
+  pub each : AllByRecursion (λ other. IsWithin other new) others
+  pub own : KeepsEntriesOf author (old.number ∷ old.gone) old.seen new.seen
+  pub whole : others ≢ [] → IsWhole new → AllByRecursion (λ entry. Has (new.number ∷ new.gone) (author entry)) new.seen
+
+-- Seats
+
+abbrev pub IsNumber : Duty → Type 0
+IsNumber (Serve session) = session < 100
+IsNumber Expand = Unit {0}
+
+-- a pass that was split off and has entered nothing, and a duty
+pub record IsSeat (lock : TableId) (users : List User) (seat : Seat) : Type 0 where
+  pub pass : IsPassFor lock users seat.pass
+  pub leaf : IsLeaf seat.pass
+  pub fresh : entries_by author seat.pass.number seat.pass.seen ≡ []
+  pub number : IsNumber seat.duty
+
+abbrev pub passes_at : List Seat → List Known
+passes_at seats = map (λ (seat : Seat). seat.pass) seats
+
+-- the first pass of a lock
+abbrev pub first_pass : TableId → List User → Known
+first_pass lock users = record { lock = lock; number = 0; base = Some users; seen = []; looks = []; kin = []; gone = []; holds_turn = false }
+
+-- seats were made of a first pass, and it entered nothing
+pub record SeatsMade (lock : TableId) (users : List User) (pass : Known) (seats : List Seat) : Type 0 where
+  pub pass_is : pass ≡ record (first_pass lock users) { seen = pass.seen; looks = pass.looks; kin = numbers (passes_at seats) }
+  pub nothing : entries_by author 0 pass.seen ≡ []
+  pub each : AllByRecursion (IsSeat lock users) seats
+
+-- the duties are those of sessions from this number on
+abbrev pub ServeFrom : ℕ → List Seat → Type 0
+ServeFrom session [] = Unit {0}
+ServeFrom session (seat ∷ seats) = (seat.duty ≡ Serve session) × ServeFrom (session + 1) seats
+
+-- the seats of so many sessions, in order
+pub record OnlySessions (sessions : ℕ) (seats : List Seat) : Type 0 where
+  pub many : length seats ≡ sessions
+  pub serve : ServeFrom 0 seats
+
+-- the seats of so many sessions, and behind these those of workers
+pub record AreSeats (sessions : ℕ) (seats : List Seat) : Type 0 where
+  pub serving : List Seat
+  pub expanding : List Seat
+  pub seats_are : seats ≡ serving ++ expanding
+  pub many : length serving ≡ sessions
+  pub serve : ServeFrom 0 serving
+  pub expand : AllByRecursion (λ (seat : Seat). seat.duty ≡ Expand) expanding
+
+-- one more seat, with this duty
+abbrev pub IsOneMore : Duty → List Seat → List Seat → Type 0
+IsOneMore duty old new = (seat : Seat) × (new ≡ old ++ seat ∷ []) × (seat.duty ≡ duty)

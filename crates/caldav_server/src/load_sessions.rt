@@ -1,0 +1,212 @@
+//! The sessions and workers of `load`, each in a thread of its own over memory.
+ghost use Rattle.std.specs.Prelude.{◌≡◌, ◌≤◌, ◌<◌, ◌↔◌, ℕ, false, Some, All, IfOk, IsTrue, count_by, length};
+ghost use Rattle.std.specs.List.{AllZip, AllByRecursion};
+ghost use Rattle.turn_lock.specs.Journals.{entries_by};
+ghost use Rattle.caldav_server.specs.LoadSeats.{IsSeat};
+ghost use Rattle.caldav_server.specs.Shares.{IsPassFor};
+ghost use Rattle.caldav_server.specs.LoadSessions.{was_accepted, HadMemory};
+ghost use Rattle.caldav_server.specs.LoadDone.{Did, HasDone, IsAccountOf};
+
+use cal_base::{FixedClock, List, MemoryLink, OpenGate};
+use cal_book::Book;
+use cal_session::{Ended, How, Served, Service, serve_connection};
+use expansion_workers::work;
+use load_requests::{MOMENT, requests_of};
+use privileges::Users;
+use std::alloc::{AllocError, Global};
+use std::sync::Wait;
+use std::thread;
+use std::thread::Threads;
+use turn_lock::Pass;
+
+/// What all threads share.
+#[derive(Clone, Copy)]
+pub(crate) struct Ground<'a> {
+    pub(crate) alloc: Global,
+    pub(crate) service: &'a Service,
+    pub(crate) users: &'a Users,
+    /// How many events each session puts, and how many turns a worker takes.
+    pub(crate) puts: u32,
+}
+
+/// What a thread is for.
+#[derive(Clone, Copy)]
+pub(crate) enum Duty {
+    /// It is the session of this number.
+    Serve(u32),
+    /// It expands recurring events.
+    Expand,
+}
+
+/// What a thread is started with.
+#[derive(Drop)]
+pub(crate) struct Seat {
+    pub(crate) pass: Pass<Book>,
+    pub(crate) duty: Duty,
+}
+
+/// What a session did.
+#[derive(Drop)]
+pub(crate) struct Account {
+    pub(crate) requests: u64,
+    pub(crate) accepted: u64,
+    /// The link, with what was written.
+    pub(crate) link: MemoryLink,
+}
+
+/// What came of a duty.
+#[derive(Drop)]
+pub(crate) enum Outcome {
+    /// A session was served to its end.
+    Served(Account),
+    /// All turns of a worker were taken.
+    Worked,
+    /// There was no memory, or a request was answered so.
+    Failed,
+}
+
+/// What a thread tells at its end.
+#[derive(Drop)]
+pub(crate) struct Done {
+    pub(crate) pass: Pass<Book>,
+    pub(crate) outcome: Outcome,
+}
+
+/// Runs all threads to their ends.
+pub(crate) fn run_seats<R: Threads + Wait + Sync>(
+    rt: &R,
+    ground: &Ground<'_>,
+    seats: Vec<Seat>,
+) -> Result<Vec<Done>, AllocError>
+    requires few { ground.now.puts ≤ 800 }
+    requires ready { All (λ seat. IsSeat ground.now.service.now ground.now.users.now seat) seats.items }
+    ensures { IfOk result (λ done. AllZip (HasDone ground.now.users.now ground.now.puts) seats.items done.items) }
+{
+    thread::map_vec(
+        rt,
+        seats,
+        &|seat: Seat| -> Done
+            requires { (ground.now.puts ≤ 800) × IsSeat ground.now.service.now ground.now.users.now seat }
+            ensures { HasDone ground.entry.now.users.now ground.entry.now.puts seat result }
+        { run_seat(rt, ground, seat) },
+    )
+}
+
+/// Does what a thread is for.
+fn run_seat<R: Wait>(rt: &R, ground: &Ground<'_>, seat: Seat) -> Done
+    requires few { ground.now.puts ≤ 800 }
+    requires ready { IsSeat ground.now.service.now ground.now.users.now seat }
+    ensures { HasDone ground.now.users.now ground.now.puts seat result }
+{
+    let Seat { mut pass, duty } = seat;
+    let outcome = run_duty(rt, ground, duty, &mut pass);
+    Done { pass, outcome }
+}
+
+/// Does a duty with a pass.
+fn run_duty<R: Wait>(rt: &R, ground: &Ground<'_>, duty: Duty, pass: &mut Pass<Book>) -> Outcome
+    requires few { ground.now.puts ≤ 800 }
+    requires ready { IsSeat ground.now.service.now ground.now.users.now (record { pass = pass.old; duty = duty }) }
+    ensures pass { pass.new ≡ record pass.old { seen = pass.new.seen; looks = pass.new.looks } }
+    ensures did { Did ground.now.users.now ground.now.puts duty pass.old pass.new result }
+{
+    match duty {
+        Duty::Serve(session) => serve_session(rt, ground, session, pass),
+        Duty::Expand => {
+            expand_pieces(rt, ground, pass);
+            Outcome::Worked
+        }
+    }
+}
+
+/// Takes one turn as often as a session puts events.
+fn expand_pieces<R: Wait>(rt: &R, ground: &Ground<'_>, pass: &mut Pass<Book>)
+    requires { IsPassFor ground.now.service.now ground.now.users.now pass.old }
+    ensures pass { pass.new ≡ record pass.old { seen = pass.new.seen; looks = pass.new.looks } }
+    ensures mine { entries_by (λ entry. entry.session) pass.old.number pass.new.seen ≡ entries_by (λ entry. entry.session) pass.old.number pass.old.seen }
+{
+    'turns: for _turn in 0..ground.puts {
+        let _ = work(
+            rt,
+            ground.alloc,
+            ground.service.lock(),
+            pass,
+            &OpenGate::new(),
+            1,
+        );
+    }
+}
+
+/// Serves a session to its end.
+fn serve_session<R: Wait>(
+    rt: &R,
+    ground: &Ground<'_>,
+    session: u32,
+    pass: &mut Pass<Book>,
+) -> Outcome
+    requires few { ground.now.puts ≤ 800 }
+    requires session { session < 100 }
+    requires ready { IsPassFor ground.now.service.now ground.now.users.now pass.old }
+    ensures pass { pass.new ≡ record pass.old { seen = pass.new.seen; looks = pass.new.looks } }
+    ensures did { Did ground.now.users.now ground.now.puts (Duty.Serve session) pass.old pass.new result }
+{
+    match requests_of(ground.alloc, ground.users, ground.puts as u64, session) {
+        Ok((octets, count)) => {
+            let mut link = MemoryLink::new(ground.alloc, octets, List::new(ground.alloc), 1 << 62);
+            let mut clock = FixedClock::new(MOMENT);
+            let ended = serve_connection(
+                rt,
+                ground.alloc,
+                ground.service,
+                pass,
+                ground.users,
+                &mut link,
+                &mut clock,
+            );
+            account_of(ended, count, link)
+        }
+        Err(_) => Outcome::Failed,
+    }
+}
+
+/// The account of a session that ended, where it answered so many requests, none of them for want of
+/// memory.
+fn account_of(ended: Ended, count: u64, link: MemoryLink) -> Outcome
+    ensures { IsAccountOf ended.how ended.turns count link result }
+{
+    let turns = ended.turns.as_slice();
+    let requests = turns.len() as u64;
+    if is_closed(ended.how) && requests == count && had_memory(turns) {
+        let accepted = accepted_of(turns);
+        Outcome::Served(Account {
+            requests,
+            accepted,
+            link,
+        })
+    } else {
+        Outcome::Failed
+    }
+}
+
+fn is_closed(how: How) -> bool
+    ensures { IsTrue result → how ≡ How.Closed }
+{
+    matches!(how, How::Closed)
+}
+
+/// How many requests were accepted.
+fn accepted_of(turns: &[Served]) -> u64
+    ensures { result ≡ count_by was_accepted turns.now }
+{
+    turns
+        .iter()
+        .filter(|turn| 200 <= turn.status && turn.status <= 299)
+        .count() as u64
+}
+
+/// Whether no request met want of memory.
+fn had_memory(turns: &[Served]) -> bool
+    ensures { IsTrue result ↔ All HadMemory turns.now }
+{
+    turns.iter().all(|turn| turn.status != 503)
+}
