@@ -26,3 +26,4 @@ mod words;
 pub use command::{ScriptEnd, run_script};
 pub use laws::readers_see_alike;
 pub use running::{FrameEnd, FramesOn, frames_on, run_frames};
+pub use users::{NoUsers, take_users};

@@ -11,7 +11,7 @@ use std::alloc::Global;
 const FILE_LIMIT: u64 = 65_536;
 
 /// Why a users file is not taken.
-pub(crate) enum NoUsers {
+pub enum NoUsers {
     /// It is too long, which is said of the place behind its limit, or has a bad line at this place.
     Line(u64),
     /// Reading it failed.
@@ -20,8 +20,8 @@ pub(crate) enum NoUsers {
     NoMemory,
 }
 
-/// The users of the users file.
-pub(crate) fn take_users<F: Files>(
+/// The users of the users file, of at most 65,536 octets.
+pub fn take_users<F: Files>(
     alloc: Global,
     files: &mut F,
     path: &str,

@@ -12,7 +12,6 @@ mod LoadSeatLemmas
 mod LoadSums
 mod LoadWhole
 mod LoadWordLaws
-mod Moves
 mod Numbers
 mod Sharing
 mod WordLaws

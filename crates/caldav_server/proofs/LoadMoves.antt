@@ -8,7 +8,7 @@ use Rattle.cal_session.specs.contracts.service.Service.TheInside as ServiceField
 use Rattle.privileges.proofs.users.Users.TheSendSync as users
 use Rattle.turn_lock.proofs.lock.TurnLock.TheSendSync as lock
 use Rattle.turn_lock.proofs.pass.Pass.TheSendSync as pass
-use Rattle.caldav_server.proofs.Moves.{book_send}
+use Rattle.cal_book.proofs.Moves.{book_send}
 use Rattle.caldav_server.proofs.load_sessions.Duty.TheSendSync as duty
 use Rattle.caldav_server.proofs.load_sessions.Outcome.TheSendSync as outcome
 use Rattle.caldav_server.specs.contracts.load_sessions.Done as Done

@@ -15,7 +15,6 @@ mod serve;
 mod serve_words;
 mod sessions;
 mod telling_door;
-mod users;
 
 use crate::help::{HELP, asked_text};
 use crate::load::run_load;

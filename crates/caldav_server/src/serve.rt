@@ -9,9 +9,8 @@ ghost use Rattle.caldav_server.specs.Shares.{RoseBy, share_of};
 
 use crate::serve_words::{ServeWords, Untaken, read_serve};
 use crate::sessions::{Crew, Ground, NotStarted, run_crew};
-use crate::users::{NoUsers, take_users};
 use cal_base::{Arc, Door, Files, List, NoMemory, Word};
-use cal_script::ScriptEnd;
+use cal_script::{NoUsers, ScriptEnd, take_users};
 use cal_session::Service;
 use privileges::Users;
 use std::alloc::Global;

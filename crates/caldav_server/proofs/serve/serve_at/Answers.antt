@@ -1,5 +1,5 @@
 use denote.Param.Send.{sendable}
-use Rattle.caldav_server.proofs.Moves.{book_send}
+use Rattle.cal_book.proofs.Moves.{book_send}
 use Rattle.caldav_server.proofs.serve.serve_at.Goals as goal
 
 pub run_crew-requires-send-B : goal.run_crew-requires-send-B
