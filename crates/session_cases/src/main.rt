@@ -9,17 +9,20 @@
 //! how many of them say that the connection closes, and the first requests that were answered, each
 //! with its status and its place; for cuts how many there were, and how many of these sessions were
 //! cut without an entry and without a reply. Behind the cases: what a session sees that another pass
-//! put, and what a worker does.
+//! put, with the reply; what a worker does; what two sessions in two threads are answered that change
+//! one object by one tag; and that a query is answered while the expansion of a worker is held.
 #![tactic(auto)]
 
 mod cases;
 mod passes;
 mod runs;
+mod threads;
 
 use cal_base::{StdSource, read_up_to};
 use cases::print_case;
 use passes::{print_split, print_work};
 use std::io;
+use threads::{print_gate, print_race};
 
 fn main(rt: HostRuntime) -> io::Result<()> {
     let alloc = rt.alloc();
@@ -31,5 +34,7 @@ fn main(rt: HostRuntime) -> io::Result<()> {
         print_case(&rt, alloc, case)?;
     }
     print_split(&rt, alloc)?;
-    print_work(&rt, alloc)
+    print_work(&rt, alloc)?;
+    print_race(&rt, alloc)?;
+    print_gate(&rt, alloc)
 }
