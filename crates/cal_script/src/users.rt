@@ -21,11 +21,7 @@ pub enum NoUsers {
 }
 
 /// The users of the users file, of at most 65,536 octets.
-pub fn take_users<F: Files>(
-    alloc: Global,
-    files: &mut F,
-    path: &str,
-) -> Result<Arc<Users>, NoUsers>
+pub fn take_users<F: Files>(alloc: Global, files: &mut F, path: &str) -> Result<Arc<Users>, NoUsers>
     ensures taken { IfOk result (λ users. IfSome (F.content files.old path.now) (λ octets. AreUsersOf octets users)) }
     ensures refused { (place : ℕ) → IsErrOf result (NoUsers.Line place) → IfSome (F.content files.old path.now) (λ octets. IsRefusedAt octets place) }
     ensures fault { IsErrOf result NoUsers.Files → Rose (F.faults files.old) (F.faults files.new) }

@@ -8,10 +8,12 @@ use std::test::Fail;
 use std::thread::Threads;
 
 /// One event for each of four sessions.
-const ONE_EACH: &str = "sessions 4\nrequests 4\naccepted 4\noctets 616\nsha256 b893486846227676cde4933e4594d6e4c7b4048c40a5bffafe6cc26d9f740cb7\n";
+const ONE_EACH: &str =
+    "sessions 4\nrequests 4\naccepted 4\noctets 616\nsha256 b893486846227676cde4933e4594d6e4c7b4048c40a5bffafe6cc26d9f740cb7\n";
 
 /// Ten events for each of three sessions, and the queries behind them.
-const TEN_EACH: &str = "sessions 3\nrequests 36\naccepted 36\noctets 22513\nsha256 195e70c56e3305cefeff033dbd9844f4981b4d9477e30eabd23fbe14c10fd12b\n";
+const TEN_EACH: &str =
+    "sessions 3\nrequests 36\naccepted 36\noctets 22513\nsha256 195e70c56e3305cefeff033dbd9844f4981b4d9477e30eabd23fbe14c10fd12b\n";
 
 /// The status of `load` with these words behind it.
 fn status_of<R: Threads + Wait + Sync>(

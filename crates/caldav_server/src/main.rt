@@ -136,6 +136,5 @@ fn report(rt: &HostRuntime, usage: &str, end: ScriptEnd) -> io::Result<()> {
 
 #[cfg(test)]
 mod load_tests;
-
 #[cfg(test)]
 mod tests;
