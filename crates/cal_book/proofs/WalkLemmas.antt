@@ -3,11 +3,12 @@ use Rattle.std.proofs.Common.{◌≡◌, ◌≢◌, ℕ, ◌<◌, Bool, true, fa
 use Rattle.std.specs.Prelude.{not, is_none, ◌==◌, bytes_eq, flat_map, option_and_then, option_to_list}
 use Rattle.std.specs.Option.{option_map_or}
 use Rattle.std.specs.List.Sorted.{IsStrictlySortedBy}
+use Rattle.std.specs.Map.{keys_of}
 use Rattle.std.proofs.lemmas.Bool.{cases_eq, false≢true, eqb-true, eq-eqb, and_parts, and_from}
 use Rattle.std.proofs.lemmas.List.{append-nil, get_or-set_same, get_or-set_other, length-set}
 use Rattle.std.proofs.lemmas.Map.Text.{is_eq-slice_cmp}
 use Rattle.std.proofs.lemmas.Slice.Eq.{bytes_eq-Decides}
-use Rattle.cal_base.specs.Lists.NameMap.{Named, IsInOrder, value_at}
+use Rattle.cal_base.specs.Lists.NameMap.{Named, name_order, IsInOrder, value_at}
 use Rattle.cal_model.specs.declared.piece.Piece.{Piece}
 use Rattle.cal_model.specs.History.Journal.{Entry}
 use Rattle.cal_model.specs.History.LiveObjects.{Placed, is_in_calendar, live_at}
@@ -102,9 +103,9 @@ walk-in_order directory state home calendar sound = by (calendar_at state home c
   by None e = tt
   by (Some c) e = subst IsInOrder (sym (append-nil c.objects)) (calendar-sound directory state home calendar c sound e).objects_in_order
 
-pub walk-left_in_order : (entry : List ℕ × List ℕ) (left : Named (List ℕ)) → IsInOrder (entry ∷ left) → IsInOrder left
+pub walk-left_in_order : (name : List ℕ) (left : Named (List ℕ)) → IsStrictlySortedBy name_order (name ∷ keys_of left) → IsInOrder left
 unfolding IsStrictlySortedBy
-walk-left_in_order entry left in_order = in_order.1
+walk-left_in_order name left in_order = in_order.1
 
 module _ (journal : List Entry) (origins : Origins) (state : ServerState) (live : AreLive journal origins) (octets : HasLiveOctets journal state) (home : ℕ) (calendar : List ℕ) where
   abbrev passed : Named (List ℕ) → Placed → Bool

@@ -2,7 +2,7 @@
 use Rattle.std.proofs.Common.{◌≡◌, ◌∙◌, List, [], true, refl, ap, sym, subst, inl, inr, map}
 use Rattle.std.specs.Prelude.{◌-◌, ◌^◌, Option, Result, Ok, Err, IfOk, IsErrOf, unwrap_or, codes}
 use Rattle.std.proofs.lemmas.List.{map-id}
-use Rattle.clap.specs.Words.{App, Text, fault_of, first_of, first_value, found_of, is_simple, is_simple_and_free, kind_of, matches_of, rows_of, HasKind}
+use Rattle.clap.specs.Words.{App, Text, fault_of, first_of, found_of, is_simple, is_simple_and_free, kind_of, matches_of, rows_of, HasKind}
 use Rattle.clap.specs.declared.error.kind.ErrorKind.TheVariants.{OutOfMemory}
 use Rattle.clap.specs.declared.error.Error.{Error}
 use Rattle.clap.specs.declared.parser.matches.ArgMatches.{ArgMatches}
