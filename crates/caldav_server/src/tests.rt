@@ -19,13 +19,8 @@ const MOMENT: i64 = 1_741_600_000;
 const USERS: &[u8] =
     b"user alice ba7816bf8f01cfea414140de5dae2223b00361a396177a9cb410ff61f20015ad\n";
 
-/// The status of `serve` with these words behind the users file.
-fn status_of<D: Door, R: Threads + Wait + Sync>(
-    rt: &R,
-    alloc: Global,
-    options: &[&str],
-    door: &mut D,
-) -> Result<u8, NoMemory> {
+/// The words of `serve` with the users file, and these behind it.
+fn words_of(alloc: Global, options: &[&str]) -> Result<List<Word>, NoMemory> {
     let mut words = List::new(alloc);
     for word in ["serve", "--users", "users"] {
         words.push(Word::of(alloc, word)?)?;
@@ -33,10 +28,31 @@ fn status_of<D: Door, R: Threads + Wait + Sync>(
     for word in options {
         words.push(Word::of(alloc, word)?)?;
     }
+    Ok(words)
+}
+
+/// The status of `serve` with these words.
+fn status_of<D: Door, R: Threads + Wait + Sync>(
+    rt: &R,
+    alloc: Global,
+    words: &List<Word>,
+    door: &mut D,
+) -> Result<u8, NoMemory> {
     let mut files = List::new(alloc);
     files.push((Octets::of(alloc, b"users")?, Octets::of(alloc, USERS)?))?;
     let mut files = MemoryFiles::new(files, List::new(alloc));
-    Ok(run_serve(rt, alloc, &words, &mut files, door).status)
+    Ok(run_serve(rt, alloc, words, &mut files, door).status)
+}
+
+/// The status of `serve` over memory with these words behind the users file.
+fn status_with<R: Threads + Wait + Sync>(
+    rt: &R,
+    alloc: Global,
+    options: &[&str],
+    door: &mut MemoryDoor,
+) -> Result<u8, NoMemory> {
+    let words = words_of(alloc, options)?;
+    status_of(rt, alloc, &words, door)
 }
 
 /// A door with so many empty links, whose first call fails where that is said.
@@ -76,17 +92,23 @@ fn each_status_comes_where_it_is_due(rt: HostRuntime) -> Result<(), Fail> {
     let signed = ["--listen", "A", "--sessions", "1", "--connections", "+1"];
     let no_session = ["--listen", "A", "--sessions", "0", "--connections", "1"];
     let mut door = door_of(alloc, 1, false)?;
-    assert_eq!(rt; status_of(&rt, alloc, one.as_slice(), &mut door)?, 0);
+    assert_eq!(rt; status_with(&rt, alloc, one.as_slice(), &mut door)?, 0);
     let mut door = door_of(alloc, 0, false)?;
-    assert_eq!(rt; status_of(&rt, alloc, one.as_slice(), &mut door)?, 0);
+    assert_eq!(rt; status_with(&rt, alloc, one.as_slice(), &mut door)?, 0);
     let mut door = door_of(alloc, 3, false)?;
-    assert_eq!(rt; status_of(&rt, alloc, crowd.as_slice(), &mut door)?, 0);
+    assert_eq!(rt; status_with(&rt, alloc, crowd.as_slice(), &mut door)?, 0);
     let mut door = door_of(alloc, 1, true)?;
-    assert_eq!(rt; status_of(&rt, alloc, one.as_slice(), &mut door)?, 4);
+    assert_eq!(rt; status_with(&rt, alloc, one.as_slice(), &mut door)?, 4);
     let mut door = door_of(alloc, 1, false)?;
-    assert_eq!(rt; status_of(&rt, alloc, no_address.as_slice(), &mut door)?, 2);
-    assert_eq!(rt; status_of(&rt, alloc, signed.as_slice(), &mut door)?, 2);
-    assert_eq!(rt; status_of(&rt, alloc, no_session.as_slice(), &mut door)?, 2);
+    assert_eq!(rt;
+        status_with(&rt, alloc, no_address.as_slice(), &mut door)?,
+        2
+    );
+    assert_eq!(rt; status_with(&rt, alloc, signed.as_slice(), &mut door)?, 2);
+    assert_eq!(rt;
+        status_with(&rt, alloc, no_session.as_slice(), &mut door)?,
+        2
+    );
     Ok(())
 }
 
@@ -197,11 +219,15 @@ fn a_connection_is_answered_over_the_network(rt: HostRuntime) -> Result<(), Fail
     let alloc = rt.alloc();
     let address = free_address(&rt, alloc)?;
     let at = address.as_str();
-    let options = ["--listen", at, "--sessions", "1", "--connections", "1"];
+    let mut words = words_of(
+        alloc,
+        ["--sessions=1", "--connections=1", "--listen"].as_slice(),
+    )?;
+    words.push(Word::of(alloc, at)?)?;
     let (answered, status) = join(
         &rt,
         || is_answered(&rt, alloc, at, "one", 10),
-        || status_of(&rt, alloc, options.as_slice(), &mut TcpDoor::new(&rt)),
+        || status_of(&rt, alloc, &words, &mut TcpDoor::new(&rt)),
     );
     assert!(rt; answered == Some(true));
     assert_eq!(rt; status?, 0);
@@ -227,7 +253,11 @@ fn sixteen_connections_at_once_are_answered(rt: HostRuntime) -> Result<(), Fail>
     let alloc = rt.alloc();
     let address = free_address(&rt, alloc)?;
     let at = address.as_str();
-    let options = ["--listen", at, "--sessions", "16", "--connections", "16"];
+    let mut words = words_of(
+        alloc,
+        ["--sessions=16", "--connections=16", "--listen"].as_slice(),
+    )?;
+    words.push(Word::of(alloc, at)?)?;
     let (answered, status) = join(
         &rt,
         || {
@@ -238,7 +268,7 @@ fn sixteen_connections_at_once_are_answered(rt: HostRuntime) -> Result<(), Fail>
                 &|number| { is_one_answered(&rt, alloc, at, number) },
             )
         },
-        || status_of(&rt, alloc, options.as_slice(), &mut TcpDoor::new(&rt)),
+        || status_of(&rt, alloc, &words, &mut TcpDoor::new(&rt)),
     );
     let answered = answered?;
     assert_eq!(rt; answered.iter().filter(|one| **one).count(), 16);
