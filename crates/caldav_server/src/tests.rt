@@ -10,7 +10,6 @@ use std::sync::Wait;
 use std::test::Fail;
 use std::thread::{Threads, join};
 use std::time::Duration;
-use std::{io, thread};
 
 /// 09:46:40 on 10 March 2025.
 const MOMENT: i64 = 1_741_600_000;
@@ -19,8 +18,13 @@ const MOMENT: i64 = 1_741_600_000;
 const USERS: &[u8] =
     b"user alice ba7816bf8f01cfea414140de5dae2223b00361a396177a9cb410ff61f20015ad\n";
 
-/// The words of `serve` with the users file, and these behind it.
-fn words_of(alloc: Global, options: &[&str]) -> Result<List<Word>, NoMemory> {
+/// The status of `serve` with these words behind the users file.
+fn status_of<D: Door, R: Threads + Wait + Sync>(
+    rt: &R,
+    alloc: Global,
+    options: &[&str],
+    door: &mut D,
+) -> Result<u8, NoMemory> {
     let mut words = List::new(alloc);
     for word in ["serve", "--users", "users"] {
         words.push(Word::of(alloc, word)?)?;
@@ -28,31 +32,10 @@ fn words_of(alloc: Global, options: &[&str]) -> Result<List<Word>, NoMemory> {
     for word in options {
         words.push(Word::of(alloc, word)?)?;
     }
-    Ok(words)
-}
-
-/// The status of `serve` with these words.
-fn status_of<D: Door, R: Threads + Wait + Sync>(
-    rt: &R,
-    alloc: Global,
-    words: &List<Word>,
-    door: &mut D,
-) -> Result<u8, NoMemory> {
     let mut files = List::new(alloc);
     files.push((Octets::of(alloc, b"users")?, Octets::of(alloc, USERS)?))?;
     let mut files = MemoryFiles::new(files, List::new(alloc));
-    Ok(run_serve(rt, alloc, words, &mut files, door).status)
-}
-
-/// The status of `serve` over memory with these words behind the users file.
-fn status_with<R: Threads + Wait + Sync>(
-    rt: &R,
-    alloc: Global,
-    options: &[&str],
-    door: &mut MemoryDoor,
-) -> Result<u8, NoMemory> {
-    let words = words_of(alloc, options)?;
-    status_of(rt, alloc, &words, door)
+    Ok(run_serve(rt, alloc, &words, &mut files, door).status)
 }
 
 /// A door with so many empty links, whose first call fails where that is said.
@@ -92,23 +75,17 @@ fn each_status_comes_where_it_is_due(rt: HostRuntime) -> Result<(), Fail> {
     let signed = ["--listen", "A", "--sessions", "1", "--connections", "+1"];
     let no_session = ["--listen", "A", "--sessions", "0", "--connections", "1"];
     let mut door = door_of(alloc, 1, false)?;
-    assert_eq!(rt; status_with(&rt, alloc, one.as_slice(), &mut door)?, 0);
+    assert_eq!(rt; status_of(&rt, alloc, one.as_slice(), &mut door)?, 0);
     let mut door = door_of(alloc, 0, false)?;
-    assert_eq!(rt; status_with(&rt, alloc, one.as_slice(), &mut door)?, 0);
+    assert_eq!(rt; status_of(&rt, alloc, one.as_slice(), &mut door)?, 0);
     let mut door = door_of(alloc, 3, false)?;
-    assert_eq!(rt; status_with(&rt, alloc, crowd.as_slice(), &mut door)?, 0);
+    assert_eq!(rt; status_of(&rt, alloc, crowd.as_slice(), &mut door)?, 0);
     let mut door = door_of(alloc, 1, true)?;
-    assert_eq!(rt; status_with(&rt, alloc, one.as_slice(), &mut door)?, 4);
+    assert_eq!(rt; status_of(&rt, alloc, one.as_slice(), &mut door)?, 4);
     let mut door = door_of(alloc, 1, false)?;
-    assert_eq!(rt;
-        status_with(&rt, alloc, no_address.as_slice(), &mut door)?,
-        2
-    );
-    assert_eq!(rt; status_with(&rt, alloc, signed.as_slice(), &mut door)?, 2);
-    assert_eq!(rt;
-        status_with(&rt, alloc, no_session.as_slice(), &mut door)?,
-        2
-    );
+    assert_eq!(rt; status_of(&rt, alloc, no_address.as_slice(), &mut door)?, 2);
+    assert_eq!(rt; status_of(&rt, alloc, signed.as_slice(), &mut door)?, 2);
+    assert_eq!(rt; status_of(&rt, alloc, no_session.as_slice(), &mut door)?, 2);
     Ok(())
 }
 
@@ -188,6 +165,19 @@ fn connected<R: Net<Listener = TcpListener, Stream = TcpStream> + Clock>(
     None
 }
 
+/// Sends the two requests on a connection.
+fn ask(alloc: Global, stream: &mut TcpStream, name: &str, day: u64) -> Option<()> {
+    let requests = requests(alloc, name, day)?;
+    stream.write_all(requests.as_bytes()).ok()
+}
+
+/// Whether the replies that come on a connection until it is closed are as they should be.
+fn is_told(alloc: Global, stream: &mut TcpStream, name: &str, day: u64) -> Option<bool> {
+    let mut octets = Vec::new(alloc);
+    stream.read_to_end(&mut octets).ok()?;
+    is_as_due(alloc, name, day, octets.as_slice())
+}
+
 /// Whether the server answers the two requests on a connection as it should.
 fn is_answered<R: Net<Listener = TcpListener, Stream = TcpStream> + Clock>(
     rt: &R,
@@ -197,12 +187,8 @@ fn is_answered<R: Net<Listener = TcpListener, Stream = TcpStream> + Clock>(
     day: u64,
 ) -> Option<bool> {
     let mut stream = connected(rt, address)?;
-    stream
-        .write_all(requests(alloc, name, day)?.as_bytes())
-        .ok()?;
-    let mut octets = Vec::new(alloc);
-    stream.read_to_end(&mut octets).ok()?;
-    is_as_due(alloc, name, day, octets.as_slice())
+    ask(alloc, &mut stream, name, day)?;
+    is_told(alloc, &mut stream, name, day)
 }
 
 /// An address at which nobody listens: one that the system gave a moment ago.
@@ -214,38 +200,72 @@ fn free_address<R: Net<Listener = TcpListener, Stream = TcpStream>>(
     Ok(format!(in alloc; "{address}")?)
 }
 
+/// The status of a server at an address that ends after so many connections, each of which has a
+/// session of its own.
+fn status_at<'a, D: Door, R: Threads + Wait + Sync>(
+    rt: &R,
+    alloc: Global,
+    address: &'a str,
+    many: &'a str,
+    door: &mut D,
+) -> Result<u8, NoMemory> {
+    let options = [
+        "--listen",
+        address,
+        "--sessions",
+        many,
+        "--connections",
+        many,
+    ];
+    status_of(rt, alloc, options.as_slice(), door)
+}
+
 #[test]
 fn a_connection_is_answered_over_the_network(rt: HostRuntime) -> Result<(), Fail> {
     let alloc = rt.alloc();
     let address = free_address(&rt, alloc)?;
     let at = address.as_str();
-    let mut words = words_of(
-        alloc,
-        ["--sessions=1", "--connections=1", "--listen"].as_slice(),
-    )?;
-    words.push(Word::of(alloc, at)?)?;
     let (answered, status) = join(
         &rt,
         || is_answered(&rt, alloc, at, "one", 10),
-        || status_of(&rt, alloc, &words, &mut TcpDoor::new(&rt)),
+        || status_at(&rt, alloc, at, "1", &mut TcpDoor::new(&rt)),
     );
     assert!(rt; answered == Some(true));
     assert_eq!(rt; status?, 0);
     Ok(())
 }
 
-/// Whether the connection with a number is answered.
-fn is_one_answered<R: Net<Listener = TcpListener, Stream = TcpStream> + Clock>(
+/// The name of the event that the connection with a number puts, and its day.
+fn event_of(alloc: Global, number: usize) -> Option<(String, u64)> {
+    let day = (number as u64).saturating_add(10);
+    let name = format!(in alloc; "e{day}").ok()?;
+    Some((name, day))
+}
+
+/// How many of sixteen connections that are open at once, each with its own event, are answered as
+/// they should be: all are asked before the first of them is listened to.
+fn answered_of_sixteen<R: Net<Listener = TcpListener, Stream = TcpStream> + Clock>(
     rt: &R,
     alloc: Global,
     address: &str,
-    number: usize,
-) -> bool {
-    let day = (number as u64).saturating_add(10);
-    match format!(in alloc; "e{day}") {
-        Ok(name) => is_answered(rt, alloc, address, name.as_str(), day) == Some(true),
-        Err(_) => false,
+) -> Option<u64> {
+    let mut streams = Vec::new(alloc);
+    for _connection in 0..16 {
+        let stream = connected(rt, address)?;
+        streams.push(stream).ok()?;
     }
+    for number in 0..16 {
+        let (name, day) = event_of(alloc, number)?;
+        ask(alloc, streams.get_mut(number)?, name.as_str(), day)?;
+    }
+    let mut answered: u64 = 0;
+    for number in 0..16 {
+        let (name, day) = event_of(alloc, number)?;
+        if is_told(alloc, streams.get_mut(number)?, name.as_str(), day)? {
+            answered = answered.saturating_add(1);
+        }
+    }
+    Some(answered)
 }
 
 #[test]
@@ -253,25 +273,12 @@ fn sixteen_connections_at_once_are_answered(rt: HostRuntime) -> Result<(), Fail>
     let alloc = rt.alloc();
     let address = free_address(&rt, alloc)?;
     let at = address.as_str();
-    let mut words = words_of(
-        alloc,
-        ["--sessions=16", "--connections=16", "--listen"].as_slice(),
-    )?;
-    words.push(Word::of(alloc, at)?)?;
     let (answered, status) = join(
         &rt,
-        || {
-            thread::map_indices(
-                &rt,
-                alloc,
-                16,
-                &|number| { is_one_answered(&rt, alloc, at, number) },
-            )
-        },
-        || status_of(&rt, alloc, &words, &mut TcpDoor::new(&rt)),
+        || answered_of_sixteen(&rt, alloc, at),
+        || status_at(&rt, alloc, at, "16", &mut TcpDoor::new(&rt)),
     );
-    let answered = answered?;
-    assert_eq!(rt; answered.iter().filter(|one| **one).count(), 16);
+    assert_eq!(rt; answered, Some(16));
     assert_eq!(rt; status?, 0);
     Ok(())
 }
