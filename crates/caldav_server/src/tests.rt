@@ -51,18 +51,27 @@ fn door_of(alloc: Global, links: usize, fails: bool) -> Result<MemoryDoor, NoMem
     Ok(MemoryDoor::new(all, MOMENT, failing))
 }
 
+/// The status of `serve` with these words, at a door with so many empty links, whose first call fails
+/// where that is said.
+fn status_over<R: Threads + Wait + Sync>(
+    rt: &R,
+    alloc: Global,
+    options: &[&str],
+    links: usize,
+    fails: bool,
+) -> Result<u8, NoMemory> {
+    let mut door = door_of(alloc, links, fails)?;
+    status_of(rt, alloc, options, &mut door)
+}
+
 #[test]
-fn each_status_comes_where_it_is_due(rt: HostRuntime) -> Result<(), Fail> {
+fn connections_are_served_and_then_it_ends(rt: HostRuntime) -> Result<(), Fail> {
     let alloc = rt.alloc();
     let one = [
-        "--listen",
-        "A",
-        "--sessions",
-        "1",
-        "--workers",
-        "0",
-        "--connections",
-        "1",
+        "--listen=A",
+        "--sessions=1",
+        "--workers=0",
+        "--connections=1",
     ];
     let crowd = [
         "--listen",
@@ -71,21 +80,28 @@ fn each_status_comes_where_it_is_due(rt: HostRuntime) -> Result<(), Fail> {
         "--workers=2",
         "--connections=7",
     ];
-    let no_address = ["--sessions", "1", "--workers", "0", "--connections", "1"];
-    let signed = ["--listen", "A", "--sessions", "1", "--connections", "+1"];
-    let no_session = ["--listen", "A", "--sessions", "0", "--connections", "1"];
-    let mut door = door_of(alloc, 1, false)?;
-    assert_eq!(rt; status_of(&rt, alloc, one.as_slice(), &mut door)?, 0);
-    let mut door = door_of(alloc, 0, false)?;
-    assert_eq!(rt; status_of(&rt, alloc, one.as_slice(), &mut door)?, 0);
-    let mut door = door_of(alloc, 3, false)?;
-    assert_eq!(rt; status_of(&rt, alloc, crowd.as_slice(), &mut door)?, 0);
-    let mut door = door_of(alloc, 1, true)?;
-    assert_eq!(rt; status_of(&rt, alloc, one.as_slice(), &mut door)?, 4);
-    let mut door = door_of(alloc, 1, false)?;
-    assert_eq!(rt; status_of(&rt, alloc, no_address.as_slice(), &mut door)?, 2);
-    assert_eq!(rt; status_of(&rt, alloc, signed.as_slice(), &mut door)?, 2);
-    assert_eq!(rt; status_of(&rt, alloc, no_session.as_slice(), &mut door)?, 2);
+    assert_eq!(rt; status_over(&rt, alloc, one.as_slice(), 1, false)?, 0);
+    assert_eq!(rt; status_over(&rt, alloc, one.as_slice(), 0, false)?, 0);
+    assert_eq!(rt; status_over(&rt, alloc, crowd.as_slice(), 3, false)?, 0);
+    assert_eq!(rt; status_over(&rt, alloc, one.as_slice(), 1, true)?, 4);
+    Ok(())
+}
+
+#[test]
+fn words_that_are_others_are_refused(rt: HostRuntime) -> Result<(), Fail> {
+    let alloc = rt.alloc();
+    let no_address = ["--sessions=1", "--workers=0", "--connections=1"];
+    let signed = ["--listen=A", "--sessions=1", "--connections=+1"];
+    let no_session = ["--listen=A", "--sessions=0", "--connections=1"];
+    assert_eq!(rt;
+        status_over(&rt, alloc, no_address.as_slice(), 1, false)?,
+        2
+    );
+    assert_eq!(rt; status_over(&rt, alloc, signed.as_slice(), 1, false)?, 2);
+    assert_eq!(rt;
+        status_over(&rt, alloc, no_session.as_slice(), 1, false)?,
+        2
+    );
     Ok(())
 }
 
