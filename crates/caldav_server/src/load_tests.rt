@@ -13,7 +13,7 @@ const ONE_EACH: &str =
 
 /// Ten events for each of three sessions, and the queries behind them.
 const TEN_EACH: &str =
-    "sessions 3\nrequests 36\naccepted 36\noctets 22513\nsha256 195e70c56e3305cefeff033dbd9844f4981b4d9477e30eabd23fbe14c10fd12b\n";
+    "sessions 3\nrequests 36\naccepted 36\noctets 22483\nsha256 7d0ed65fc6f23fbb5e572165155820aa4017f813b900c1383a1a36af986a11a9\n";
 
 /// The status of `load` with these words behind it.
 fn status_of<R: Threads + Wait + Sync>(
