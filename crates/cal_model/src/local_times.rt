@@ -15,19 +15,21 @@ use cal_base::{List, NoMemory};
 use cal_moment::{Local, Utc};
 use std::alloc::Global;
 
-/// Where no more onsets lie within two days anywhere, to look at each of them is cheaper than to make
-/// spans.
-const FEW: usize = 16;
+/// How many onsets a group has. Where no group lies within two days, no more than two groups lie near
+/// any time, and to look at each of their onsets is cheaper than to make spans.
+const GROUP: usize = 16;
 
 /// In seconds: the onsets that matter to a local time lie at most a day from its digits.
 const TWO_DAYS: i64 = 172_800;
 
-/// Whether more onsets than a few lie within two days somewhere.
+/// Whether a group of onsets and the one behind it lie within two days.
 fn is_crowded(onsets: &[Onset]) -> bool {
-    for k in FEW..onsets.len() {
-        if onsets[k].at.0 <= onsets[k - FEW].at.0.saturating_add(TWO_DAYS) {
+    let mut next = GROUP;
+    'groups: while next < onsets.len() {
+        if onsets[next].at.0 <= onsets[next - GROUP].at.0.saturating_add(TWO_DAYS) {
             return true;
         }
+        next += GROUP;
     }
     false
 }
