@@ -4,4 +4,5 @@ pub mod PickLemmas
 pub mod WantedLemmas
 pub mod BeginLemmas
 pub mod BudgetLemmas
+pub mod DayCounts
 pub mod PlaceLemmas

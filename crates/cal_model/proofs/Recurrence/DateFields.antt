@@ -1,8 +1,8 @@
 -- A day comes back from its date.
-use Rattle.std.proofs.Common.{◌≡◌, ℕ, zero, suc, ◌+◌, ◌-◌, ◌<◌, ◌≤◌, List, [], ◌∷◌, refl, ap, sym, ◌∙◌, arith, Bool, true, false, nat_lt, inl, inr}
-use Rattle.std.specs.Prelude.{count_by, nat_le}
+use Rattle.std.proofs.Common.{◌≡◌, ℕ, ◌-◌, ◌<◌, ◌≤◌, arith, false, nat_lt, inl, inr}
+use Rattle.std.specs.Prelude.{nat_le}
 use Rattle.std.proofs.lemmas.Bool.{cases_Bool, ltb-true, ltb-false}
-use Rattle.cal_moment.specs.Calendar.{first_of_year, year_of, day_of_year, month_of, day_of_month, days_before_month, the_months, day_of_date}
+use Rattle.cal_moment.specs.Calendar.{year_of, day_of_year, month_of, day_of_month, days_before_month, the_months, day_of_date}
 use Rattle.cal_moment.proofs.CalendarLaws.{days_before_month-le, months_until, year_of-first}
 use Rattle.cal_model.proofs.Recurrence.Rising.{count_le, month_of-first, month_of-last}
 

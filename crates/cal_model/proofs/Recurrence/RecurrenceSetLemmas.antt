@@ -1,8 +1,8 @@
 -- Laws of recurrence sets: they rise, and how they are made of lists and of lists that are cut.
-use Rattle.std.proofs.Common.{◌≡◌, ℕ, zero, suc, ◌+◌, ◌-◌, ◌<◌, List, [], ◌∷◌, ◌++◌, take, refl, ap, arith, true, false, nat_lt, inl, inr}
+use Rattle.std.proofs.Common.{◌≡◌, ℕ, zero, suc, ◌+◌, ◌-◌, ◌<◌, List, [], ◌∷◌, take, refl, ap, arith, false, nat_lt, inl, inr}
 use Rattle.std.specs.Prelude.{All, AllPairs, filter, if◌then◌else◌, nat_le, ◌*◌, Option, None, Some}
 use Rattle.std.proofs.lemmas.Bool.{cases_Bool, ltb-true}
-use Rattle.std.proofs.lemmas.List.Elements.{All-cons, All-filter, All-take, filter-append, filter_passes}
+use Rattle.std.proofs.lemmas.List.Elements.{All-cons, All-filter, All-take, filter_passes}
 use Rattle.std.proofs.lemmas.List.Kept.{AllPairs-cons, AllPairs-filter}
 use Rattle.cal_model.specs.declared.rule.Rule.{Rule}
 use Rattle.cal_model.specs.Words.Lists.{is_empty, counted_from}

@@ -1,10 +1,10 @@
 -- Taking the moments of a rule one after the other, period by period.
-use Rattle.std.proofs.Common.{◌≡◌, ℕ, zero, suc, ◌+◌, ◌-◌, ◌*◌, ◌<◌, ◌≤◌, List, [], ◌∷◌, ◌++◌, length, get_or, take, refl, sym, ap, ◌∙◌, arith, Bool, true, false, nat_lt, inl, inr}
-use Rattle.std.specs.Prelude.{All, AllPairs, filter, count_by, nat_le, if◌then◌else◌, ◌&&◌, Option, Some, None}
-use Rattle.std.proofs.lemmas.Bool.{cases_Bool, ltb-true, ltb-false, leb-true, leb-false}
+use Rattle.std.proofs.Common.{◌≡◌, ℕ, zero, suc, ◌+◌, ◌-◌, ◌*◌, ◌<◌, ◌≤◌, List, [], ◌∷◌, ◌++◌, refl, sym, ap, ◌∙◌, arith, Bool, true, false, inl, inr}
+use Rattle.std.specs.Prelude.{All, AllPairs, if◌then◌else◌}
+use Rattle.std.proofs.lemmas.Bool.{cases_Bool}
 use Rattle.std.proofs.lemmas.List.{append-nil}
 use Rattle.std.proofs.lemmas.List.Kept.{AllPairs-filter}
-use Rattle.std.proofs.lemmas.List.Elements.{All-head, All-tail, All-nil, All-cons, All-append, All-filter, All-weaker, filter-append, filter_agree, filter_passes}
+use Rattle.std.proofs.lemmas.List.Elements.{All-nil, All-cons, All-filter, All-weaker, filter-append}
 use Rattle.std.proofs.lemmas.Int.{ints}
 use Rattle.cal_moment.specs.declared.stamp.Local.{Local}
 use Rattle.cal_moment.specs.Calendar.{seconds_since_1970}
@@ -12,14 +12,14 @@ use Rattle.cal_model.specs.declared.rule.Rule.{Rule}
 use Rattle.cal_model.specs.Words.Lists.{is_empty, numbers_between, counted_from}
 use Rattle.cal_model.specs.Words.Integers.{some_names_place}
 use Rattle.cal_model.specs.Values.LocalTimes.{moment_of_local, local_seconds}
-use Rattle.cal_model.specs.Recurrence.NextPassing.{NonePasses, IsNextPassing, IsWritten, end_day}
+use Rattle.cal_model.specs.Recurrence.NextPassing.{NonePasses, IsWritten, end_day}
 use Rattle.cal_model.specs.Recurrence.Passing.{passes, period_number}
-use Rattle.cal_model.specs.Recurrence.RecurrenceSet.{Reading, found_moments, at_places, same_period, place_in_period, size_of_period}
+use Rattle.cal_model.specs.Recurrence.RecurrenceSet.{Reading, found_moments, at_places, place_in_period, size_of_period}
 use Rattle.cal_model.proofs.Words.CountedLemmas.{numbers_between-cut, filter-none}
 use Rattle.cal_model.proofs.Recurrence.Periods.{at_places-append}
 use Rattle.cal_model.proofs.Recurrence.Rising.{period_number-le}
 use Rattle.cal_model.proofs.Recurrence.RecurrenceSetLemmas.{Rises, Rises-counted_from}
-use Rattle.cal_model.specs.Walks.KeptMoments.{found_from, found_between, if_there, kept_from, counted_by, wanted, IsPeriodFirst}
+use Rattle.cal_model.specs.Walks.KeptMoments.{found_from, found_between, if_there, kept_from}
 
 module _ (rule : Rule) (start : ℕ) (reading : Reading) where
   -- the test of a found moment

@@ -1,12 +1,10 @@
 -- A place of BYSETPOS that no period has picks nothing.
-use Rattle.std.proofs.Common.{◌≡◌, ℕ, zero, suc, ◌+◌, ◌-◌, ◌*◌, ◌/◌, ◌%◌, ◌<◌, ◌≤◌, List, [], ◌∷◌, length, get_or, refl, sym, ◌∙◌, arith, Bool, true, false, inl, inr, ℤ, pos, negsuc}
-use Rattle.std.specs.Prelude.{All, filter, count_by, nat_le, nat_lt, ◌==◌, if◌then◌else◌}
-use Rattle.std.specs.Int.{IsInRange}
+use Rattle.std.proofs.Common.{◌≡◌, ◌⊎◌, ℕ, zero, suc, ◌+◌, ◌*◌, ◌/◌, ◌%◌, ◌<◌, ◌≤◌, List, [], ◌∷◌, length, get_or, refl, sym, ◌∙◌, arith, Bool, true, false, inl, inr, ℤ, pos, negsuc}
+use Rattle.std.specs.Prelude.{All, filter, count_by, nat_le, ◌==◌, if◌then◌else◌}
 use Rattle.std.specs.List.{list_any}
-use Rattle.std.proofs.lemmas.Bool.{cases_Bool, eqb-true, leb-false, ltb-true, ltb-false}
+use Rattle.std.proofs.lemmas.Bool.{cases_Bool, eqb-true, leb-false, ltb-false}
 use Rattle.std.proofs.lemmas.List.Elements.{All-head, All-tail}
-use Rattle.cal_moment.specs.Calendar.{first_of_year, year_of, month_of, month_length, day_of_date, day_of_moment, second_of_day, seconds_since_1970}
-use Rattle.cal_moment.proofs.CalendarLaws.{year_of-first, year_of-last, days_before_month-next, days_before_month-end, first_of_year-suc, month_length-bounds, year_of-day_of_date, month_of-day_of_date}
+use Rattle.cal_moment.specs.Calendar.{day_of_moment, second_of_day, seconds_since_1970}
 use Rattle.cal_model.specs.declared.rule.Rule.{Rule}
 use Rattle.cal_model.specs.declared.rule.Freq.{Freq}
 use Rattle.cal_model.specs.declared.rule.Freq.TheVariants.{Secondly, Minutely, Hourly, Daily, Weekly, Monthly, Yearly}
@@ -16,16 +14,12 @@ use Rattle.cal_model.specs.Recurrence.NextPassing.{end_day, is_fine}
 use Rattle.cal_model.specs.Recurrence.Passing.{passes, period_number, period_passes, day_passes, time_passes, part_passes, hour_passes}
 use Rattle.cal_model.specs.Recurrence.RecurrenceSet.{Reading, first_moment, same_period, place_in_period, size_of_period}
 use Rattle.cal_model.specs.Walks.KeptMoments.{found_from, kept_from}
-use Rattle.cal_model.specs.Walks.Places.{is_place_within, IsMostInPeriod, PicksNothing, most_days_in}
-use Rattle.cal_model.proofs.Recurrence.DateFields.{day_of_date-fields}
-use Rattle.cal_model.proofs.Recurrence.Rising.{month_of-first, month_of-last, period_number-le, count_le}
+use Rattle.cal_model.specs.Walks.Places.{is_place_within, is_day_of, HasDaysAtMost, IsMostInPeriod, PicksNothing}
+use Rattle.cal_model.proofs.Recurrence.Rising.{count_le}
 use Rattle.cal_model.proofs.Recurrence.Periods.{count_one, count_zero}
-use Rattle.cal_model.proofs.Words.CountedRuns.{count_in, count_in-all, count_in-one, count_in-shifted, count_in-within, count_in-blocks_at_most}
+use Rattle.cal_model.proofs.Words.CountedRuns.{count_in, count_in-cut, count_in-one, count_in-shifted, count_in-within, count_in-blocks_at_most}
 use Rattle.cal_model.proofs.Walks.KeptLemmas.{is_found}
-
-both : (a b : Bool) → (if a then b else false) ≡ true → (a ≡ true) × (b ≡ true)
-both true b h = (refl, h)
-both false b h = absurd cc
+use Rattle.cal_model.proofs.Walks.DayCounts.{both}
 
 count_filter : (p q : ℕ → Bool) (xs : List ℕ) → count_by q (filter p xs) ≤ count_by (λ x. if q x then p x else false) xs
 count_filter p q [] = omega arith
@@ -43,41 +37,6 @@ count_filter p q (x ∷ xs) =
           let b = count_zero (λ x. if q x then p x else false) x xs test in rw left_out (omega (arith, rest, b)))
     ]
 
--- the days of a month lie within 31
-month_end : (day : ℕ) → day < day_of_date (year_of day) (month_of day) 1 + 31
-month_end day =
-    let some = month_of-first day in let most = month_of-last day in
-    let size = month_length-bounds (year_of day) (month_of day) in
-    let next = days_before_month-next (year_of day) (month_of day) some in
-    elim (cases_Bool (nat_lt (month_of day) 12)) [
-      | inl w ↦ (let early : month_of day < 12 = ltb-true _ _ w in
-          let first_size = month_length-bounds (year_of day) (month_of day + 1) in
-          let one : IsInRange 1 (month_length (year_of day) (month_of day + 1)) 1 = (omega arith, omega (arith, first_size)) in
-          let month : IsInRange 1 12 (month_of day + 1) = (omega arith, omega (arith, early)) in
-          let year = year_of-day_of_date (year_of day) (month_of day + 1) 1 month one in
-          let of = month_of-day_of_date (year_of day) (month_of day + 1) 1 month one in
-          elim (cases_Bool (nat_lt day (day_of_date (year_of day) (month_of day + 1) 1))) [
-            | inl v ↦ (let before = ltb-true _ _ v in omega (arith, before, next, size))
-            | inr v ↦ (let after = ltb-false _ _ v in
-                let a : 86400 * day_of_date (year_of day) (month_of day + 1) 1 / 86400 ≡ day_of_date (year_of day) (month_of day + 1) 1 = omega arith in
-                let b : 86400 * day / 86400 ≡ day = omega arith in
-                let rises = period_number-le Monthly 0 (86400 * day_of_date (year_of day) (month_of day + 1) 1) (86400 * day) (omega (arith, after)) in
-                let plain = rw (a, b) at rises in
-                absurd (omega (arith, plain, year, of)))
-          ])
-      | inr w ↦ (let late = ltb-false _ _ w in
-          let last : month_of day ≡ 12 = omega (arith, late, most) in
-          let end = year_of-last day in
-          let after = first_of_year-suc (year_of day) in
-          let whole = days_before_month-end (year_of day) in
-          let before = rw last at next in
-          let few = rw last at size in
-          rw last (omega (arith, end, after, whole, before, few)))
-    ]
-
-month_from : (day : ℕ) → day_of_date (year_of day) (month_of day) 1 ≤ day
-month_from day = let is = day_of_date-fields day in omega (arith, is)
-
 module _ (rule : Rule) (start : ℕ) (reading : Reading) (m : ℕ) where
   -- a moment is found in the period of m
   abbrev here : ℕ → Bool
@@ -92,6 +51,30 @@ module _ (rule : Rule) (start : ℕ) (reading : Reading) (m : ℕ) where
       let passing = (both (passes rule start reading.dated k) (reading.exists (seconds_since_1970 k)) found).0 in
       let dayed = (both (period_passes rule start k) (if day_passes rule (day_of_moment start) (day_of_moment k) then time_passes rule (second_of_day start) reading.dated (second_of_day k) else false) passing).1 in
       (both (day_passes rule (day_of_moment start) (day_of_moment k)) (time_passes rule (second_of_day start) reading.dated (second_of_day k)) dayed).1
+
+  here_dayed : (k : ℕ) → here k ≡ true → day_passes rule (day_of_moment start) (day_of_moment k) ≡ true
+  here_dayed k w =
+      let found = (both (same_period rule m k) (is_found rule start reading k) w).1 in
+      let passing = (both (passes rule start reading.dated k) (reading.exists (seconds_since_1970 k)) found).0 in
+      let dayed = (both (period_passes rule start k) (if day_passes rule (day_of_moment start) (day_of_moment k) then time_passes rule (second_of_day start) reading.dated (second_of_day k) else false) passing).1 in
+      (both (day_passes rule (day_of_moment start) (day_of_moment k)) (time_passes rule (second_of_day start) reading.dated (second_of_day k)) dayed).0
+
+  -- Its day, where a period has whole days.
+
+  abbrev is_whole : Freq → Type 0
+  is_whole freq = (freq ≡ Daily) ⊎ ((freq ≡ Weekly) ⊎ ((freq ≡ Monthly) ⊎ (freq ≡ Yearly)))
+
+  same_by_day : (freq : Freq) → is_whole freq → (k : ℕ) → period_number freq rule.week_start (86400 * (k / 86400)) ≡ period_number freq rule.week_start k
+  same_by_day freq (inl e) k = let day : 86400 * (k / 86400) / 86400 ≡ k / 86400 = omega arith in rw e (rw day refl)
+  same_by_day freq (inr (inl e)) k = let day : 86400 * (k / 86400) / 86400 ≡ k / 86400 = omega arith in rw e (rw day refl)
+  same_by_day freq (inr (inr (inl e))) k = let day : 86400 * (k / 86400) / 86400 ≡ k / 86400 = omega arith in rw e (rw day refl)
+  same_by_day freq (inr (inr (inr e))) k = let day : 86400 * (k / 86400) / 86400 ≡ k / 86400 = omega arith in rw e (rw day refl)
+
+  here_day : is_whole rule.freq → (k : ℕ) → here k ≡ true → is_day_of rule start m (k / 86400) ≡ true
+  here_day whole k w =
+      let same = here_period k w ∙ sym (same_by_day rule.freq whole k) in
+      let test : (period_number rule.freq rule.week_start m == period_number rule.freq rule.week_start (86400 * (k / 86400))) ≡ true = rw same (grind arith) in
+      rw test (here_dayed k w)
 
   -- Its hour, minute and second.
 
@@ -177,10 +160,11 @@ module _ (rule : Rule) (start : ℕ) (reading : Reading) (m : ℕ) where
           let last : 3600 * (24 * d + 24) ≡ 86400 * (d + 1) = omega arith in
           rw (first, last) at (count_in-blocks_at_most here (λ h. hour_test (h % 24)) (λ h. 3600 * h) (λ k. k / 3600) (minutes * seconds) (λ d. omega arith) (λ d k low high. omega (arith, low, high)) in_hour here_hour 24 (24 * d) hours (hours_of_day d))
 
-      in_days : (d n : ℕ) → count_in here (86400 * d) (86400 * (d + n)) ≤ n * (hours * (minutes * seconds))
-      in_days d n =
-          count_in-blocks_at_most here (λ d. true) (λ d. 86400 * d) (λ k. k / 86400) (hours * (minutes * seconds)) (λ d. omega arith) (λ d k low high. omega (arith, low, high)) in_day (λ k w. refl) n d n
-          (let all = count_in-all (λ d. true) d (d + n) in omega (arith, all))
+      in_days : is_whole rule.freq → (n days : ℕ) → count_in (is_day_of rule start m) 0 n ≤ days → count_in here 0 (86400 * n) ≤ days * (hours * (minutes * seconds))
+      in_days whole n days few =
+          let from : 0 + n ≡ n = omega arith in
+          rw from at (
+          count_in-blocks_at_most here (is_day_of rule start m) (λ d. 86400 * d) (λ k. k / 86400) (hours * (minutes * seconds)) (λ d. omega arith) (λ d k low high. omega (arith, low, high)) in_day (here_day whole) n 0 days (rw from few))
 
   -- The period of m lies in a stretch.
 
@@ -190,36 +174,14 @@ module _ (rule : Rule) (start : ℕ) (reading : Reading) (m : ℕ) where
       let few = count_in-within here low high first_moment (86400 * end_day) rises (omega arith) lies in
       omega (arith, some, few)
 
-  days_at_most : (first n : ℕ) → ((k : ℕ) → here k ≡ true → (first ≤ k / 86400) × (k / 86400 < first + n)) → size_of_period rule (found_from rule start reading first_moment) m ≤ count_in here (86400 * first) (86400 * (first + n))
-  days_at_most first n lies = size_at_most (86400 * first) (86400 * (first + n)) (omega arith) (λ k w. let at = lies k w in (omega (arith, at), omega (arith, at)))
+  size_in_all : size_of_period rule (found_from rule start reading first_moment) m ≤ count_in here 0 (86400 * end_day)
+  size_in_all =
+      let some = count_filter (is_found rule start reading) (same_period rule m) (numbers_between first_moment (86400 * end_day)) in
+      let cut = count_in-cut here 0 first_moment (86400 * end_day) (omega arith) (omega arith) in
+      omega (arith, some, cut)
 
   hour_size : rule.freq ≡ Hourly → size_of_period rule (found_from rule start reading first_moment) m ≤ count_in here (3600 * (m / 3600)) (3600 * (m / 3600 + 1))
   hour_size e = size_at_most (3600 * (m / 3600)) (3600 * (m / 3600 + 1)) (omega arith) (λ k w. let same = rw e at (here_period k w) in (omega (arith, same), omega (arith, same)))
-
-  day_size : rule.freq ≡ Daily → size_of_period rule (found_from rule start reading first_moment) m ≤ count_in here (86400 * (m / 86400)) (86400 * (m / 86400 + 1))
-  day_size e = days_at_most (m / 86400) 1 (λ k w. let same = rw e at (here_period k w) in (omega (arith, same), omega (arith, same)))
-
-  week_size : rule.freq ≡ Weekly → rule.week_start < 7 → (first : ℕ) → first ≡ 7 * ((m / 86400 + 12 - rule.week_start) / 7) + rule.week_start - 12 →
-      size_of_period rule (found_from rule start reading first_moment) m ≤ count_in here (86400 * first) (86400 * (first + 7))
-  week_size e small first is = days_at_most first 7 (λ k w. let same = rw e at (here_period k w) in (omega (arith, same, small, is), omega (arith, same, small, is)))
-
-  month_size : rule.freq ≡ Monthly → size_of_period rule (found_from rule start reading first_moment) m ≤ count_in here (86400 * day_of_date (year_of (m / 86400)) (month_of (m / 86400)) 1) (86400 * (day_of_date (year_of (m / 86400)) (month_of (m / 86400)) 1 + 31))
-  month_size e = days_at_most (day_of_date (year_of (m / 86400)) (month_of (m / 86400)) 1) 31
-      (λ k w. let same = rw e at (here_period k w) in
-      let a = month_of-first (m / 86400) in let b = month_of-last (m / 86400) in let c = month_of-first (k / 86400) in let d = month_of-last (k / 86400) in
-      let years : year_of (k / 86400) ≡ year_of (m / 86400) = omega (arith, same, a, b, c, d) in
-      let months : month_of (k / 86400) ≡ month_of (m / 86400) = omega (arith, same, years) in
-      let from = rw (years, months) at (month_from (k / 86400)) in
-      let end = rw (years, months) at (month_end (k / 86400)) in
-      (from, end))
-
-  year_size : rule.freq ≡ Yearly → size_of_period rule (found_from rule start reading first_moment) m ≤ count_in here (86400 * first_of_year (year_of (m / 86400))) (86400 * (first_of_year (year_of (m / 86400)) + 366))
-  year_size e = days_at_most (first_of_year (year_of (m / 86400))) 366
-      (λ k w. let same = rw e at (here_period k w) in
-      let years : year_of (k / 86400) ≡ year_of (m / 86400) = omega (arith, same) in
-      let from = rw years at (year_of-first (k / 86400)) in
-      let last = rw years at (year_of-last (k / 86400)) in
-      (from, omega (arith, last)))
 
 module _ (rule : Rule) (minutes seconds : ℕ) (few_minutes : (s : ℕ) → count_in (part_passes rule.by_minute s) 0 60 ≤ minutes) (few_seconds : (s : ℕ) → count_in (part_passes rule.by_second s) 0 60 ≤ seconds)
     (some_minutes : 1 ≤ minutes) (some_seconds : 1 ≤ seconds) where
@@ -231,9 +193,9 @@ module _ (rule : Rule) (minutes seconds : ℕ) (few_minutes : (s : ℕ) → coun
       omega (arith, size, most)
 
   -- and a longer period so many for each of its hours on each of its days
-  pub most_of_period : is_fine rule.freq ≡ false → rule.week_start < 7 → (hours : ℕ) → (rule.freq ≡ Hourly → hours ≡ 1) → ((rule.freq ≡ Hourly → ⊥) → (s : ℕ) → count_in (part_passes rule.by_hour s) 0 24 ≤ hours) → 1 ≤ hours →
-      IsMostInPeriod rule (most_days_in rule.freq * (hours * (minutes * seconds)))
-  most_of_period coarse small hours one few_hours some_hours = λ start m reading. cases start m reading rule.freq refl
+  pub most_of_period : is_fine rule.freq ≡ false → (days : ℕ) → HasDaysAtMost rule days → (rule.freq ≡ Hourly → days ≡ 1) → (hours : ℕ) → (rule.freq ≡ Hourly → hours ≡ 1) → ((rule.freq ≡ Hourly → ⊥) → (s : ℕ) → count_in (part_passes rule.by_hour s) 0 24 ≤ hours) → 1 ≤ hours →
+      IsMostInPeriod rule (days * (hours * (minutes * seconds)))
+  most_of_period coarse days few_days one_day hours one few_hours some_hours = λ start m reading. cases start m reading rule.freq refl
     where
       hour_parts : (freq : Freq) → (freq ≡ Hourly → ⊥) → (h s : ℕ) → hour_passes freq rule.by_hour s h ≡ part_passes rule.by_hour s h
       hour_parts Hourly longer h s = absurd (longer refl)
@@ -244,21 +206,18 @@ module _ (rule : Rule) (minutes seconds : ℕ) (few_minutes : (s : ℕ) → coun
       hour_parts Monthly longer h s = refl
       hour_parts Yearly longer h s = refl
 
-      days : (start m : ℕ) (reading : Reading) (d n : ℕ) → (rule.freq ≡ Hourly → ⊥) → count_in (here rule start reading m) (86400 * d) (86400 * (d + n)) ≤ n * (hours * (minutes * seconds))
-      days start m reading d n longer = in_days rule start reading m minutes seconds few_minutes few_seconds some_minutes some_seconds (λ h s. hour_parts rule.freq longer h s) hours (few_hours longer) some_hours d n
+      in_all : (start m : ℕ) (reading : Reading) → is_whole rule start reading m rule.freq → (rule.freq ≡ Hourly → ⊥) → size_of_period rule (found_from rule start reading first_moment) m ≤ days * (hours * (minutes * seconds))
+      in_all start m reading whole longer =
+          let size = size_in_all rule start reading m in
+          let most = in_days rule start reading m minutes seconds few_minutes few_seconds some_minutes some_seconds (λ h s. hour_parts rule.freq longer h s) hours (few_hours longer) some_hours whole end_day days (few_days start m 0 end_day (omega arith)) in
+          omega (arith, size, most)
 
-      cases : (start m : ℕ) (reading : Reading) (freq : Freq) → rule.freq ≡ freq → size_of_period rule (found_from rule start reading first_moment) m ≤ most_days_in freq * (hours * (minutes * seconds))
-      cases start m reading Hourly e = let most = most_of_hour e start m reading in let single = one e in rw single (omega (arith, most))
-      cases start m reading Daily e = let size = day_size rule start reading m e in let most = days start m reading (m / 86400) 1 (λ h. let bad : Daily ≡ Hourly = sym e ∙ h in cc) in omega (arith, size, most)
-      cases start m reading Weekly e =
-          let size = week_size rule start reading m e small (7 * ((m / 86400 + 12 - rule.week_start) / 7) + rule.week_start - 12) refl in
-          let most = days start m reading (7 * ((m / 86400 + 12 - rule.week_start) / 7) + rule.week_start - 12) 7 (λ h. let bad : Weekly ≡ Hourly = sym e ∙ h in cc) in omega (arith, size, most)
-      cases start m reading Monthly e =
-          let size = month_size rule start reading m e in
-          let most = days start m reading (day_of_date (year_of (m / 86400)) (month_of (m / 86400)) 1) 31 (λ h. let bad : Monthly ≡ Hourly = sym e ∙ h in cc) in omega (arith, size, most)
-      cases start m reading Yearly e =
-          let size = year_size rule start reading m e in
-          let most = days start m reading (first_of_year (year_of (m / 86400))) 366 (λ h. let bad : Yearly ≡ Hourly = sym e ∙ h in cc) in omega (arith, size, most)
+      cases : (start m : ℕ) (reading : Reading) (freq : Freq) → rule.freq ≡ freq → size_of_period rule (found_from rule start reading first_moment) m ≤ days * (hours * (minutes * seconds))
+      cases start m reading Hourly e = let most = most_of_hour e start m reading in let single = one e in let day = one_day e in rw (single, day) (omega (arith, most))
+      cases start m reading Daily e = in_all start m reading (inl e) (λ h. let bad : Daily ≡ Hourly = sym e ∙ h in cc)
+      cases start m reading Weekly e = in_all start m reading (inr (inl e)) (λ h. let bad : Weekly ≡ Hourly = sym e ∙ h in cc)
+      cases start m reading Monthly e = in_all start m reading (inr (inr (inl e))) (λ h. let bad : Monthly ≡ Hourly = sym e ∙ h in cc)
+      cases start m reading Yearly e = in_all start m reading (inr (inr (inr e))) (λ h. let bad : Yearly ≡ Hourly = sym e ∙ h in cc)
       cases start m reading Secondly e = absurd (let fine = rw e at coarse in cc)
       cases start m reading Minutely e = absurd (let fine = rw e at coarse in cc)
 

@@ -1,5 +1,5 @@
 -- How many numbers in a row pass a test, part by part.
-use Rattle.std.proofs.Common.{◌≡◌, ℕ, zero, suc, ◌+◌, ◌-◌, ◌*◌, ◌<◌, ◌≤◌, length, refl, sym, ap, ◌∙◌, arith, Bool, true, false, inl, inr}
+use Rattle.std.proofs.Common.{◌≡◌, ◌⊎◌, ℕ, zero, suc, ◌+◌, ◌-◌, ◌*◌, ◌<◌, ◌≤◌, List, [], ◌∷◌, length, refl, sym, ap, ◌∙◌, arith, Bool, true, false, inl, inr}
 use Rattle.std.specs.Prelude.{count_by, cond, if◌then◌else◌}
 use Rattle.std.proofs.lemmas.Bool.{cases_Bool}
 use Rattle.std.proofs.lemmas.Nat.{mul-le}
@@ -54,27 +54,53 @@ count_in-one p n a b le h =
     let most = count_in-all p n (n + 1) in
     omega (arith, within, most)
 
-count_shifted : (p q : ℕ → Bool) (off first n : ℕ) → ((i : ℕ) → first ≤ i → i < first + n → p (off + i) ≡ true → q i ≡ true) → count_by p (counted_from (off + first) n) ≤ count_by q (counted_from first n)
+-- as many in a row from another number on
+count_moved : (p q : ℕ → Bool) (a b n : ℕ) → ((i : ℕ) → i < n → p (a + i) ≡ true → q (b + i) ≡ true) → count_by p (counted_from a n) ≤ count_by q (counted_from b n)
 unfolding counted_from
-count_shifted p q off first zero h = omega arith
-count_shifted p q off first (suc n) h =
-    let at : off + first + 1 ≡ off + (first + 1) = omega arith in
-    let rest = rw (sym at) at (count_shifted p q off (first + 1) n (λ i low high w. h i (omega (arith, low)) (omega (arith, high)) w)) in
-    elim (cases_Bool (p (off + first))) [
-      | inl w ↦ (let a = count_one p (off + first) (counted_from (off + first + 1) n) w in let b = count_one q first (counted_from (first + 1) n) (h first (omega arith) (omega arith) w) in omega (arith, rest, a, b))
-      | inr w ↦ (let a = count_zero p (off + first) (counted_from (off + first + 1) n) w in elim (cases_Bool (q first)) [
-        | inl v ↦ (let b = count_one q first (counted_from (first + 1) n) v in omega (arith, rest, a, b))
-        | inr v ↦ (let b = count_zero q first (counted_from (first + 1) n) v in omega (arith, rest, a, b))
+count_moved p q a b zero h = omega arith
+count_moved p q a b (suc n) h =
+    let here_a : a + 0 ≡ a = omega arith in
+    let here_b : b + 0 ≡ b = omega arith in
+    let here : p a ≡ true → q b ≡ true = rw (here_a, here_b) at (h 0 (omega arith)) in
+    let rest = count_moved p q (a + 1) (b + 1) n
+    (λ i lt w. let at_a : a + suc i ≡ a + 1 + i = omega arith in let at_b : b + suc i ≡ b + 1 + i = omega arith in (rw (at_a, at_b) at (h (suc i) (omega (arith, lt)))) w) in
+    elim (cases_Bool (p a)) [
+      | inl w ↦ (let x = count_one p a (counted_from (a + 1) n) w in let y = count_one q b (counted_from (b + 1) n) (here w) in omega (arith, rest, x, y))
+      | inr w ↦ (let x = count_zero p a (counted_from (a + 1) n) w in elim (cases_Bool (q b)) [
+        | inl v ↦ (let y = count_one q b (counted_from (b + 1) n) v in omega (arith, rest, x, y))
+        | inr v ↦ (let y = count_zero q b (counted_from (b + 1) n) v in omega (arith, rest, x, y))
       ])
     ]
 
+-- one stretch beside another of the same length
+pub count_in-moved : (p q : ℕ → Bool) (a b n last end : ℕ) → last ≡ a + n → end ≡ b + n → ((i : ℕ) → i < n → p (a + i) ≡ true → q (b + i) ≡ true) → count_in p a last ≤ count_in q b end
+count_in-moved p q a b n last end is_a is_b h =
+    let size_a : last - a ≡ n = omega (arith, is_a) in
+    let size_b : end - b ≡ n = omega (arith, is_b) in
+    rw (size_a, size_b) (count_moved p q a b n h)
+
 -- a stretch as it lies from 0 on
 pub count_in-shifted : (p q : ℕ → Bool) (off n end : ℕ) → end ≡ off + n → ((i : ℕ) → i < n → p (off + i) ≡ true → q i ≡ true) → count_in p off end ≤ count_in q 0 n
-count_in-shifted p q off n end is h =
-    let at : off + 0 ≡ off = omega arith in
-    let size : end - off ≡ n = omega (arith, is) in
-    let zero_size : n - 0 ≡ n = omega arith in
-    rw (size, zero_size) (rw at at (count_shifted p q off 0 n (λ i low high w. h i (omega (arith, high)) w)))
+count_in-shifted p q off n end is h = count_in-moved p q off 0 n end n is (omega arith) (λ i lt w. let at : 0 + i ≡ i = omega arith in rw at (h i lt w))
+
+-- what passes one test passes one of two
+pub count_in-either : (p q r : ℕ → Bool) (a b : ℕ) → ((m : ℕ) → p m ≡ true → (q m ≡ true) ⊎ (r m ≡ true)) → count_in p a b ≤ count_in q a b + count_in r a b
+count_in-either p q r a b h = either (numbers_between a b)
+  where
+    either : (xs : List ℕ) → count_by p xs ≤ count_by q xs + count_by r xs
+    either [] = omega arith
+    either (x ∷ xs) =
+        let rest = either xs in
+        let more_q : count_by q xs ≤ count_by q (x ∷ xs) = elim (cases_Bool (q x)) [ inl w ↦ (let is = count_one q x xs w in omega (arith, is)) | inr w ↦ (let is = count_zero q x xs w in omega (arith, is)) ] in
+        let more_r : count_by r xs ≤ count_by r (x ∷ xs) = elim (cases_Bool (r x)) [ inl w ↦ (let is = count_one r x xs w in omega (arith, is)) | inr w ↦ (let is = count_zero r x xs w in omega (arith, is)) ] in
+        elim (cases_Bool (p x)) [
+          | inl w ↦ (let is = count_one p x xs w in
+              elim (h x w) [
+                | inl v ↦ (let one = count_one q x xs v in omega (arith, rest, is, one, more_r))
+                | inr v ↦ (let one = count_one r x xs v in omega (arith, rest, is, one, more_q))
+              ])
+          | inr w ↦ (let is = count_zero p x xs w in omega (arith, rest, is, more_q, more_r))
+        ]
 
 -- Blocks of one length each, of which a test lets some have passing numbers.
 module _ (p has : ℕ → Bool) (begin block_of : ℕ → ℕ) (most : ℕ)

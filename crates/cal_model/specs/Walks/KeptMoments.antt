@@ -1,5 +1,5 @@
 -- What a rule gives from a moment on, one moment after the other. From RFC 5545, 3.3.10 and 3.8.5.3.
-use Rattle.std.specs.Prelude.{◌≡◌, ℕ, ◌+◌, ◌-◌, ◌*◌, ◌<◌, ◌≤◌, Bool, true, false, ◌&&◌, nat_le, nat_lt, List, [], ◌∷◌, if◌then◌else◌, filter, take, map, ℤ, Option, Some, None}
+use Rattle.std.specs.Prelude.{ℕ, ◌-◌, ◌*◌, ◌<◌, ◌&&◌, nat_le, nat_lt, List, [], ◌∷◌, if◌then◌else◌, filter, take, map, ℤ, Option, Some, None}
 use Rattle.cal_moment.specs.Calendar.{seconds_since_1970}
 use Rattle.cal_moment.specs.declared.stamp.Local.{Local}
 use Rattle.cal_model.specs.declared.rule.Rule.{Rule}

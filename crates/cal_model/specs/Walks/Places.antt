@@ -1,8 +1,11 @@
 -- Which places of BYSETPOS a period with so many moments can have.
-use Rattle.std.specs.Prelude.{◌≡◌, ℕ, ◌≤◌, Bool, nat_le, nat_lt, [], ℤ, pos, negsuc}
+use Rattle.std.specs.Prelude.{◌≡◌, ℕ, ◌*◌, ◌≤◌, ◌==◌, if◌then◌else◌, Bool, false, nat_le, nat_lt, count_by, List, [], ℤ, pos, negsuc}
+use Rattle.std.specs.List.{list_any}
+use Rattle.cal_moment.specs.Calendar.{day_of_moment}
+use Rattle.cal_model.specs.declared.rule.DayPart.{DayPart}
 use Rattle.cal_model.specs.declared.rule.Rule.{Rule}
-use Rattle.cal_model.specs.declared.rule.Freq.{Freq}
-use Rattle.cal_model.specs.declared.rule.Freq.TheVariants.{Weekly, Monthly, Yearly}
+use Rattle.cal_model.specs.Words.Lists.{numbers_between}
+use Rattle.cal_model.specs.Recurrence.Passing.{period_number, day_passes}
 use Rattle.cal_model.specs.Recurrence.RecurrenceSet.{Reading, first_moment, size_of_period}
 use Rattle.cal_model.specs.Walks.KeptMoments.{found_from, kept_from}
 
@@ -11,12 +14,20 @@ abbrev pub is_place_within : ℕ → ℤ → Bool
 is_place_within most (pos n) = nat_le n most
 is_place_within most (negsuc n) = nat_lt n most
 
--- how many days a period has at most
-abbrev pub most_days_in : Freq → ℕ
-most_days_in Yearly = 366
-most_days_in Monthly = 31
-most_days_in Weekly = 7
-most_days_in other = 1
+-- BYDAY names a weekday, whatever the ordinal
+abbrev pub has_weekday : List DayPart → ℕ → Bool
+has_weekday parts weekday = list_any (λ (part : DayPart). part.weekday == weekday) parts
+
+-- a day that begins in the period of a moment, and passes
+abbrev pub is_day_of : Rule → ℕ → ℕ → ℕ → Bool
+is_day_of rule start m day =
+    if period_number rule.freq rule.week_start m == period_number rule.freq rule.week_start (86_400 * day)
+    then day_passes rule (day_of_moment start) day
+    else false
+
+-- no period of a rule has more days that pass, whatever its start
+abbrev pub HasDaysAtMost : Rule → ℕ → Type 0
+HasDaysAtMost rule most = (start m a b : ℕ) → a ≤ b → count_by (is_day_of rule start m) (numbers_between a b) ≤ most
 
 -- no period of a rule has more moments, whatever its start
 abbrev pub IsMostInPeriod : Rule → ℕ → Type 0

@@ -1,13 +1,13 @@
 //! The places of BYSETPOS that no period of a rule has (RFC 5545, 3.3.10).
 ghost use Rattle.std.specs.Prelude.{◌≡◌, ℕ, ◌*◌, ◌<◌, ◌≤◌, true, false, count_by};
 ghost use Rattle.std.specs.List.{list_any};
-ghost use Rattle.cal_model.specs.declared.rule.Freq.TheVariants.{Hourly};
+ghost use Rattle.cal_model.specs.declared.rule.Freq.TheVariants.{Hourly, Monthly, Weekly};
 ghost use Rattle.cal_model.specs.Recurrence.NextPassing.{IsUsable, is_fine};
-ghost use Rattle.cal_model.specs.Recurrence.Passing.{part_passes};
-ghost use Rattle.cal_model.specs.Walks.Places.{is_place_within, most_days_in, IsMostInPeriod, PicksNothing};
-ghost use Rattle.cal_model.specs.Words.Lists.{has_number, numbers_between};
+ghost use Rattle.cal_model.specs.Recurrence.Passing.{has_day_part, part_passes};
+ghost use Rattle.cal_model.specs.Walks.Places.{has_weekday, is_place_within, HasDaysAtMost, IsMostInPeriod, PicksNothing};
+ghost use Rattle.cal_model.specs.Words.Lists.{has_number, is_empty, numbers_between};
 
-use crate::rule::{Freq, Rule};
+use crate::rule::{DayPart, Freq, Rule};
 use cal_base::List;
 
 /// Whether a part has a number.
@@ -45,15 +45,96 @@ fn values_of(part: &List<u8>, bound: u8) -> u64
     }
 }
 
-/// How many days a period has at most.
-fn most_days(freq: Freq) -> u64
-    ensures value { result ≡ most_days_in freq }
+/// Whether BYDAY names a weekday.
+fn names_weekday(parts: &List<DayPart>, weekday: u8) -> bool
+    ensures { result ≡ has_weekday parts.now weekday }
+{
+    parts.iter().any(|part| part.weekday == weekday)
+}
+
+/// How many weekdays BYDAY names, each counted once.
+fn weekdays_of(parts: &List<DayPart>) -> u64
+    ensures value { result ≡ count_by (has_weekday parts.now) (numbers_between 0 7) }
+    ensures bound { result ≤ 7 }
+{
+    let mut count = 0u64;
+    for weekday in 0..7u8 {
+        if names_weekday(parts, weekday) {
+            count += 1;
+        }
+    }
+    count
+}
+
+/// Whether no part names days, so that the start does.
+fn names_no_days(rule: &Rule) -> bool
+    ensures { result ≡ true → (is_empty rule.now.by_week ≡ true) × (has_day_part rule.now ≡ false) }
+{
+    rule.by_week.is_empty()
+        && rule.by_year_day.is_empty()
+        && rule.by_month_day.is_empty()
+        && rule.by_day.is_empty()
+}
+
+/// How many days of a week may pass at most.
+fn most_days_of_week(rule: &Rule) -> u64
+    requires rule { IsUsable rule.now }
+    requires weekly { rule.now.freq ≡ Weekly }
+    ensures most { HasDaysAtMost rule.now result }
     ensures bound { result ≤ 366 }
 {
-    match freq {
+    if names_no_days(rule) {
+        1
+    } else if rule.by_day.is_empty() {
+        7
+    } else {
+        weekdays_of(&rule.by_day)
+    }
+}
+
+/// How many days of a month BYDAY may let pass at most.
+fn most_days_by_weekday(rule: &Rule) -> u64
+    requires monthly { rule.now.freq ≡ Monthly }
+    ensures most { HasDaysAtMost rule.now result }
+    ensures bound { result ≤ 366 }
+{
+    if rule.by_day.is_empty() {
+        31
+    } else {
+        5 * weekdays_of(&rule.by_day)
+    }
+}
+
+/// How many days of a month may pass at most.
+fn most_days_of_month(rule: &Rule) -> u64
+    requires monthly { rule.now.freq ≡ Monthly }
+    ensures most { HasDaysAtMost rule.now result }
+    ensures bound { result ≤ 366 }
+{
+    if names_no_days(rule) {
+        return 1;
+    }
+    let by_weekday = most_days_by_weekday(rule);
+    let numbers = rule.by_month_day.len() as u64;
+    if rule.by_month_day.is_empty() || by_weekday < numbers {
+        by_weekday
+    } else {
+        numbers
+    }
+}
+
+/// How many days of a period may pass at most.
+fn most_days(rule: &Rule) -> u64
+    requires rule { IsUsable rule.now }
+    requires coarse { is_fine rule.now.freq ≡ false }
+    ensures most { HasDaysAtMost rule.now result }
+    ensures hourly { rule.now.freq ≡ Hourly → result ≡ 1 }
+    ensures bound { result ≤ 366 }
+{
+    match rule.freq {
         Freq::Yearly => 366,
-        Freq::Monthly => 31,
-        Freq::Weekly => 7,
+        Freq::Monthly => most_days_of_month(rule),
+        Freq::Weekly => most_days_of_week(rule),
         _ => 1,
     }
 }
@@ -79,7 +160,7 @@ fn most_in_period(rule: &Rule) -> u64
 {
     let minutes = values_of(&rule.by_minute, 60);
     let seconds = values_of(&rule.by_second, 60);
-    most_days(rule.freq) * (most_hours(rule) * (minutes * seconds))
+    most_days(rule) * (most_hours(rule) * (minutes * seconds))
 }
 
 /// Whether a number names one of the first or the last so many places.
