@@ -1,4 +1,5 @@
 pub mod Added
+pub mod Bounds
 pub mod Chains
 pub mod Counted
 pub mod Entries

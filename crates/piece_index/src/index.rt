@@ -31,18 +31,23 @@ pub struct Index {
     /// How many rows the pieces have in all.
     rows: u64,
     budget: u64,
+    /// No piece has a window below this one, nor one above the next. Pieces that go leave both as
+    /// they are.
+    least_window: i32,
+    greatest_window: i32,
 }
 
 impl Model for Index {
     ghost use Rattle.cal_model.specs.Pieces.KeptPieces.{KeptPieces};
     ghost use Rattle.piece_index.specs.Counted.{IsCounted};
     ghost use Rattle.piece_index.specs.Entries.{pieces_of};
+    ghost use Rattle.piece_index.specs.Bounds.{AreBetween};
 
     ghost Value = { KeptPieces };
 
     ghost view = { λ i. record { budget = i.budget; pieces = pieces_of i.chains } };
 
-    ghost invariant = { λ i. IsCounted i.rows i.budget (pieces_of i.chains) };
+    ghost invariant = { λ i. IsCounted i.rows i.budget (pieces_of i.chains) × AreBetween i.least_window i.greatest_window (pieces_of i.chains) };
 }
 
 impl Index {
@@ -56,13 +61,20 @@ impl Index {
             chains: Chains::new(alloc),
             rows: 0,
             budget,
+            least_window: i32::MAX,
+            greatest_window: i32::MIN,
         }
     }
 
     /// The rows of the piece of an object in a window, found along the object's chain. Takes no memory.
+    ///
+    /// A window outside those of all pieces is answered at once.
     pub fn get(&self, origin: u64, window: i32) -> Option<&List<Row>>
         ensures { option_copied result ≡ rows_at origin window self.now.pieces }
     {
+        if window < self.least_window || window > self.greatest_window {
+            return None;
+        }
         self.chains.find(origin, window)
     }
 
@@ -86,9 +98,12 @@ impl Index {
         if needed > self.budget {
             return Added::Full(piece);
         }
+        let window = piece.window;
         if let Err(piece) = self.chains.put(piece) {
             return Added::NoMemory(piece);
         }
+        self.least_window = self.least_window.min(window);
+        self.greatest_window = self.greatest_window.max(window);
         let rows = u128::from(self.rows) + u128::from(needed);
         self.rows = self.chains.shrink(rows, self.budget);
         Added::Done

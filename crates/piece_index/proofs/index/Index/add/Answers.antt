@@ -1,10 +1,13 @@
 use Rattle.std.proofs.Common.{ℕ, List, ◌≡◌, ◌≤◌, ◌-◌, ◌∙◌, ap, sym, subst, arith, [], ◌∷◌, ◌++◌, length, None}
+use Rattle.std.proofs.lemmas.Int.{ints}
 use Rattle.cal_model.specs.declared.piece.Piece.{Piece}
 use Rattle.cal_model.specs.Pieces.KeptPieces.{KeptPieces}
 use Rattle.cal_model.specs.Pieces.PieceLists.{ArePairsApart, rows_at, rows_in, newest_within}
 use Rattle.piece_index.specs.Entries.{pieces_of}
 use Rattle.cal_model.proofs.Pieces.PieceListLaws.{rows_in_append, newest_stays, apart_within, apart_snoc}
 use Rattle.cal_model.proofs.Pieces.FoundPieces.{found_after_add}
+use Rattle.piece_index.specs.Bounds.{AreBetween}
+use Rattle.piece_index.proofs.BoundLemmas.{between_after_add}
 use Rattle.piece_index.proofs.index.Index.add.Goals as goal
 
 pub shrink-self-inside-requires : goal.shrink-self-inside-requires
@@ -20,11 +23,16 @@ invariant_of-self-2 c =
     let now = c.shrink-self-inside.ensures.pieces ∙ ap (λ es. newest_within c.self.inside.budget (pieces_of es)) c.in_default.ensures.ok.1 in
     let new : rows_at c.args.piece.origin c.args.piece.window (pieces_of c.self.inside.chains) ≡ None =
     ap (λ s. rows_at c.args.piece.origin c.args.piece.window s.pieces) c.self.view_is ∙ c.requires in
-    record {
-      counted = c.shrink-self-inside.ensures.rows;
-      fits = c.shrink-self-inside.ensures.fits;
-      apart = subst ArePairsApart (sym now) (apart_within c.self.inside.budget _ (apart_snoc c.args.piece (pieces_of c.self.inside.chains) c.self.invariant.apart new));
-    }
+    let least = c.min-self-inside.ensures in
+    let greatest = c.max-self-inside.ensures in (
+      record {
+        counted = c.shrink-self-inside.ensures.rows;
+        fits = c.shrink-self-inside.ensures.fits;
+        apart = subst ArePairsApart (sym now) (apart_within c.self.inside.budget _ (apart_snoc c.args.piece (pieces_of c.self.inside.chains) c.self.invariant.0.apart new));
+      },
+      subst (AreBetween _ _) (sym now)
+          (between_after_add c.self.inside.budget c.self.inside.least_window c.self.inside.greatest_window _ _ c.args.piece (pieces_of c.self.inside.chains) (omega (arith, ints, least.self_bound)) (omega (arith, ints, greatest.self_bound)) (omega (arith, ints, least.other_bound)) (omega (arith, ints, greatest.other_bound)) c.self.invariant.1),
+    )
 
 abbrev state : ℕ → List Piece → KeptPieces
 state budget pieces = record { budget = budget; pieces = pieces }
