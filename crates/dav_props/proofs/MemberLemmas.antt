@@ -23,7 +23,8 @@ use Rattle.std.specs.Ordering.{is_lt}
 use Rattle.std.specs.Map.{values_of}
 use Rattle.cal_model.proofs.State.NameWalkLaws.{home-sound}
 use Rattle.dav_props.specs.Subjects.{calendar_sight}
-use Rattle.dav_props.specs.Finding.{IsUpTo, asking, calendar_text, calendars_of, members_text, object_text, objects_of, with_last}
+use Rattle.object_walk.specs.WalkedObjects.{objects_at}
+use Rattle.dav_props.specs.Finding.{IsUpTo, asking, calendar_text, calendars_of, members_text, object_text, with_last}
 use Rattle.dav_props.proofs.SeenLemmas.{calendar_by, no_calendar, some_calendar, sight_there, calendar_seen, sight_is, some_held, unseen_of}
 
 -- Up to a limit
@@ -170,7 +171,7 @@ module _ (directory : Directory) (state : ServerState) (who : ℕ) (props : Prop
   -- the calendar's sight, and the responses of the objects that are seen
   pub members_of_calendar : (user within : List ℕ) (owner : ℕ) (kept : CalendarData) (held : ℕ) → IsSound directory state → Some owner ≡ user_number directory user → Some kept ≡ data_at state owner within
       → held ≡ privileges_held [] kept.acl.grants owner who → has_all held read ≡ true
-      → (sight : Sight) × (sight.held ≡ held) × (flat_map (object_text directory who props user within sight) (objects_of state owner within) ≡ members_text directory state who props (CalendarPath user within))
+      → (sight : Sight) × (sight.held ≡ held) × (flat_map (object_text directory who props user within sight) (objects_at state owner within) ≡ members_text directory state who props (CalendarPath user within))
   members_of_calendar user within owner kept held sound known e is all =
       let there = some_calendar directory state who owner within kept e in
       let same : held ≡ held_on directory owner who there.0 = is ∙ ap (λ (k : CalendarData). privileges_held [] k.acl.grants owner who) there.2 in

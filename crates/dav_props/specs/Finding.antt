@@ -14,7 +14,7 @@ use Rattle.cal_model.specs.Serving.ReadingReplies.{find_reply, too_long, members
 use Rattle.cal_model.specs.Serving.SeenResources.{scene_seen}
 use Rattle.cal_model.specs.Sight.Resources.{Resource, Asker, calendar, object}
 use Rattle.cal_model.specs.Sight.Views.{Sight, held_on, sight_of}
-use Rattle.cal_model.specs.State.ServerState.{Directory, Calendar, Home, ServerState, home_at, calendar_at}
+use Rattle.cal_model.specs.State.ServerState.{Directory, Calendar, Home, ServerState, home_at}
 use Rattle.multistatus.specs.Answered.{IsAnswered}
 use Rattle.multistatus.specs.declared.responses.Response.{Response}
 use Rattle.dav_props.specs.declared.rows.Asked.{Asked}
@@ -84,9 +84,6 @@ with_last other name = other
 
 abbrev pub calendars_of : ServerState → ℕ → Named Calendar
 calendars_of state owner = flat_map (λ (home : Home). home.calendars) (option_to_list (home_at state owner))
-
-abbrev pub objects_of : ServerState → ℕ → List ℕ → Named (List ℕ)
-objects_of state owner within = flat_map (λ (c : Calendar). c.objects) (option_to_list (calendar_at state owner within))
 
 -- the response of a calendar of a home, where it is visible
 abbrev pub calendar_text : Directory → ℕ → Props → ℕ → List ℕ → List ℕ × Calendar → List ℕ

@@ -8,7 +8,8 @@ ghost use Rattle.cal_model.specs.Sight.Views.{Sight};
 ghost use Rattle.cal_model.specs.State.ServerState.{Calendar};
 ghost use Rattle.cal_model.specs.State.SoundStates.{AreToUsers};
 ghost use Rattle.cal_model.specs.State.StoredData.{data_of};
-ghost use Rattle.dav_props.specs.Finding.{IsUpTo, calendar_text, calendars_of, members_text, names_asked, object_text, objects_of, with_last};
+ghost use Rattle.object_walk.specs.WalkedObjects.{objects_at};
+ghost use Rattle.dav_props.specs.Finding.{IsUpTo, calendar_text, calendars_of, members_text, names_asked, object_text, with_last};
 
 use crate::subjects::{Subject, has_all};
 use crate::telling::push_resource;
@@ -185,7 +186,7 @@ fn push_read_members<V: Walks>(
 ) -> Result<(), NoMemory>
     requires user { seen.now.who < length (V.directory seen.now.view.now).names }
     requires named { named.now ≡ names_asked props.now }
-    ensures { OnOk result ((sight : Sight) → sight.held ≡ held → IsUpTo answer_limit out.new (out.old ++ flat_map (object_text (V.directory seen.now.view.now) seen.now.who props.now user.now calendar.now sight) (objects_of (V.state seen.now.view.now) owner calendar.now))) }
+    ensures { OnOk result ((sight : Sight) → sight.held ≡ held → IsUpTo answer_limit out.new (out.old ++ flat_map (object_text (V.directory seen.now.view.now) seen.now.who props.now user.now calendar.now sight) (objects_at (V.state seen.now.view.now) owner calendar.now))) }
 {
     let mut member = Path::Object(
         Octets::of(alloc, user.as_slice())?,
@@ -224,7 +225,7 @@ fn push_objects<V: Walks>(
     requires user { seen.now.who < length (V.directory seen.now.view.now).names }
     requires named { named.now ≡ names_asked props.now }
     requires member { (name : List ℕ) → with_last member.old name ≡ ObjectPath user.now calendar.now name }
-    ensures { OnOk result ((sight : Sight) → sight.held ≡ held → IsUpTo answer_limit out.new (out.old ++ flat_map (object_text (V.directory seen.now.view.now) seen.now.who props.now user.now calendar.now sight) (objects_of (V.state seen.now.view.now) owner calendar.now))) }
+    ensures { OnOk result ((sight : Sight) → sight.held ≡ held → IsUpTo answer_limit out.new (out.old ++ flat_map (object_text (V.directory seen.now.view.now) seen.now.who props.now user.now calendar.now sight) (objects_at (V.state seen.now.view.now) owner calendar.now))) }
 {
     'walk: for (stored, _) in seen.view.objects(owner, calendar) {
         if out.len() > ANSWER_LIMIT {

@@ -5,7 +5,8 @@ use Rattle.cal_model.specs.declared.path.Path.TheVariants.{Calendar as CalendarP
 use Rattle.cal_model.specs.Refusals.RequestLimits.{answer_limit}
 use Rattle.cal_model.specs.State.ServerState.{user_number}
 use Rattle.cal_model.specs.State.StoredData.{data_at}
-use Rattle.dav_props.specs.Finding.{members_text, object_text, objects_of}
+use Rattle.object_walk.specs.WalkedObjects.{objects_at}
+use Rattle.dav_props.specs.Finding.{members_text, object_text}
 use Rattle.dav_props.proofs.MemberLemmas.{members_of_calendar, no_members_of_no_user, no_members_of_none, no_members_unread, nothing_more, up_to_as}
 use Rattle.dav_props.proofs.members.push_calendar_members.Goals as goal
 
@@ -56,6 +57,6 @@ returns g c =
     (c.in-Some-calendar.ensures.«data» ∙ ap (data_at state owner) c.as_slice-2.ensures) c.held-held.ensures (sym c.if-not-has_all.ensures) in
     on_ok_then c.push_read_members.result
     (λ up.
-    up_to_as answer_limit c.push_read_members.new.out (c.args.out.now ++ flat_map (object_text directory who props user within seen.0) (objects_of state owner within)) (c.args.out.now ++ members_text directory state who props (CalendarPath user within))
+    up_to_as answer_limit c.push_read_members.new.out (c.args.out.now ++ flat_map (object_text directory who props user within seen.0) (objects_at state owner within)) (c.args.out.now ++ members_text directory state who props (CalendarPath user within))
     (ap (λ text. c.args.out.now ++ text) seen.2) (up seen.0 seen.1))
     c.push_read_members.ensures

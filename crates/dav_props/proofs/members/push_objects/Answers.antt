@@ -2,8 +2,8 @@ use Rattle.std.proofs.Common.{ℕ, ◌++◌, ◌<◌, List, length, map, ap, ◌
 use Rattle.std.specs.Prelude.{flat_map}
 use Rattle.cal_model.specs.declared.stored.Stored.{Stored}
 use Rattle.cal_model.specs.Refusals.RequestLimits.{answer_limit}
-use Rattle.object_walk.specs.WalkedObjects.{named_octets}
-use Rattle.dav_props.specs.Finding.{object_text, objects_of}
+use Rattle.object_walk.specs.WalkedObjects.{named_octets, objects_at}
+use Rattle.dav_props.specs.Finding.{object_text}
 use Rattle.dav_props.proofs.MemberLemmas.{step_on, up_to_front, up_to_whole, written_all}
 use Rattle.dav_props.proofs.members.push_objects.Goals as goal
 
@@ -22,7 +22,7 @@ returns-then-len-gt-ANSWER_LIMIT g c sight is =
     let who = c.args.seen.now.who in
     let text = object_text directory who c.args.props.now c.args.user.now c.args.calendar.now sight in
     let past : answer_limit < length c.walk.out = omega (arith, c.len.ensures, c.if-len-gt-ANSWER_LIMIT.true) in
-    up_to_front answer_limit c.walk.out (flat_map text (map named_octets c.walk.stored-iterator)) (c.args.out.now ++ flat_map text (objects_of state c.args.owner c.args.calendar.now)) past
+    up_to_front answer_limit c.walk.out (flat_map text (map named_octets c.walk.stored-iterator)) (c.args.out.now ++ flat_map text (objects_at state c.args.owner c.args.calendar.now)) past
     (c.walk.invariant.text sight is)
 
 pub walk-preserved : goal.walk-preserved
@@ -38,7 +38,7 @@ walk-preserved g c =
           λ sight is.
           let text = object_text directory who c.args.props.now c.args.user.now c.args.calendar.now sight in
           step_on text pair (map named_octets c.next.new.self) (map named_octets c.walk.stored-iterator) c.walk.out c.push_object.new.out
-          (c.args.out.now ++ flat_map text (objects_of state c.args.owner c.args.calendar.now))
+          (c.args.out.now ++ flat_map text (objects_at state c.args.owner c.args.calendar.now))
           (c.in_ok-push_object.ensures.text sight is ∙ ap (λ (s : Stored). c.walk.out ++ text (s.path.object, s.octets)) c.deref.ensures) (ap (map named_octets) c.in-Some.ensures.steps) (c.walk.invariant.text sight is);
     }
 
@@ -48,6 +48,6 @@ returns g c sight is =
     let state = g.V.View.state c.args.seen.now.view.now in
     let who = c.args.seen.now.who in
     let text = object_text directory who c.args.props.now c.args.user.now c.args.calendar.now sight in
-    let whole = c.args.out.now ++ flat_map text (objects_of state c.args.owner c.args.calendar.now) in
+    let whole = c.args.out.now ++ flat_map text (objects_at state c.args.owner c.args.calendar.now) in
     up_to_whole answer_limit c.walk.out whole
     (written_all text (map named_octets c.walk.stored-iterator) c.walk.out whole (ap (map named_octets) c.in-None.ensures.steps.0) (c.walk.invariant.text sight is))
