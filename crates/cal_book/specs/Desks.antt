@@ -1,6 +1,6 @@
 -- What a desk tells of an event: a reply, or the fault by which it is broken.
 -- Given: what was told, and the book that the desk means before and after.
-use Rattle.std.specs.Prelude.{◌≡◌, ◌≢◌, ◌⊎◌, ℕ, Bool, true, false, []}
+use Rattle.std.specs.Prelude.{◌≡◌, ◌≢◌, ◌⊎◌, Bool, true, false, []}
 use Rattle.cal_model.specs.declared.reply.Reply.{Reply as ReplyData}
 use Rattle.cal_model.specs.declared.request.Event.{Event}
 use Rattle.cal_book.specs.Cores.{Core, state_in}

@@ -1,4 +1,4 @@
-use Rattle.std.proofs.Common.{◌∙◌, sym, ap, subst, map, length}
+use Rattle.std.proofs.Common.{◌∙◌, sym, ap, subst, map}
 use Rattle.std.proofs.lemmas.List.{length-map}
 use Rattle.cal_model.specs.History.KeptChanges.{kept_change}
 use Rattle.cal_model.specs.History.Origins.{origins_after}
