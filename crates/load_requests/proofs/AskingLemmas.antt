@@ -1,13 +1,13 @@
 -- One more request was written and read.
-use Rattle.std.proofs.Common.{◌≡◌, ℕ, zero, suc, ◌+◌, ◌*◌, ◌%◌, List, [], ◌∷◌, ◌++◌, length, refl, sym, ap, ◌∙◌, subst, arith, append_assoc, length-append}
+use Rattle.std.proofs.Common.{◌≡◌, ℕ, zero, suc, ◌+◌, ◌*◌, List, [], ◌∷◌, ◌++◌, length, refl, sym, ap, ◌∙◌, subst, arith, append_assoc, length-append}
 use Rattle.std.specs.Prelude.{flat_map, codes, decimal, ◌≤◌, Result, Ok, Err, OnOk}
 use Rattle.std.specs.List.{AllZip, range_with_len}
 use Rattle.std.proofs.lemmas.Grind.{flat_map-append}
 use Rattle.std.proofs.lemmas.List.{append-nil}
 use Rattle.cal_model.specs.declared.request.Request.{Request}
 use Rattle.cal_model.specs.declared.wire.WireRequest.{WireRequest}
-use Rattle.cal_model.specs.Load.LoadRequests.{load_user, load_body, drawn_body, after_draws, next_draw, first_number, drawn_below, draw, put_of, asked_after}
-use Rattle.cal_model.specs.Streams.StreamRequests.{ends_idle, front, idle, Begins, Spells}
+use Rattle.cal_model.specs.Load.LoadRequests.{load_user, load_body, drawn_body, after_draws, next_draw, first_number, drawn_below, put_of, asked_after}
+use Rattle.cal_model.specs.Streams.StreamRequests.{front, idle, Begins}
 use Rattle.cal_model.specs.Streams.WireLimits.{body_limit}
 use Rattle.cal_model.specs.Users.UsersFile.{User}
 use Rattle.cal_model.proofs.Streams.ReadingLaws.{streams_grow}

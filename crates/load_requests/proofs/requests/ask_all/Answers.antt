@@ -1,4 +1,4 @@
-use Rattle.std.proofs.Common.{◌≡◌, List, ◌∷◌, [], ◌++◌, subst}
+use Rattle.std.proofs.Common.{List, ◌∷◌, [], ◌++◌, subst}
 use Rattle.cal_model.specs.declared.request.Request.{Request}
 use Rattle.cal_model.specs.Load.LoadRequests.{put_of}
 use Rattle.load_requests.specs.DrawnEvents.{first_requests}

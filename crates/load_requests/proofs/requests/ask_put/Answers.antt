@@ -1,10 +1,6 @@
-use Rattle.std.proofs.Common.{◌≡◌, ◌∙◌, List, ℕ, ◌++◌, length, ap, sym, true}
-use Rattle.std.specs.Prelude.{codes, decimal, None}
-use Rattle.cal_model.specs.declared.path.Path.TheVariants.{Object}
-use Rattle.cal_model.specs.declared.request.Content.TheVariants as content
-use Rattle.cal_model.specs.declared.request.Method.TheVariants.{Put}
-use Rattle.cal_model.specs.declared.request.Request.{Request}
-use Rattle.cal_model.specs.Load.LoadRequests.{load_body, load_user, drawn_body, put_of}
+use Rattle.std.proofs.Common.{◌≡◌, ◌∙◌, ◌++◌}
+use Rattle.std.specs.Prelude.{codes, decimal}
+use Rattle.cal_model.specs.Load.LoadRequests.{put_of}
 use Rattle.load_requests.proofs.AskingLemmas.{asked-as, put-is}
 use Rattle.load_requests.proofs.requests.ask_put.Goals as goal
 
