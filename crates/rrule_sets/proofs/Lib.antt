@@ -16,3 +16,5 @@ pub mod StartsInRange
 pub mod UndatedLemmas
 pub mod WindowedRows
 pub mod SeveralLemmas
+pub mod TableLemmas
+pub mod OnceLemmas

@@ -8,3 +8,4 @@ pub mod ExpandableObjects
 pub mod CountedRows
 pub mod NearRows
 pub mod SeveralWindows
+pub mod HappensOnce

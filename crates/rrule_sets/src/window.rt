@@ -11,6 +11,7 @@ ghost use Rattle.rrule_sets.specs.NeededDigits.{EndsBy};
 
 use crate::instances::instances;
 use crate::needed::needed;
+use crate::once::{only_row, row_in_windows};
 use crate::range::Digits;
 use cal_base::{List, NoMemory, Steps};
 use cal_model::{Component, LocalTimes, Object, Row, Rules};
@@ -111,6 +112,9 @@ pub fn window_rows<L: Ledger>(
     ensures rows { IfOk result (λ rows. rows ≡ spec.rows_in object.now window) }
 {
     steps.tick();
+    if let Some((row, its)) = only_row(object) {
+        return row_in_windows(alloc, row, its, &[window]);
+    }
     let Some(ids) = ids_start(object) else {
         return Ok(List::new(alloc));
     };

@@ -11,6 +11,7 @@ ghost use Rattle.rrule_sets.specs.SeveralWindows.{IsNeeded, looks_of};
 
 use crate::near::near_rows;
 use crate::needed::needed;
+use crate::once::{only_row, row_in_windows};
 use crate::range::Digits;
 use crate::window::{master_rows, rows_beside};
 use cal_base::{List, NoMemory, Steps};
@@ -239,6 +240,9 @@ pub fn windows_rows<L: Ledger>(
     ensures steps { steps.new ≤ steps.old + sum (map (cost object.now) windows.now) }
     ensures rows { IfOk result (λ rows. rows ≡ flat_map (spec.rows_in object.now) windows.now) }
 {
+    if let Some((row, its)) = only_row(object) {
+        return row_in_windows(alloc, row, its, windows);
+    }
     let Some(ids) = ids_start(object) else {
         return Ok(List::new(alloc));
     };
