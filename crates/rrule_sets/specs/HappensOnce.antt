@@ -1,5 +1,5 @@
 -- Objects that happen once: one component with a start, and nothing that gives it another or takes this one away. From RFC 5545, 3.8.5.
-use Rattle.std.specs.Prelude.{Bool, ◌&&◌, false, List, [], ◌∷◌, is_none, is_some, ℤ}
+use Rattle.std.specs.Prelude.{◌≡◌, Bool, ◌&&◌, false, true, Some, List, [], ◌∷◌, is_none, is_some, ℤ}
 use Rattle.cal_moment.specs.declared.stamp.Stamp.{Stamp}
 use Rattle.cal_model.specs.declared.object.Component.{Component}
 use Rattle.cal_model.specs.declared.object.Extent.{Extent}
@@ -30,3 +30,12 @@ row_from_start zones s extent = row_of (value_of zones s) (value_of zones s) (en
 -- the window in which a stamp lies, by its own clock
 abbrev pub window_of_start : List ZoneTable → Stamp → ℤ
 window_of_start zones s = window_at ((reading_of zones s).local (value_of zones s))
+
+-- a row is that of the one component of an object, from its own start
+pub record IsOnlyRow (object : Object) (row : Row) : Type 0 where
+  pub component : Component
+  pub stamp : Stamp
+  pub alone : object.components ≡ component ∷ []
+  pub plain : is_plain component ≡ true
+  pub start : own_start component ≡ Some stamp
+  pub is : row ≡ row_from_start object.zones stamp component.extent

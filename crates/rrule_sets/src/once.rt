@@ -6,7 +6,7 @@ ghost use Rattle.cal_model.specs.Objects.ObjectFacts.{IsRead};
 ghost use Rattle.cal_model.specs.TimeZones.TableBounds.{IsTable};
 ghost use Rattle.cal_model.specs.Words.Integers.{same_int};
 ghost use Rattle.override_merge.specs.Conversions.{IsConvertible, IsConvertibleExtent};
-ghost use Rattle.rrule_sets.specs.HappensOnce.{is_plain, has_one_start, happens_once, row_from_start, window_of_start};
+ghost use Rattle.rrule_sets.specs.HappensOnce.{is_plain, has_one_start, happens_once, row_from_start, window_of_start, IsOnlyRow};
 
 use crate::tables::{local_beside, own_end, value_of};
 use cal_base::{List, NoMemory};
@@ -73,6 +73,7 @@ pub fn only_row(object: &Object) -> Option<(Row, i32)>
     ensures undated { IfSome result (λ only. spec.undated_rows object.now ≡ []) }
     ensures overrides { IfSome result (λ only. spec.overrides object.now ≡ []) }
     ensures found { is_some result ≡ happens_once object.now }
+    ensures only { IfSome result (λ only. IsOnlyRow object.now only.0) }
 {
     let (component, stamp) = only_start(object.components.as_slice())?;
     let zones = object.zones.as_slice();

@@ -28,3 +28,17 @@ returns-clause-rows c =
     let window = c.row_from_start.ensures.window ∙ ap (λ (zones : List ZoneTable). window_of_start zones stamp) c.as_slice-zones.ensures in
     rw (row, window)
     (rows_once c.args.object.now c.in_ok-component.component.now c.in_ok-component.stamp (plain_is c.in_ok-component.component.now found.1.0) found.0 found.1.1)
+
+pub returns-clause-only : goal.returns-clause-only
+returns-clause-only c =
+    let found = rw c.as_slice.ensures at c.in_ok-component.ensures in
+    let stamp = c.in_ok-component.stamp in
+    let extent = c.in_ok-component.component.now.extent in
+    record {
+      component = c.in_ok-component.component.now;
+      stamp = stamp;
+      alone = found.0;
+      plain = found.1.0;
+      start = found.1.1;
+      is = c.row_from_start.ensures.row ∙ ap (λ (zones : List ZoneTable). row_from_start zones stamp extent) c.as_slice-zones.ensures;
+    }
