@@ -1,6 +1,7 @@
 -- The rows of overrides beside starts by their days are those of the definition, and so are the rows that no name in order names.
 use Rattle.std.proofs.Common.{◌≡◌, ℕ, suc, ◌+◌, List, [], ◌∷◌, ◌++◌, length, map, refl, sym, ap, ◌∙◌, Bool, true, false, ℤ, inl, inr}
-use Rattle.std.specs.Prelude.{filter, flat_map, not, option_to_list, Option, Some, None}
+use Rattle.std.specs.Prelude.{filter, flat_map, is_some, not, option_to_list, Option, Some, None}
+use Rattle.std.specs.List.{list_any}
 use Rattle.std.proofs.lemmas.Bool.{cases_Bool}
 use Rattle.std.proofs.lemmas.List.{append_assoc, append-nil}
 use Rattle.std.proofs.lemmas.List.Elements.{filter-append}
@@ -109,6 +110,21 @@ module _ (object : Object) (ids : Stamp) (rows : List Row) (days : List (ℤ × 
       ∙ ap (λ kept. filter (lies_in object asked) (flat_map (override_row object ids (map (λ (r : Row). r.id) rows)) (overrides object)) ++ filter (lies_in object asked) kept)
       (filter_same (λ (r : Row). not (has_name (reading_of object.zones ids) r.id names)) (λ (r : Row). not (is_named object ids r.id)) rows
       (λ r. ap not (has_name-is (reading_of object.zones ids) r.id (named_beside object.zones ids object.components) names is ∙ sym (is_named-names object ids r.id))))
+
+-- Without overrides each row stays.
+
+no_overrides : (number : ℕ) (cs : List Component) → list_any (λ (c : Component). is_some c.recurrence_id) cs ≡ false → filter has_id (numbered_from number cs) ≡ []
+no_overrides number [] none = refl
+no_overrides number (c ∷ cs) none = elim (cases_Bool (is_some c.recurrence_id)) [
+  | inl w ↦ absurd (let e = rw w at none in cc)
+  | inr w ↦ rw w (no_overrides (number + 1) cs (rw w at none))
+]
+
+pub merged_alone : (object : Object) (ids : Stamp) (rows : List Row) (asked : Part) → list_any (λ (c : Component). is_some c.recurrence_id) object.components ≡ false →
+    filter (lies_in object asked) rows
+    ≡ filter (lies_in object asked) (flat_map (override_row object ids (map (λ (r : Row). r.id) rows)) (overrides object))
+    ++ filter (lies_in object asked) (filter (λ (r : Row). not (is_named object ids r.id)) rows)
+merged_alone object ids rows asked none = let alone : overrides object ≡ [] = no_overrides 0 object.components none in rw (alone, filter_all rows) refl
 
 -- All rows are asked for.
 pub merged_all : (object : Object) (ids : Stamp) (own kept : List Row) → filter (lies_in object part.All) own ++ filter (lies_in object part.All) kept ≡ own ++ kept

@@ -1,5 +1,6 @@
 //! The rows of an object from those of its master (RFC 5545, 3.8.4.4).
-ghost use Rattle.std.specs.Prelude.{◌≡◌, ℕ, ◌+◌, ◌<◌, ◌≤◌, ◌^◌, IfSome, option_to_list, ◌++◌, ◌∷◌, List, [], length, All, AllPairs, IfOk, OnOk, filter, flat_map, map, not, ℤ, pos, neg_ℤ};
+ghost use Rattle.std.specs.Prelude.{◌≡◌, ℕ, ◌+◌, ◌<◌, ◌≤◌, ◌^◌, IfSome, is_some, option_to_list, ◌++◌, ◌∷◌, List, [], length, All, AllPairs, IfOk, OnOk, filter, flat_map, map, not, ℤ, pos, neg_ℤ};
+ghost use Rattle.std.specs.List.{list_any};
 ghost use Rattle.cal_moment.specs.Calendar.{IsBetween};
 ghost use Rattle.cal_model.specs.Instances.Alignment as alignment;
 ghost use Rattle.cal_model.specs.Instances.Rows as spec;
@@ -16,7 +17,7 @@ use crate::rows::{Part, lies_in, own_row};
 use crate::starts::ids_start;
 use crate::zones::local_times;
 use cal_base::{List, NoMemory};
-use cal_model::{LocalTimes, Object, Row};
+use cal_model::{Component, LocalTimes, Object, Row};
 use cal_moment::Stamp;
 use std::alloc::Global;
 
@@ -116,11 +117,39 @@ fn put_unnamed_rows(
     Ok(())
 }
 
-/// The rows of a part: those of the overrides in place of the rows that they name, or added where they
-/// name none, by id, then component. The stamp is that beside which the ids of the object are aligned.
-/// An override by a local day takes its id from the rows that are given, so they have to hold those of
-/// each day that an override of the part names.
-pub fn merged_rows(
+/// Whether some component is an override.
+fn has_overrides(components: &[Component]) -> bool
+    ensures { result ≡ list_any (λ (c : Component). is_some c.recurrence_id) components.now }
+{
+    components
+        .iter()
+        .any(|component| component.recurrence_id.is_some())
+}
+
+/// The rows of a part, of an object without overrides: no row is named, and none is added.
+fn without_overrides(
+    alloc: Global,
+    zones: &[LocalTimes<'_>],
+    object: &Object,
+    rows: &[Row],
+    part: Part,
+) -> Result<List<Row>, NoMemory>
+    requires zones { tables_of zones.now ≡ object.now.zones }
+    requires object { HasConvertibleRows object.now }
+    requires near { All HasRowTimes rows.now }
+    ensures { IfOk result (λ out. out ≡ spec.in_order (filter (lies_in object.now part) rows.now)) }
+{
+    let mut out = List::new(alloc);
+    let mut rest = rows;
+    'rows: while let Some((row, behind)) = rest.split_first() {
+        put_row(zones, object, part, Some(*row), &mut out)?;
+        rest = behind;
+    }
+    put_in_order(out)
+}
+
+/// The rows of a part, of an object that may have overrides.
+fn with_overrides(
     alloc: Global,
     zones: &[LocalTimes<'_>],
     ids: Stamp,
@@ -142,6 +171,33 @@ pub fn merged_rows(
     put_own_rows(zones, ids, object, days.as_slice(), part, &mut out)?;
     put_unnamed_rows(zones, ids, object, &names, rows, part, &mut out)?;
     put_in_order(out)
+}
+
+/// The rows of a part: those of the overrides in place of the rows that they name, or added where they
+/// name none, by id, then component. The stamp is that beside which the ids of the object are aligned.
+/// An override by a local day takes its id from the rows that are given, so they have to hold those of
+/// each day that an override of the part names.
+pub fn merged_rows(
+    alloc: Global,
+    zones: &[LocalTimes<'_>],
+    ids: Stamp,
+    object: &Object,
+    rows: &[Row],
+    part: Part,
+) -> Result<List<Row>, NoMemory>
+    requires zones { tables_of zones.now ≡ object.now.zones }
+    requires object { HasConvertibleRows object.now }
+    requires ids { HasZone (length zones.now) ids }
+    requires near { All HasRowTimes rows.now }
+    ensures { IfOk result (λ merged. merged ≡ spec.in_order
+        (filter (lies_in object.now part) (flat_map (spec.override_row object.now ids (map (λ (r : Row). r.id) rows.now)) (spec.overrides object.now))
+        ++ filter (lies_in object.now part) (filter (λ (r : Row). not (spec.is_named object.now ids r.id)) rows.now))) }
+{
+    if has_overrides(object.components.as_slice()) {
+        with_overrides(alloc, zones, ids, object, rows, part)
+    } else {
+        without_overrides(alloc, zones, object, rows, part)
+    }
 }
 
 /// The rows of a master with the overrides of its object put in: the row of an override stands in place
