@@ -108,6 +108,16 @@ pub fn names_of_overrides(
     names_of(values, days)
 }
 
+/// Whether some day is that of a start, by the clock of a stamp. Without a day none is made of the start.
+fn is_on_day(zones: &[LocalTimes<'_>], ids: Stamp, days: &List<i64>, start: i64) -> bool
+    requires ids { HasZone (length zones.now) ids }
+    requires days { AllPairs IsBelow days.now }
+    requires near { IsBetween (neg_ℤ (pos 180_000_000_000_000)) (pos 180_000_000_000_000) start }
+    ensures { result ≡ list_any (same_int (alignment.midnight_of ((alignment.reading_of (tables_of zones.now) ids).local start))) days.now }
+{
+    !days.is_empty() && is_among(days, midnight_of(local_beside(zones, ids, start)))
+}
+
 /// Whether a start is named, in the steps of two searches.
 pub fn is_named(zones: &[LocalTimes<'_>], ids: Stamp, names: &Names, start: i64) -> bool
     requires ids { HasZone (length zones.now) ids }
@@ -116,6 +126,5 @@ pub fn is_named(zones: &[LocalTimes<'_>], ids: Stamp, names: &Names, start: i64)
     requires near { IsBetween (neg_ℤ (pos 180_000_000_000_000)) (pos 180_000_000_000_000) start }
     ensures { result ≡ has_name (alignment.reading_of (tables_of zones.now) ids) start names.now }
 {
-    is_among(&names.values, start)
-        || is_among(&names.days, midnight_of(local_beside(zones, ids, start)))
+    is_among(&names.values, start) || is_on_day(zones, ids, &names.days, start)
 }
