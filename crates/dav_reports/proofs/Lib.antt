@@ -11,6 +11,7 @@ pub mod LookedRows
 pub mod MetLemmas
 pub mod MissingWindows
 pub mod NeededRows
+pub mod OnlyRows
 pub mod QueryWalks
 pub mod RangeLemmas
 pub mod ReportLemmas

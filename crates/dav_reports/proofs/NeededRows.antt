@@ -78,7 +78,7 @@ rising_from first (suc n) =
     (rising_from (first + 1) n)
 
 -- and no two of those that a test holds for are one
-apart_stated : (p : ℤ → Bool) → AllPairs (λ (a b : ℤ). (a ≡ b) → ⊥) (filter p stated_windows)
+pub apart_stated : (p : ℤ → Bool) → AllPairs (λ (a b : ℤ). (a ≡ b) → ⊥) (filter p stated_windows)
 apart_stated p i j d lt below same =
     let less : IsBelow (get_or (filter p stated_windows) i d) (get_or (filter p stated_windows) j d) = AllPairs-filter IsBelow p stated_windows (rising_from 0 places) i j d lt below in
     omega (arith, ints, less, same)

@@ -284,3 +284,7 @@ at_second n w = elim (cases_Bool (same_int w (window_at n))) [
     | inr none ↦ rw (t, none) refl
   ]
 ]
+
+-- a window begins where the one before it ends
+pub window_next : (w : ℤ) → (w *ℤ pos 5_529_600) +ℤ pos 5_529_600 ≡ (w +ℤ pos 1) *ℤ window_seconds
+window_next w = omega (arith, ints)

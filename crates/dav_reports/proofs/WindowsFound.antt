@@ -1,6 +1,6 @@
 -- The windows that are found are those that a report needs.
 use Rattle.std.proofs.Common.{◌≡◌, ℕ, zero, suc, ◌+◌, ◌<◌, Bool, true, false, List, [], ◌∷◌, length, map, Option, Some, None, refl, sym, ap, ◌∙◌, arith, ℤ, inl, inr}
-use Rattle.std.specs.Prelude.{All, ◌==◌, ◌&&◌, ◌||◌, not, filter, filter_map, flat_map, is_some, option_to_list, if◌then◌else◌}
+use Rattle.std.specs.Prelude.{All, AllPairs, ◌==◌, ◌&&◌, ◌||◌, not, filter, filter_map, flat_map, is_some, option_to_list, if◌then◌else◌}
 use Rattle.std.specs.List.{list_any}
 use Rattle.std.specs.List.Sorted.{IsPermutation}
 use Rattle.std.proofs.lemmas.Bool.{cases_Bool, eqb-true, false≢true}
@@ -11,15 +11,15 @@ use Rattle.cal_model.specs.declared.object.Component.{Component}
 use Rattle.cal_model.specs.declared.object.Object.{Object}
 use Rattle.cal_model.specs.declared.row.Range.{Range}
 use Rattle.cal_model.specs.declared.zone.ZoneTable.{ZoneTable}
-use Rattle.cal_model.specs.Instances.Rows.{has_id, numbered_from}
+use Rattle.cal_model.specs.Instances.Rows.{has_id, numbered_from, overrides}
 use Rattle.cal_model.specs.Instances.Starts.{own_start}
 use Rattle.cal_model.specs.Ranges.Cost.{margin, window_meets}
 use Rattle.cal_model.specs.Reports.NeededWindows.{counts, meets_some, stated_windows, window_of_override, override_windows as windows_of_overrides}
 use Rattle.cal_model.specs.Words.Integers.{same_int}
 use Rattle.cal_model.specs.Words.Lists.{is_empty}
 use Rattle.dav_reports.specs.declared.windows.Stretch.{Stretch}
-use Rattle.dav_reports.specs.Stretches.{IsStretch, Puts, override_windows, places, places_in, some_holds, holds, window_of_place, window_of_start, windows_at}
-use Rattle.dav_reports.proofs.StretchLemmas.{windows-tested}
+use Rattle.dav_reports.specs.Stretches.{IsStretch, Puts, StartsNoLater, override_windows, places, places_in, some_holds, holds, window_of_place, window_of_start, windows_at}
+use Rattle.dav_reports.proofs.StretchLemmas.{or_false, windows-tested}
 
 -- Overrides
 
@@ -94,3 +94,41 @@ windows_found object ranges old one two sorted some none by_range by_override mo
 
 pub stretches_found : (tests others : ℕ → Bool) (old one two sorted : List Stretch) → old ≡ [] → Puts tests old one → Puts others one two → IsPermutation two sorted → All IsStretch sorted
 stretches_found tests others old one two sorted none first second moved = All-permutation IsStretch two sorted moved (second.each (first.each (rw none (All-nil IsStretch))))
+
+-- Objects without overrides
+
+neither : (s t : Bool) → (s || t) ≡ false → (s ≡ false) × (t ≡ false)
+neither true t e = absurd cc
+neither false t e = (refl, e)
+
+overrides_none : (k : ℕ) (cs : List Component) → list_any (λ (c : Component). is_some c.recurrence_id) cs ≡ false → filter has_id (numbered_from k cs) ≡ []
+overrides_none k [] e = refl
+overrides_none k (c ∷ cs) e =
+    let both = neither (is_some c.recurrence_id) (list_any (λ (x : Component). is_some x.recurrence_id) cs) e in
+    rw both.0 (overrides_none (k + 1) cs both.1)
+
+pub no_overrides : (object : Object) → list_any (λ (c : Component). is_some c.recurrence_id) object.components ≡ false → overrides object ≡ []
+no_overrides object e = overrides_none 0 object.components e
+
+-- only what meets a range counts
+pub counts_alone : (object : Object) (ranges : List Range) (window : ℤ) → overrides object ≡ [] → meets_some object ranges window ≡ counts object ranges window
+counts_alone object [] window none = refl
+counts_alone object (range ∷ ranges) window none =
+    let meets = meets_some object (range ∷ ranges) window in
+    sym (or_false meets)
+    ∙ ap (λ ns. meets || list_any (same_int window) (filter_map (window_of_override object) ns)) (sym none)
+    ∙ ap (λ b. not b && (meets || list_any (same_int window) (windows_of_overrides object))) (sym (some_range (range ∷ ranges) (omega arith)))
+
+pub counts_one : (object : Object) (ranges more : List Range) (range : Range) (window : ℤ) → ranges ≡ range ∷ more → more ≡ [] → overrides object ≡ [] → window_meets (margin object) range window ≡ counts object ranges window
+counts_one object ranges more range window first last none =
+    sym (or_false (window_meets (margin object) range window))
+    ∙ counts_alone object (range ∷ []) window none
+    ∙ ap (λ rs. counts object rs window) (sym (first ∙ ap (λ rs. range ∷ rs) last))
+
+-- one stretch has all windows that count
+pub one_found : (object : Object) (ranges : List Range) (stretch : Stretch) → ((place : ℕ) → place < places → holds place stretch ≡ counts object ranges (window_of_place place))
+    → windows_at (places_in (stretch ∷ [])) ≡ filter (counts object ranges) stated_windows
+one_found object ranges stretch same = windows-tested (some_holds (stretch ∷ [])) (counts object ranges) (λ place below. or_false (holds place stretch) ∙ same place below)
+
+pub one_rising : (stretch : Stretch) → AllPairs StartsNoLater (stretch ∷ [])
+one_rising stretch i j d lt below = absurd (omega (arith, lt, below))

@@ -4,6 +4,7 @@ pub mod FreeBusyLines
 pub mod HeldWindows
 pub mod Lengths
 pub mod MetObjects
+pub mod NeededRows
 pub mod ObjectTimes
 pub mod PieceRows
 pub mod RangeDates

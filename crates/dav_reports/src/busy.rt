@@ -11,16 +11,15 @@ ghost use Rattle.overlap_rules.specs.Bounds.{IsNearRow};
 ghost use Rattle.dav_reports.specs.ObjectTimes.{IsNearStored, stored_times, times_by_windows, times_in, times_of_rows};
 ghost use Rattle.dav_reports.specs.PieceRows.{AreRowsOf, IsKept, windows_cost};
 
-use crate::rows::missing_first;
-use crate::windows::windows_needed;
+use crate::rows::{missing_first, windows_for};
+use crate::windows::is_needed;
 use cal_base::{List, NoMemory, Steps};
 use cal_model::view::Pieces;
 use cal_model::{Class, Component, Kind, Object, Range, Row, ZoneTable};
 use cal_moment::Period;
 use freebusy::BusyRow;
 use overlap_rules::{fixed, stored_period};
-use override_merge::zones::local_times;
-use rrule_sets::windows_rows;
+use rrule_sets::{only_row, windows_rows};
 use std::alloc::Global;
 use std::sync::ledger::Ledger;
 
@@ -128,6 +127,44 @@ fn put_missing<L: Ledger>(
     put_rows(object, rows.as_slice(), zone, out)
 }
 
+/// Puts the times of an object's rows in the windows that a range may need behind others. Of an object
+/// that happens once the row is found without looking for them.
+fn put_needed<P: Pieces, L: Ledger>(
+    alloc: Global,
+    pieces: &P,
+    origin: u64,
+    object: &Object,
+    range: Range,
+    zone: &ZoneTable,
+    out: &mut List<BusyRow>,
+    steps: &mut Steps<L>,
+) -> Result<(), NoMemory>
+    requires object { IsKept object.now }
+    requires right { AreRowsOf (P.held pieces.now) origin object.now }
+    requires zone { IsTable zone.now }
+    ensures steps { steps.new ≤ steps.old + windows_cost (P.held pieces.now) origin object.now (needed_windows object.now (FreeBusy range)) }
+    ensures times { OnOk result (times_of out.new ≡ times_of out.old ++ times_in zone.now object.now (needed_windows object.now (FreeBusy range))) }
+{
+    let Some((row, window)) = only_row(object) else {
+        let windows = windows_for(alloc, object, &[range])?;
+        return put_windows(
+            alloc,
+            pieces,
+            origin,
+            object,
+            windows.as_slice(),
+            zone,
+            out,
+            steps,
+        );
+    };
+    if is_needed(object, &row, &[range], window) {
+        put_row(object, &row, zone, out)
+    } else {
+        Ok(())
+    }
+}
+
 /// Puts a stored period behind other times, unless it is free.
 fn put_period(stored: &(Option<Class>, Period), out: &mut List<BusyRow>) -> Result<(), NoMemory>
     requires { IsNearStored stored.now }
@@ -200,25 +237,6 @@ pub(crate) fn put_object<P: Pieces, L: Ledger>(
     ensures steps { steps.new ≤ steps.old + windows_cost (P.held pieces.now) origin object.now (needed_windows object.now (FreeBusy range)) }
     ensures times { OnOk result (times_of out.new ≡ times_of out.old ++ times_by_windows zone.now object.now (needed_windows object.now (FreeBusy range))) }
 {
-    let windows = windows_of(alloc, object, range)?;
-    put_windows(
-        alloc,
-        pieces,
-        origin,
-        object,
-        windows.as_slice(),
-        zone,
-        out,
-        steps,
-    )?;
+    put_needed(alloc, pieces, origin, object, range, zone, out, steps)?;
     put_stored(object.components.as_slice(), out)
-}
-
-/// The windows of an object that a range may need.
-fn windows_of(alloc: Global, object: &Object, range: Range) -> Result<List<i32>, NoMemory>
-    requires { IsKept object.now }
-    ensures { IfOk result (λ windows. windows ≡ needed_windows object.now (FreeBusy range)) }
-{
-    let zones = local_times(alloc, object.zones.as_slice())?;
-    windows_needed(alloc, zones.as_slice(), object, &[range])
 }

@@ -1,5 +1,5 @@
 //! How far from its start a row can meet a range.
-ghost use Rattle.std.specs.Prelude.{◌≡◌, ℕ, ◌+◌, ◌*◌, ◌<◌, ◌^◌, List, length, map, flat_map, option_to_list, max, All, unsigned_abs, ◌-ℤ◌};
+ghost use Rattle.std.specs.Prelude.{◌≡◌, ℕ, ◌+◌, ◌*◌, ◌<◌, ◌^◌, List, length, map, flat_map, option_to_list, max, Some, All, unsigned_abs, ◌-ℤ◌};
 ghost use Rattle.cal_moment.specs.declared.stamp.Period.{Period};
 ghost use Rattle.cal_moment.specs.declared.stamp.Stamp.{Stamp};
 ghost use Rattle.cal_model.specs.declared.object.Component.{Component};
@@ -8,10 +8,12 @@ ghost use Rattle.cal_model.specs.Ranges.Cost as spec;
 ghost use Rattle.cal_model.specs.Ranges.Overlap.{seconds_of};
 ghost use Rattle.override_merge.specs.Conversions.{tables_of, IsConvertible, IsConvertibleExtent};
 ghost use Rattle.rrule_sets.specs.AskedStarts.{IsExpandable};
+ghost use Rattle.rrule_sets.specs.HappensOnce.{IsOnlyRow, row_from_start};
 ghost use Rattle.rrule_sets.specs.PeriodSpans.{IsConvertiblePeriod};
+ghost use Rattle.cal_model.specs.declared.zone.ZoneTable.{ZoneTable};
 ghost use Rattle.dav_reports.specs.Lengths.{start_distance};
 
-use cal_model::{Alarm, Component, Extent, LocalTimes, Object, Trigger};
+use cal_model::{Alarm, Component, Extent, LocalTimes, Object, Row, Trigger};
 use cal_moment::{Length, Period, PeriodEnd, Stamp};
 use override_merge::stamps::value_of;
 use override_merge::starts::own_start;
@@ -166,4 +168,39 @@ pub fn margin(zones: &[LocalTimes<'_>], object: &Object) -> u128
 {
     let components = object.components.as_slice();
     FOUR_DAYS + (longest(zones, components) + alarms_reach(components))
+}
+
+/// The size of the length that an extent writes, given the row of its component from the component's
+/// own start.
+fn row_length(extent: Extent, row: &Row) -> u128
+    ensures value { (zones : List ZoneTable) (s : Stamp) → row.now ≡ row_from_start zones s extent → result ≡ spec.extent_length zones (Some s) extent }
+    ensures small { result < 2 ^ 81 }
+{
+    match extent {
+        Extent::Lasting(length) => size_of(length),
+        Extent::End(_) => (row.end as i128 - row.start as i128).unsigned_abs(),
+        Extent::Due(_) => (row.end as i128 - row.start as i128).unsigned_abs(),
+        _ => 0,
+    }
+}
+
+/// The same of the components of an object that happens once.
+fn only_length(object: &Object, row: &Row) -> u128
+    requires { IsOnlyRow object.now row.now }
+    ensures value { result ≡ spec.longest object.now }
+    ensures small { result < 2 ^ 81 }
+{
+    match object.components.get(0) {
+        Some(component) => row_length(component.extent, row),
+        None => 0,
+    }
+}
+
+/// The same as `margin`, of an object that happens once, given its row: no stamp is converted.
+pub(crate) fn only_margin(object: &Object, row: &Row) -> u128
+    requires { IsOnlyRow object.now row.now }
+    ensures value { result ≡ spec.margin object.now }
+    ensures small { result < 2 ^ 115 }
+{
+    FOUR_DAYS + (only_length(object, row) + alarms_reach(object.components.as_slice()))
 }

@@ -21,13 +21,12 @@ ghost use Rattle.dav_reports.specs.SeenCalendars.{IsBody, IsWritten, MayRead, re
 use crate::names::names_to_ask;
 use crate::query::{ANSWER_LIMIT, finished, push_shown};
 use crate::ranges::ranges_of_selection;
-use crate::rows::{joined_rows, lent_rows, windows_for};
+use crate::rows::rows_for;
 use cal_base::{List, NameMap, NoMemory, Octets, Steps};
 use cal_model::view::{Pieces, View};
 use cal_model::{Path, PropAnswers, PropName, Props, Range, Seen, Selection, Stored, ZoneTable};
 use dav_write::read_path;
 use multistatus::{PropStatus, begin_multistatus, push_status_response};
-use rrule_sets::undated_rows;
 use std::alloc::Global;
 use std::sync::ledger::Ledger;
 
@@ -96,24 +95,20 @@ fn push_found<V: View, A: PropAnswers, P: Pieces, L: Ledger>(
     ensures steps { steps.new ≤ steps.old + windows_cost (P.held pieces.now) origin stored.now.object (windows_needed stored.now.object (Multiget NoProps select.now [])) }
     ensures response { (c : Calendar) → MayRead (V.directory seen.now.view.now) (V.state seen.now.view.now) seen.now.who home calendar.now c → value_at c.objects stored.now.path.object ≡ Some stored.now.octets → OnOk result (out.new ≡ out.old ++ object_response (reported_of (V.directory seen.now.view.now) seen.now.who home calendar.now c) select.now zone.now props.now (stored.now.path.object, stored.now.octets)) }
 {
-    let windows = windows_for(alloc, &stored.object, ranges)?;
-    let undated = undated_rows(alloc, &stored.object)?;
-    if let Some(rows) = lent_rows(pieces, origin, undated.as_slice(), windows.as_slice()) {
-        return push_shown(
-            alloc, seen, home, calendar, answers, stored, rows, props, names, select, zone, out,
-        );
-    }
-    let rows = joined_rows(
-        alloc,
-        pieces,
-        origin,
-        &stored.object,
-        undated.as_slice(),
-        windows.as_slice(),
-        steps,
-    )?;
+    let looked = rows_for(alloc, pieces, origin, &stored.object, ranges, steps)?;
     push_shown(
-        alloc, seen, home, calendar, answers, stored, &rows, props, names, select, zone, out,
+        alloc,
+        seen,
+        home,
+        calendar,
+        answers,
+        stored,
+        looked.rows(),
+        props,
+        names,
+        select,
+        zone,
+        out,
     )
 }
 

@@ -23,7 +23,7 @@ ghost use Rattle.dav_reports.specs.SeenCalendars.{IsBody, IsWritten, MayRead, re
 
 use crate::names::names_to_ask;
 use crate::ranges::ranges_of_query;
-use crate::rows::{joined_rows, lent_rows, windows_for};
+use crate::rows::rows_for;
 use crate::shown_response::push_object;
 use cal_base::{List, NoMemory, Octets, Steps};
 use cal_model::view::{Pieces, View};
@@ -34,7 +34,6 @@ use expand_limit::{shown, takes_all};
 use filter_eval::Prepared;
 use multistatus::{begin_multistatus, end_multistatus};
 use object_walk::Walks;
-use rrule_sets::undated_rows;
 use std::alloc::Global;
 use std::sync::ledger::Ledger;
 
@@ -170,25 +169,20 @@ fn push_sought<V: View, A: PropAnswers, P: Pieces, L: Ledger>(
     ensures steps { steps.new ≤ steps.old + windows_cost (P.held pieces.now) origin stored.now.object (filter (counts stored.now.object ranges.now) stated_windows) }
     ensures response { (c : Calendar) → MayRead (V.directory seen.now.view.now) (V.state seen.now.view.now) seen.now.who home calendar.now c → value_at c.objects stored.now.path.object ≡ Some stored.now.octets → OnOk result (out.new ≡ out.old ++ flat_map (object_response (reported_of (V.directory seen.now.view.now) seen.now.who home calendar.now c) select.now zone.now props.now) (filter (λ (entry : List ℕ × List ℕ). octets_match wanted.now zone.now entry.1) ((stored.now.path.object, stored.now.octets) ∷ []))) }
 {
-    let windows = windows_for(alloc, &stored.object, ranges)?;
-    let undated = undated_rows(alloc, &stored.object)?;
-    if let Some(rows) = lent_rows(pieces, origin, undated.as_slice(), windows.as_slice()) {
-        return push_if_matching(
-            alloc, seen, home, calendar, answers, stored, rows, wanted, props, names, select, zone,
-            out,
-        );
-    }
-    let rows = joined_rows(
-        alloc,
-        pieces,
-        origin,
-        &stored.object,
-        undated.as_slice(),
-        windows.as_slice(),
-        steps,
-    )?;
+    let looked = rows_for(alloc, pieces, origin, &stored.object, ranges, steps)?;
     push_if_matching(
-        alloc, seen, home, calendar, answers, stored, &rows, wanted, props, names, select, zone,
+        alloc,
+        seen,
+        home,
+        calendar,
+        answers,
+        stored,
+        looked.rows(),
+        wanted,
+        props,
+        names,
+        select,
+        zone,
         out,
     )
 }

@@ -1,20 +1,42 @@
 //! The rows of one object that a report looks at.
 ghost use Rattle.std.specs.Prelude.{◌≡◌, ℕ, ◌+◌, ◌≤◌, ◌++◌, All, IfOk, IfSome, OnOk, filter, flat_map, length, map, sum, take};
 ghost use Rattle.cal_model.specs.declared.object.Object.{Object as ObjectSpec};
-ghost use Rattle.cal_model.specs.Instances.Rows.{in_order, rows_in};
+ghost use Rattle.cal_model.specs.Instances.Rows.{in_order, rows_in, undated_rows};
 ghost use Rattle.cal_model.specs.Ranges.Cost.{cost};
 ghost use Rattle.cal_model.specs.Reports.NeededWindows.{counts, stated_windows};
+ghost use Rattle.dav_reports.specs.NeededRows.{rows_needed, rows_of};
 ghost use Rattle.dav_reports.specs.PieceRows.{AreRowsOf, IsKept, IsMissing, windows_cost};
 
-use crate::windows::windows_needed;
+use crate::windows::{is_needed, windows_needed};
 use cal_base::{List, NoMemory, Steps};
 use cal_model::view::Pieces;
 use cal_model::{Object, Range, Row};
 use override_merge::order::put_in_order;
 use override_merge::zones::local_times;
-use rrule_sets::windows_rows;
+use rrule_sets::{only_row, undated_rows, windows_rows};
 use std::alloc::Global;
 use std::sync::ledger::Ledger;
+
+/// The rows of an object that a report looks at.
+#[derive(Drop)]
+pub(crate) enum Looked<'a> {
+    /// Those of a piece.
+    Lent(&'a List<Row>),
+    /// Those that were found.
+    Found(List<Row>),
+}
+
+impl Looked<'_> {
+    /// The rows.
+    pub(crate) fn rows(&self) -> &List<Row>
+        ensures { result.now ≡ rows_of self.now }
+    {
+        match self {
+            Looked::Lent(rows) => rows,
+            Looked::Found(rows) => rows,
+        }
+    }
+}
 
 /// The windows of an object that a report of some ranges may need.
 pub(crate) fn windows_for(
@@ -27,6 +49,26 @@ pub(crate) fn windows_for(
 {
     let zones = local_times(alloc, object.zones.as_slice())?;
     windows_needed(alloc, zones.as_slice(), object, ranges)
+}
+
+/// The rows that a report of some ranges looks at, of an object that happens once: its row, where they
+/// may need the row's window, and else none. None for every other object.
+fn only_rows(
+    alloc: Global,
+    object: &Object,
+    ranges: &[Range],
+) -> Result<Option<List<Row>>, NoMemory>
+    requires { IsKept object.now }
+    ensures { IfOk result (λ found. IfSome found (λ rows. rows ≡ rows_needed object.now ranges.now)) }
+{
+    let Some((row, window)) = only_row(object) else {
+        return Ok(None);
+    };
+    let mut rows = List::new(alloc);
+    if is_needed(object, &row, ranges, window) {
+        rows.push(row)?;
+    }
+    Ok(Some(rows))
 }
 
 /// The rows of an object that has one window to be looked at, lent from the piece of that window; none
@@ -135,4 +177,57 @@ pub(crate) fn joined_rows<P: Pieces, L: Ledger>(
     let mut rows = List::of(alloc, undated)?;
     rows.extend_from_slice(dated.as_slice())?;
     Ok(rows)
+}
+
+/// The rows of an object that a report looks at in some windows: lent where there is one window, it has
+/// a piece and no row is without a date.
+fn rows_in_windows<'a, P: Pieces, L: Ledger>(
+    alloc: Global,
+    pieces: &'a P,
+    origin: u64,
+    object: &Object,
+    windows: &[i32],
+    steps: &mut Steps<L>,
+) -> Result<Looked<'a>, NoMemory>
+    requires object { IsKept object.now }
+    requires right { AreRowsOf (P.held pieces.now) origin object.now }
+    ensures steps { steps.new ≤ steps.old + windows_cost (P.held pieces.now) origin object.now windows.now }
+    ensures rows { IfOk result (λ looked. rows_of looked ≡ undated_rows object.now ++ in_order (flat_map (rows_in object.now) windows.now)) }
+{
+    let undated = undated_rows(alloc, object)?;
+    if let Some(rows) = lent_rows(pieces, origin, undated.as_slice(), windows) {
+        return Ok(Looked::Lent(rows));
+    }
+    let rows = joined_rows(
+        alloc,
+        pieces,
+        origin,
+        object,
+        undated.as_slice(),
+        windows,
+        steps,
+    )?;
+    Ok(Looked::Found(rows))
+}
+
+/// The rows of an object that a report of some ranges looks at. Rows come from pieces wherever there is
+/// one; of an object that happens once its row is found without.
+pub(crate) fn rows_for<'a, P: Pieces, L: Ledger>(
+    alloc: Global,
+    pieces: &'a P,
+    origin: u64,
+    object: &Object,
+    ranges: &[Range],
+    steps: &mut Steps<L>,
+) -> Result<Looked<'a>, NoMemory>
+    requires object { IsKept object.now }
+    requires right { AreRowsOf (P.held pieces.now) origin object.now }
+    ensures steps { steps.new ≤ steps.old + windows_cost (P.held pieces.now) origin object.now (filter (counts object.now ranges.now) stated_windows) }
+    ensures rows { IfOk result (λ looked. rows_of looked ≡ rows_needed object.now ranges.now) }
+{
+    if let Some(rows) = only_rows(alloc, object, ranges)? {
+        return Ok(Looked::Found(rows));
+    }
+    let windows = windows_for(alloc, object, ranges)?;
+    rows_in_windows(alloc, pieces, origin, object, windows.as_slice(), steps)
 }

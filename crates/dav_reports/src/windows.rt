@@ -1,21 +1,23 @@
 //! The windows of 64 days in which a report may have to look at the rows of an object.
-ghost use Rattle.std.specs.Prelude.{◌≡◌, ◌<◌, ◌≤◌, ◌^◌, ◌&&◌, ◌++◌, ℕ, ℤ, pos, neg_ℤ, ◌+ℤ◌, ◌*ℤ◌, ◌≤ℤ◌, int_le, int_lt, nat_le, nat_lt, max, length, filter, flat_map, All, AllPairs, IfOk, OnOk};
+ghost use Rattle.std.specs.Prelude.{◌≡◌, ◌<◌, ◌≤◌, ◌^◌, ◌&&◌, ◌++◌, ℕ, ℤ, pos, neg_ℤ, ◌+ℤ◌, ◌*ℤ◌, ◌≤ℤ◌, int_le, int_lt, nat_le, nat_lt, max, length, is_some, [], filter, flat_map, All, AllPairs, IfOk, IfSome, OnOk};
 ghost use Rattle.std.specs.List.{list_any};
 ghost use Rattle.std.specs.List.Sorted.{IsPermutation};
 ghost use Rattle.cal_moment.specs.Calendar.{IsBetween};
+ghost use Rattle.cal_model.specs.declared.object.Component.{Component as ComponentSpec};
 ghost use Rattle.cal_model.specs.declared.row.Range.{Range};
-ghost use Rattle.cal_model.specs.Instances.Rows.{window_seconds};
+ghost use Rattle.cal_model.specs.Instances.Rows.{overrides, window_seconds};
 ghost use Rattle.cal_model.specs.Ranges.Cost.{window_meets};
-ghost use Rattle.cal_model.specs.Reports.NeededWindows.{counts, first_window, stated_windows};
+ghost use Rattle.cal_model.specs.Reports.NeededWindows.{counts, first_window, is_stated_window, stated_windows};
 ghost use Rattle.cal_model.specs.Words.Integers.{same_int};
 ghost use Rattle.cal_model.specs.Words.Lists.{numbers_between};
 ghost use Rattle.override_merge.specs.Conversions.{tables_of, HasConvertibleRow, IsConvertible};
 ghost use Rattle.rrule_sets.specs.AskedStarts.{IsExpandable};
+ghost use Rattle.rrule_sets.specs.HappensOnce.{IsOnlyRow};
 ghost use Rattle.dav_reports.specs.Stretches.{IsStretch, Puts, StartsNoLater, holds, override_windows, places, places_in, window_of_place, window_of_start, windows_at};
 
-use crate::margin::margin;
+use crate::margin::{margin, only_margin};
 use cal_base::{List, NoMemory};
-use cal_model::{Component, LocalTimes, Object, Range};
+use cal_model::{Component, LocalTimes, Object, Range, Row};
 use cal_moment::Stamp;
 use override_merge::stamps::value_of;
 use override_merge::starts::own_start;
@@ -94,6 +96,47 @@ fn widened(range: Range, by: u128) -> Stretch
 {
     let by = by as i128;
     stretch_between(range.start.0 as i128 - by, range.end.0 as i128 + by)
+}
+
+/// Whether a window meets a range that is widened on both sides.
+fn window_meets(by: u128, range: Range, window: i32) -> bool
+    requires { by < 2 ^ 115 }
+    ensures { result ≡ window_meets by range window }
+{
+    let by = by as i128;
+    let begin = window as i128 * WINDOW;
+    range.start.0 as i128 - by < begin + WINDOW && begin < range.end.0 as i128 + by
+}
+
+/// The same of one of several ranges.
+fn meets_some(by: u128, ranges: &[Range], window: i32) -> bool
+    requires { by < 2 ^ 115 }
+    ensures { result ≡ list_any (λ (range : Range). window_meets by range window) ranges.now }
+{
+    let mut rest = ranges;
+    'meeting: while let Some((range, behind)) = rest.split_first() {
+        if window_meets(by, *range, window) {
+            return true;
+        }
+        rest = behind;
+    }
+    false
+}
+
+/// Whether a window has a date that is served.
+fn is_stated(window: i32) -> bool
+    ensures { result ≡ is_stated_window window }
+{
+    FIRST <= window && window as i128 - (FIRST as i128) < PLACES
+}
+
+/// Whether a report of some ranges may need a window of an object that happens once, given its row.
+pub(crate) fn is_needed(object: &Object, row: &Row, ranges: &[Range], window: i32) -> bool
+    requires only { IsOnlyRow object.now row.now }
+    requires alone { overrides object.now ≡ [] }
+    ensures { result ≡ (is_stated_window window && counts object.now ranges.now window) }
+{
+    is_stated(window) && meets_some(only_margin(object, row), ranges, window)
 }
 
 /// Puts the windows that meet a range, widened on both sides, to others.
@@ -220,6 +263,30 @@ fn windows_of(alloc: Global, stretches: &[Stretch]) -> Result<List<i32>, NoMemor
     Ok(windows)
 }
 
+/// Whether one of some components is an override.
+fn has_override(components: &[Component]) -> bool
+    ensures { result ≡ list_any (λ (c : ComponentSpec). is_some c.recurrence_id) components.now }
+{
+    components
+        .iter()
+        .any(|component| component.recurrence_id.is_some())
+}
+
+/// The windows of an object that a report of some ranges may need, where there is one range and no
+/// override.
+fn only_stretch(zones: &[LocalTimes<'_>], object: &Object, ranges: &[Range]) -> Option<Stretch>
+    requires zones { tables_of zones.now ≡ object.now.zones }
+    requires lengths { All (IsExpandable (length zones.now)) object.now.components }
+    ensures stretch { IfSome result IsStretch }
+    ensures windows { IfSome result (λ stretch. (place : ℕ) → place < places → holds place stretch ≡ counts object.now ranges.now (window_of_place place)) }
+{
+    let (range, more) = ranges.split_first()?;
+    if !more.is_empty() || has_override(object.components.as_slice()) {
+        return None;
+    }
+    Some(widened(*range, margin(zones, object)))
+}
+
 /// The windows of an object that a report of some ranges may need, in order: those that meet one of
 /// them, widened by how far a row can be met, and those in which an override starts; none where there is
 /// no range.
@@ -233,10 +300,13 @@ pub(crate) fn windows_needed(
     requires lengths { All (IsExpandable (length zones.now)) object.now.components }
     ensures { IfOk result (λ windows. windows ≡ filter (counts object.now ranges.now) stated_windows) }
 {
-    let mut stretches = List::new(alloc);
     if ranges.is_empty() {
         return Ok(List::new(alloc));
     }
+    if let Some(stretch) = only_stretch(zones, object, ranges) {
+        return windows_of(alloc, &[stretch]);
+    }
+    let mut stretches = List::new(alloc);
     put_ranges(ranges, margin(zones, object), &mut stretches)?;
     put_overrides(zones, object.components.as_slice(), &mut stretches)?;
     let stretches = by_first(stretches)?;

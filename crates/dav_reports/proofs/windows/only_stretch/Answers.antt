@@ -1,0 +1,17 @@
+use Rattle.std.proofs.Common.{◌≡◌, [], sym, ap, ◌∙◌}
+use Rattle.std.specs.Prelude.{is_some}
+use Rattle.std.specs.List.{list_any}
+use Rattle.cal_model.specs.declared.object.Component.{Component}
+use Rattle.cal_model.specs.Instances.Rows.{overrides}
+use Rattle.dav_reports.specs.Stretches.{window_of_place}
+use Rattle.dav_reports.proofs.LookedRows.{none_in}
+use Rattle.dav_reports.proofs.WindowsFound.{counts_one, no_overrides}
+use Rattle.dav_reports.proofs.windows.only_stretch.Goals as goal
+
+pub returns-clause-windows : goal.returns-clause-windows
+returns-clause-windows c = λ place below.
+    let none : overrides c.args.object.now ≡ [] =
+    no_overrides c.args.object.now (sym (ap (list_any (λ (x : Component). is_some x.recurrence_id)) c.as_slice.ensures) ∙ sym c.has_override.ensures ∙ c.if-has_override.false) in
+    let last : c.in_ok-range.more.now ≡ [] = none_in c.in_ok-range.more.now (sym c.is_empty.ensures ∙ c.if-not-is_empty.false) in
+    rw c.margin.ensures.value at (c.widened.ensures.windows place below)
+    ∙ counts_one c.args.object.now c.args.ranges.now c.in_ok-range.more.now c.in_ok-range.range.now (window_of_place place) c.in_ok-range.ensures.cases.0 last none
