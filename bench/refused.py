@@ -26,6 +26,7 @@ SHIM = r"""
 #include <dlfcn.h>
 #include <stdio.h>
 #include <stdlib.h>
+#include <sys/syscall.h>
 #include <unistd.h>
 static long seen, refused = -1;
 static int is_refused(void) {
@@ -39,6 +40,7 @@ __attribute__((destructor)) static void told(void) {
     const char *path = getenv("TOLD");
     if (path) { FILE *file; long many = seen; refused = 0; file = fopen(path, "w"); if (file) { fprintf(file, "%ld", many); fclose(file); } }
 }
+void _exit(int status) { told(); syscall(SYS_exit_group, status); __builtin_unreachable(); }
 """
 WORK = b"claim 0\nexpand 0\npublish 0\n"
 HASH = b"ba7816bf8f01cfea414140de5dae2223b00361a396177a9cb410ff61f20015ad"
