@@ -1,6 +1,7 @@
 //! What no clause says: that a store is made where there is memory, and what it has at the start.
 
 use cal_base::Arc;
+use cal_journal::{Journal, replay};
 use cal_model::CalendarData;
 use collections::Store;
 use privileges::read_users;
@@ -73,6 +74,25 @@ fn nothing_else_is_there(rt: HostRuntime) -> Result<(), Fail> {
         assert!(rt; store.object(home, NAME, b"a.ics").is_none());
         assert!(rt; store.object_after(home, NAME, b"").is_none());
         assert!(rt; store.uid_holder(home, NAME, b"a").is_none());
+    }
+    Ok(())
+}
+
+/// The state that a journal without entries leads to.
+fn replayed(alloc: Global) -> Result<Store, Fail> {
+    let users = read_users(alloc, USERS)?;
+    let store = Store::new(alloc, Arc::new(alloc, users)?)?;
+    Ok(replay(&Journal::new(alloc), store)?)
+}
+
+/// A journal without entries leads to the start.
+#[test]
+fn no_entries_lead_to_the_start(rt: HostRuntime) -> Result<(), Fail> {
+    let store = replayed(rt.alloc())?;
+    for home in 0u32..2 {
+        let data = store.calendar(home, NAME).ok_or("a calendar")?;
+        assert!(rt; is_first(data, home));
+        assert!(rt; store.object_after(home, NAME, b"").is_none());
     }
     Ok(())
 }
