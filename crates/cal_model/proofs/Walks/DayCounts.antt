@@ -1,8 +1,9 @@
 -- How many days of a period pass, by the parts that name days.
-use Rattle.std.proofs.Common.{◌≡◌, ℕ, ◌+◌, ◌-◌, ◌*◌, ◌/◌, ◌%◌, ◌<◌, ◌≤◌, List, [], ◌∷◌, length, refl, sym, arith, Bool, true, false, inl, inr, ℤ, pos, negsuc}
+use Rattle.std.proofs.Common.{◌≡◌, ℕ, zero, suc, ◌+◌, ◌-◌, ◌*◌, ◌/◌, ◌%◌, ◌<◌, ◌≤◌, List, [], ◌∷◌, length, refl, sym, arith, Bool, true, false, inl, inr, ℤ, pos, negsuc}
 use Rattle.std.specs.Prelude.{nat_lt, ◌==◌, if◌then◌else◌}
 use Rattle.std.specs.Int.{IsInRange}
 use Rattle.std.specs.List.{list_any}
+use Rattle.std.proofs.Math.Nat.{suc-mul}
 use Rattle.std.proofs.lemmas.Bool.{cases_Bool, eqb-true, ltb-true, ltb-false}
 use Rattle.cal_moment.specs.Calendar.{first_of_year, year_length, year_of, day_of_year, month_of, day_of_month, month_length, day_of_date, day_of_moment, weekday_of}
 use Rattle.cal_moment.proofs.CalendarLaws.{year_of-first, year_of-last, days_before_month-next, days_before_month-end, first_of_year-suc, month_length-bounds, year_of-day_of_date, month_of-day_of_date}
@@ -36,19 +37,17 @@ in_week test first =
     let whole = count_in-cut test 0 ((first + 5) % 7) 7 (omega arith) (omega arith) in
     omega (arith, early, late, cut, whole)
 
-in_five_weeks : (test : ℕ → Bool) (first : ℕ) → count_in (λ d. test (weekday_of d)) first (first + 35) ≤ 5 * count_in test 0 7
-in_five_weeks test first =
-    let a = in_week test first in let b = in_week test (first + 7) in let c = in_week test (first + 14) in let d = in_week test (first + 21) in let e = in_week test (first + 28) in
-    let second : first + 7 + 7 ≡ first + 14 = omega arith in
-    let third : first + 14 + 7 ≡ first + 21 = omega arith in
-    let fourth : first + 21 + 7 ≡ first + 28 = omega arith in
-    let fifth : first + 28 + 7 ≡ first + 35 = omega arith in
-    let b = rw second at b in let c = rw third at c in let d = rw fourth at d in let e = rw fifth at e in
-    let u = count_in-cut (λ d. test (weekday_of d)) first (first + 7) (first + 35) (omega arith) (omega arith) in
-    let v = count_in-cut (λ d. test (weekday_of d)) (first + 7) (first + 14) (first + 35) (omega arith) (omega arith) in
-    let w = count_in-cut (λ d. test (weekday_of d)) (first + 14) (first + 21) (first + 35) (omega arith) (omega arith) in
-    let x = count_in-cut (λ d. test (weekday_of d)) (first + 21) (first + 28) (first + 35) (omega arith) (omega arith) in
-    omega (arith, a, b, c, d, e, u, v, w, x)
+-- so many weeks, and some days behind them
+in_weeks : (test : ℕ → Bool) (weeks days first : ℕ) → count_in (λ d. test (weekday_of d)) first (first + (7 * weeks + days)) ≤ weeks * count_in test 0 7 + days
+in_weeks test zero days first = let all = count_in-all (λ d. test (weekday_of d)) first (first + (7 * zero + days)) in omega (arith, all)
+in_weeks test (suc weeks) days first =
+    let one = in_week test first in
+    let rest = in_weeks test weeks days (first + 7) in
+    let end : first + 7 + (7 * weeks + days) ≡ first + (7 * suc weeks + days) = omega arith in
+    let rest = rw end at rest in
+    let cut = count_in-cut (λ d. test (weekday_of d)) first (first + 7) (first + (7 * suc weeks + days)) (omega arith) (omega arith) in
+    let more = suc-mul weeks (count_in test 0 7) in
+    omega (arith, one, rest, cut, more)
 
 named_weekday : (weekday place size : ℕ) (parts : List DayPart) → list_any (weekday_passes weekday place size) parts ≡ true → has_weekday parts weekday ≡ true
 named_weekday weekday place size [] h = h
@@ -175,12 +174,12 @@ module _ (rule : Rule) (start m : ℕ) where
       let week = in_week test (7 * ((m / 86400 + 12 - rule.week_start) / 7) + rule.week_start - 12) in
       omega (arith, some, less, week)
 
-  weekdays_of_month : rule.freq ≡ Monthly → (test : ℕ → Bool) → ((d : ℕ) → is_day_of rule start m d ≡ true → test (weekday_of d) ≡ true) → (a b : ℕ) → a ≤ b → count_in (is_day_of rule start m) a b ≤ 5 * count_in test 0 7
-  weekdays_of_month e test named a b le =
-      let some = days_within (day_of_date (year_of (m / 86400)) (month_of (m / 86400)) 1) 35 a b le (λ d w. let lies = month_lies e d w in (lies.0, omega (arith, lies))) in
-      let less = count_le (is_day_of rule start m) (λ d. test (weekday_of d)) (numbers_between (day_of_date (year_of (m / 86400)) (month_of (m / 86400)) 1) ((day_of_date (year_of (m / 86400)) (month_of (m / 86400)) 1) + 35)) named in
-      let weeks = in_five_weeks test (day_of_date (year_of (m / 86400)) (month_of (m / 86400)) 1) in
-      omega (arith, some, less, weeks)
+  weekdays_within : (weeks days first : ℕ) → ((d : ℕ) → is_day_of rule start m d ≡ true → (first ≤ d) × (d < first + (7 * weeks + days))) → (test : ℕ → Bool) → ((d : ℕ) → is_day_of rule start m d ≡ true → test (weekday_of d) ≡ true) → (a b : ℕ) → a ≤ b → count_in (is_day_of rule start m) a b ≤ weeks * count_in test 0 7 + days
+  weekdays_within weeks days first lies test named a b le =
+      let some = days_within first (7 * weeks + days) a b le lies in
+      let less = count_le (is_day_of rule start m) (λ d. test (weekday_of d)) (numbers_between first (first + (7 * weeks + days))) named in
+      let most = in_weeks test weeks days first in
+      omega (arith, some, less, most)
 
   -- BYDAY names the weekday of each day that passes
   by_weekday : is_empty rule.by_day ≡ false → (d : ℕ) → is_day_of rule start m d ≡ true → has_weekday rule.by_day (weekday_of d) ≡ true
@@ -265,14 +264,33 @@ module _ (rule : Rule) where
   pub all_of_month : rule.freq ≡ Monthly → HasDaysAtMost rule 31
   all_of_month e = λ start m a b le. all_within rule start m (day_of_date (year_of (m / 86400)) (month_of (m / 86400)) 1) 31 a b le (month_lies rule start m e)
 
-  pub named_of_month : rule.freq ≡ Monthly → is_empty rule.by_day ≡ false → HasDaysAtMost rule (5 * count_in (has_weekday rule.by_day) 0 7)
-  named_of_month e some = λ start m a b le. weekdays_of_month rule start m e (has_weekday rule.by_day) (by_weekday rule start m some) a b le
+  -- weekdays of a month: of five weeks, or of four and three days
+  pub few_of_month : rule.freq ≡ Monthly → is_empty rule.by_day ≡ false → HasDaysAtMost rule (5 * count_in (has_weekday rule.by_day) 0 7)
+  few_of_month e some = λ start m a b le.
+      let first = day_of_date (year_of (m / 86400)) (month_of (m / 86400)) 1 in
+      let most = weekdays_within rule start m 5 0 first (λ d w. let lies = month_lies rule start m e d w in (lies.0, omega (arith, lies))) (has_weekday rule.by_day) (by_weekday rule start m some) a b le in
+      omega (arith, most)
+
+  pub named_of_month : rule.freq ≡ Monthly → is_empty rule.by_day ≡ false → HasDaysAtMost rule (4 * count_in (has_weekday rule.by_day) 0 7 + 3)
+  named_of_month e some = λ start m a b le.
+      weekdays_within rule start m 4 3 (day_of_date (year_of (m / 86400)) (month_of (m / 86400)) 1) (month_lies rule start m e) (has_weekday rule.by_day) (by_weekday rule start m some) a b le
 
   pub numbered_of_month : rule.freq ≡ Monthly → is_empty rule.by_month_day ≡ false → HasDaysAtMost rule (length rule.by_month_day)
   numbered_of_month e some = λ start m a b le. by_numbers rule start m e some a b le
 
   pub all_of_year : rule.freq ≡ Yearly → HasDaysAtMost rule 366
   all_of_year e = λ start m a b le. all_within rule start m (first_of_year (year_of (m / 86400))) 366 a b le (year_lies rule start m e)
+
+  -- weekdays of a year: of 53 weeks, or of 52 and two days
+  pub few_of_year : rule.freq ≡ Yearly → is_empty rule.by_day ≡ false → HasDaysAtMost rule (53 * count_in (has_weekday rule.by_day) 0 7)
+  few_of_year e some = λ start m a b le.
+      let first = first_of_year (year_of (m / 86400)) in
+      let most = weekdays_within rule start m 53 0 first (λ d w. let lies = year_lies rule start m e d w in (lies.0, omega (arith, lies))) (has_weekday rule.by_day) (by_weekday rule start m some) a b le in
+      omega (arith, most)
+
+  pub named_of_year : rule.freq ≡ Yearly → is_empty rule.by_day ≡ false → HasDaysAtMost rule (52 * count_in (has_weekday rule.by_day) 0 7 + 2)
+  named_of_year e some = λ start m a b le.
+      weekdays_within rule start m 52 2 (first_of_year (year_of (m / 86400))) (year_lies rule start m e) (has_weekday rule.by_day) (by_weekday rule start m some) a b le
 
   -- a period of DAILY is one day, and one of HOURLY begins on one day
   pub one_of_shorter : is_fine rule.freq ≡ false → (rule.freq ≡ Weekly → ⊥) → (rule.freq ≡ Monthly → ⊥) → (rule.freq ≡ Yearly → ⊥) → HasDaysAtMost rule 1

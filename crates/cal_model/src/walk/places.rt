@@ -1,7 +1,7 @@
 //! The places of BYSETPOS that no period of a rule has (RFC 5545, 3.3.10).
 ghost use Rattle.std.specs.Prelude.{◌≡◌, ℕ, ◌*◌, ◌<◌, ◌≤◌, true, false, count_by};
 ghost use Rattle.std.specs.List.{list_any};
-ghost use Rattle.cal_model.specs.declared.rule.Freq.TheVariants.{Hourly, Monthly, Weekly};
+ghost use Rattle.cal_model.specs.declared.rule.Freq.TheVariants.{Hourly, Monthly, Weekly, Yearly};
 ghost use Rattle.cal_model.specs.Recurrence.NextPassing.{IsUsable, is_fine};
 ghost use Rattle.cal_model.specs.Recurrence.Passing.{has_day_part, part_passes};
 ghost use Rattle.cal_model.specs.Walks.Places.{has_weekday, is_place_within, HasDaysAtMost, IsMostInPeriod, PicksNothing};
@@ -92,16 +92,21 @@ fn most_days_of_week(rule: &Rule) -> u64
     }
 }
 
-/// How many days of a month BYDAY may let pass at most.
-fn most_days_by_weekday(rule: &Rule) -> u64
+/// How many days of a month BYDAY may let pass at most: four weeks have each weekday four times, and three
+/// days are left.
+fn most_weekdays_of_month(rule: &Rule) -> u64
     requires monthly { rule.now.freq ≡ Monthly }
     ensures most { HasDaysAtMost rule.now result }
-    ensures bound { result ≤ 366 }
+    ensures bound { result ≤ 31 }
 {
     if rule.by_day.is_empty() {
-        31
+        return 31;
+    }
+    let weekdays = weekdays_of(&rule.by_day);
+    if weekdays < 3 {
+        5 * weekdays
     } else {
-        5 * weekdays_of(&rule.by_day)
+        4 * weekdays + 3
     }
 }
 
@@ -114,12 +119,29 @@ fn most_days_of_month(rule: &Rule) -> u64
     if names_no_days(rule) {
         return 1;
     }
-    let by_weekday = most_days_by_weekday(rule);
+    let by_weekday = most_weekdays_of_month(rule);
     let numbers = rule.by_month_day.len() as u64;
     if rule.by_month_day.is_empty() || by_weekday < numbers {
         by_weekday
     } else {
         numbers
+    }
+}
+
+/// How many days of a year may pass at most: 52 weeks have each weekday 52 times, and two days are left.
+fn most_days_of_year(rule: &Rule) -> u64
+    requires yearly { rule.now.freq ≡ Yearly }
+    ensures most { HasDaysAtMost rule.now result }
+    ensures bound { result ≤ 366 }
+{
+    if rule.by_day.is_empty() {
+        return 366;
+    }
+    let weekdays = weekdays_of(&rule.by_day);
+    if weekdays < 2 {
+        53 * weekdays
+    } else {
+        52 * weekdays + 2
     }
 }
 
@@ -132,7 +154,7 @@ fn most_days(rule: &Rule) -> u64
     ensures bound { result ≤ 366 }
 {
     match rule.freq {
-        Freq::Yearly => 366,
+        Freq::Yearly => most_days_of_year(rule),
         Freq::Monthly => most_days_of_month(rule),
         Freq::Weekly => most_days_of_week(rule),
         _ => 1,
