@@ -1,10 +1,12 @@
--- A class is open at a moment exactly where some of its times covers the moment: of the times that end after they start, those that have started and not ended.
-use Rattle.std.proofs.Common.{◌≡◌, ℕ, ◌+◌, Bool, true, false, cond, ◌&&◌, ◌||◌, List, [], ◌∷◌, map, reverse, Option, Some, refl, sym, ap, ◌∙◌, nat_lt, arith}
-use Rattle.std.specs.Prelude.{ℤ, ◌<ℤ◌, int_le, int_lt, filter}
-use Rattle.std.specs.List.{count_by, list_any}
+-- A class is open at a moment exactly where some of its times covers the moment.
+use Rattle.std.proofs.Common.{◌≡◌, Bool, true, false, cond, ◌&&◌, ◌||◌, List, [], ◌∷◌, map, reverse, Option, Some, refl, sym, ap, ◌∙◌, arith}
+use Rattle.std.specs.Prelude.{ℤ, ◌<ℤ◌, int_le, int_lt, filter, All}
+use Rattle.std.specs.List.{list_any}
+use Rattle.std.specs.List.Sorted.{IsPermutation, IsSortedByKey}
+use Rattle.std.specs.Ordering.{int_cmp}
 use Rattle.std.proofs.lemmas.Int.{ints}
-use Rattle.std.proofs.lemmas.List.Sorted.{sum_by-IsPermutation}
-use Rattle.std.proofs.lemmas.List.Sums.{sum_by-cons}
+use Rattle.std.proofs.lemmas.List.Elements.{All-cons, All-nil}
+use Rattle.std.proofs.lemmas.List.Sorted.{All-permutation, list_any-IsPermutation}
 use Rattle.cal_model.specs.declared.object.Class.{Class}
 use Rattle.cal_model.specs.declared.object.Class.TheVariants.{Busy, Unavailable, Tentative}
 use Rattle.cal_model.specs.Busy.BusyTimes.{BusyTime}
@@ -14,61 +16,49 @@ use Rattle.cal_model.proofs.Busy.BusyRunLaws.{runs_of_classes-same}
 use Rattle.freebusy.specs.declared.busy.BusyRow.{BusyRow}
 use Rattle.freebusy.specs.declared.busy.Run.{Run}
 use Rattle.freebusy.specs.declared.ends.Ends.{Ends}
+use Rattle.freebusy.specs.declared.ends.Span.{Span}
 use Rattle.freebusy.specs.declared.ends.Classes.{Classes}
-use Rattle.freebusy.specs.Ends.{is_of, starts_of, ends_of, count_until, is_open, greatest_open, open_class, AreEndsOf, AreClassesOf, AreAllRising}
+use Rattle.freebusy.specs.Ends.{AreAllRising, AreClassesOf, AreEndsOf, AreInOrder, HasSecond, covers_at, greatest_open, is_of, is_open, open_class, span_of, spans_of}
 use Rattle.freebusy.specs.Sweep.{in_order}
 use Rattle.freebusy.specs.Times.{time_of, times_of, time_of_run}
 
 abbrev covers_of : Class → ℤ → BusyRow → Bool
 covers_of class t row = same_class class row.class && covers t (time_of row)
 
--- one time that covers something has started, or it has ended, or it goes on
-one_time : (s e t : ℤ) → s <ℤ e → cond (int_le s t) 1 0 ≡ cond (int_le e t) 1 0 + cond (int_le s t && int_lt t e) 1 0
-one_time s e t less = grind (arith, ints)
+covers_none : (a b t : ℤ) → int_lt a b ≡ false → (int_le a t && int_lt t b) ≡ false
+covers_none a b t is = grind (arith, ints)
+
+any_row : (r : BusyRow) (kept : List BusyRow) (t : ℤ) (rest same some : Bool) → int_lt r.start r.end ≡ some → list_any (covers_at t) (map span_of kept) ≡ rest
+    → list_any (covers_at t) (map span_of (cond (same && some) (r ∷ kept) kept)) ≡ ((same && covers t (time_of r)) || rest)
+any_row r kept t rest false some is others = others
+any_row r kept t rest true true is others = ap (λ (b : Bool). covers t (time_of r) || b) others
+any_row r kept t rest true false is others = others ∙ ap (λ (b : Bool). b || rest) (sym (covers_none r.start r.end t is))
+
+-- some of the times of a class covers a moment
+any_of_class : (class : Class) (rows : List BusyRow) (t : ℤ) → list_any (covers_at t) (spans_of class rows) ≡ list_any (covers_of class t) rows
+any_of_class class [] t = refl
+any_of_class class (r ∷ rs) t = any_row r (filter (is_of class) rs) t (list_any (covers_of class t) rs) (same_class class r.class) (int_lt r.start r.end) refl (any_of_class class rs t)
+
+open_is : (class : Class) (rows : List BusyRow) (found : Ends) (t : ℤ) → AreEndsOf (spans_of class rows) found → is_open found t ≡ list_any (covers_of class t) rows
+open_is class rows found t are = are.covered t ∙ any_of_class class rows t
 
 less_of : (a b : ℤ) → int_lt a b ≡ true → a <ℤ b
 less_of a b is = grind (arith, ints)
 
-covers_none : (a b t : ℤ) → int_lt a b ≡ false → (int_le a t && int_lt t b) ≡ false
-covers_none a b t is = grind (arith, ints)
+each_row : (r : BusyRow) (kept : List BusyRow) (same some : Bool) → int_lt r.start r.end ≡ some → All HasSecond (map span_of kept) → All HasSecond (map span_of (cond (same && some) (r ∷ kept) kept))
+each_row r kept false some is each = each
+each_row r kept true true is each = All-cons HasSecond (span_of r) (map span_of kept) (record { before = less_of r.start r.end is }) each
+each_row r kept true false is each = each
 
-one_row : (r : BusyRow) (kept : List BusyRow) (t : ℤ) (n : ℕ) (same : Bool) (some : Bool) → int_lt r.start r.end ≡ some
-    → count_until (map (λ (row : BusyRow). row.start) kept) t ≡ count_until (map (λ (row : BusyRow). row.end) kept) t + n
-    → count_until (map (λ (row : BusyRow). row.start) (cond (same && some) (r ∷ kept) kept)) t
-    ≡ count_until (map (λ (row : BusyRow). row.end) (cond (same && some) (r ∷ kept) kept)) t + (cond (same && covers t (time_of r)) 1 0 + n)
-one_row r kept t n false some is rest = omega (arith, rest)
-one_row r kept t n true true is rest =
-    let one = one_time r.start r.end t (less_of r.start r.end is) in
-    let starts = sum_by-cons (λ (x : ℤ). cond (int_le x t) 1 0) r.start (map (λ (row : BusyRow). row.start) kept) in
-    let ends = sum_by-cons (λ (x : ℤ). cond (int_le x t) 1 0) r.end (map (λ (row : BusyRow). row.end) kept) in
-    omega (arith, rest, one, starts, ends)
-one_row r kept t n true false is rest =
-    let none : ◌≡◌ {A = ℕ} (cond (covers t (time_of r)) 1 0) 0 = ap (λ (b : Bool). cond b 1 0) (covers_none r.start r.end t is) in
-    omega (arith, rest, none)
+each_of_class : (class : Class) (rows : List BusyRow) → All HasSecond (spans_of class rows)
+each_of_class class [] = All-nil HasSecond
+each_of_class class (r ∷ rs) = each_row r (filter (is_of class) rs) (same_class class r.class) (int_lt r.start r.end) refl (each_of_class class rs)
 
-counts : (class : Class) (rows : List BusyRow) (t : ℤ) → count_until (starts_of class rows) t ≡ count_until (ends_of class rows) t + count_by (covers_of class t) rows
-counts class [] t = refl
-counts class (r ∷ rs) t =
-    one_row r (filter (is_of class) rs) t (count_by (covers_of class t) rs) (same_class class r.class) (int_lt r.start r.end) refl (counts class rs t)
-    ∙ ap (λ (n : ℕ). count_until (ends_of class (r ∷ rs)) t + n) (sym (sum_by-cons (λ (row : BusyRow). cond (covers_of class t row) 1 0) r rs))
+pub order_of_class : (class : Class) (rows : List BusyRow) (spans : List Span) → IsPermutation (spans_of class rows) spans → IsSortedByKey (λ (span : Span). span.start) int_cmp spans → AreInOrder spans
+order_of_class class rows spans moved rising = record { rising = rising; each = All-permutation HasSecond (spans_of class rows) spans moved (each_of_class class rows) }
 
-some_more : (a b n : ℕ) → b ≡ a + n → nat_lt a b ≡ nat_lt 0 n
-some_more a b n is = grind arith
-
-one_more : (b more : Bool) (n : ℕ) → nat_lt 0 n ≡ more → nat_lt 0 (cond b 1 0 + n) ≡ (b || more)
-one_more true more n is = grind arith
-one_more false more n is = some_more 0 (0 + n) n refl ∙ is
-
-any_count : (test : BusyRow → Bool) (rows : List BusyRow) → nat_lt 0 (count_by test rows) ≡ list_any test rows
-any_count test [] = refl
-any_count test (r ∷ rs) = ap (nat_lt 0) (sum_by-cons (λ (row : BusyRow). cond (test row) 1 0) r rs) ∙ one_more (test r) (list_any test rs) (count_by test rs) (any_count test rs)
-
-open_is : (class : Class) (rows : List BusyRow) (ends : Ends) (t : ℤ) → AreEndsOf class rows ends → is_open ends t ≡ list_any (covers_of class t) rows
-open_is class rows ends t are =
-    let started : count_until ends.starts t ≡ count_until (starts_of class rows) t = sum_by-IsPermutation (λ (x : ℤ). cond (int_le x t) 1 0) (starts_of class rows) ends.starts are.starts.moved in
-    let ended : count_until ends.ends t ≡ count_until (ends_of class rows) t = sum_by-IsPermutation (λ (x : ℤ). cond (int_le x t) 1 0) (ends_of class rows) ends.ends are.ends.moved in
-    some_more (count_until ends.ends t) (count_until ends.starts t) (count_by (covers_of class t) rows) (omega (arith, started, ended, counts class rows t))
-    ∙ any_count (covers_of class t) rows
+pub ends_of_class : (class : Class) (rows : List BusyRow) (spans : List Span) (found : Ends) → IsPermutation (spans_of class rows) spans → AreEndsOf spans found → AreEndsOf (spans_of class rows) found
+ends_of_class class rows spans found moved are = record { rising = are.rising; covered = λ t. are.covered t ∙ sym (list_any-IsPermutation (covers_at t) (spans_of class rows) spans moved) }
 
 -- a time that does not cover the moment
 not_covering : (c : Class) (b u n : Bool) → greatest_open b u n ≡ greatest_open ((same_class Busy c && false) || b) ((same_class Unavailable c && false) || u) ((same_class Tentative c && false) || n)
@@ -107,11 +97,7 @@ open_class-is rows classes are t =
     ∙ sym (greatest_is rows t)
 
 pub rising-are : (rows : List BusyRow) (classes : Classes) → AreClassesOf rows classes → AreAllRising classes
-rising-are rows classes are = record {
-  busy = record { starts = are.busy.starts.rising; ends = are.busy.ends.rising };
-  unavailable = record { starts = are.unavailable.starts.rising; ends = are.unavailable.ends.rising };
-  tentative = record { starts = are.tentative.starts.rising; ends = are.tentative.ends.rising };
-}
+rising-are rows classes are = record { busy = are.busy.rising; unavailable = are.unavailable.rising; tentative = are.tentative.rising }
 
 -- the runs of the classes that are open are those of the times
 pub runs-are : (rows : List BusyRow) (classes : Classes) (range : Range) (found turned : List Run) → AreClassesOf rows classes → in_order found ≡ runs_of_classes (open_class classes) range

@@ -1,5 +1,6 @@
 mod Passed
 mod Counts
+mod Joining
 mod Partitions
 mod Stretches
 mod Sweeping

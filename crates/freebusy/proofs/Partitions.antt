@@ -11,7 +11,7 @@ use Rattle.std.proofs.lemmas.List.Sums.{sum_by-cons}
 use Rattle.std.specs.Prelude.{◌≤ℤ◌}
 use Rattle.std.proofs.Common.{get_or}
 
-le_of : (x y : ℤ) → is_lt (int_cmp y x) ≡ false → x ≤ℤ y
+pub le_of : (x y : ℤ) → is_lt (int_cmp y x) ≡ false → x ≤ℤ y
 le_of x y is = grind (arith, ints)
 
 pub le_far : (xs : List ℤ) → IsSorted int_cmp xs → (i j : ℕ) (d : ℤ) → i ≤ j → j < length xs → get_or xs i d ≤ℤ get_or xs j d

@@ -1,4 +1,4 @@
--- Where no time starts or ends behind a moment and before another, the class stays, and the counts before the later one tell it.
+-- Where no class opens or closes behind a moment and before another, the class stays, and the counts before the later one tell it.
 use Rattle.std.proofs.Common.{◌≡◌, ℕ, zero, suc, ◌≤◌, ◌<◌, Bool, true, false, List, length, get_or, refl, sym, ap, ◌∙◌, ◌⊎◌, inl, inr, ⊎_elim, arith}
 use Rattle.std.specs.Prelude.{ℤ, ◌≤ℤ◌, ◌<ℤ◌, int_le, int_lt, nat_lt}
 use Rattle.std.specs.List.{AllWithin}

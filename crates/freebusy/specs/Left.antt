@@ -47,7 +47,7 @@ pub record AreUpTo (classes : Classes) (left : Left) (last : ℤ) : Type 0 where
   pub unavailable : AreCountedUpTo classes.unavailable left.unavailable last
   pub tentative : AreCountedUpTo classes.tentative left.tentative last
 
--- the greatest class of which more times have started than ended
+-- the greatest class that has opened more often than closed
 abbrev pub class_left : Left → Option Class
 class_left left =
     greatest_open (nat_lt left.busy.ends left.busy.starts) (nat_lt left.unavailable.ends left.unavailable.starts) (nat_lt left.tentative.ends left.tentative.starts)

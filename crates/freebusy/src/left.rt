@@ -108,7 +108,7 @@ fn last_of_class(ends: &Ends, counts: Counts, least: i64) -> i64
     last_of(ends.starts.as_slice(), counts.starts, last)
 }
 
-/// The last moment before that of `left` at which some time starts or ends, or a moment where that
+/// The last moment before that of `left` at which a class opens or closes, or a moment where that
 /// comes later.
 pub(crate) fn border(classes: &Classes, left: Left, least: i64) -> i64
     requires rising { AreAllRising classes.now }
@@ -168,14 +168,14 @@ pub(crate) fn left_back(classes: &Classes, left: Left, upper: i64) -> Left
     }
 }
 
-/// Whether more times of a class have started than ended.
+/// Whether a class has opened more often than closed.
 fn is_open(counts: Counts) -> bool
     ensures { result ≡ nat_lt counts.ends counts.starts }
 {
     counts.ends < counts.starts
 }
 
-/// The greatest class of which more times have started than ended.
+/// The greatest class that has opened more often than closed.
 pub(crate) fn open_class(left: Left) -> Option<Class>
     ensures { result ≡ spec.class_left left }
 {

@@ -54,7 +54,7 @@ fn add_stretch(
     }
 }
 
-/// The runs of a range, the last one first: from each moment at which some time starts or ends up to the
+/// The runs of a range, the last one first: from each moment at which a class opens or closes up to the
 /// next one the class stays.
 pub(crate) fn sweep(alloc: Global, classes: &Classes, range: Range) -> Result<List<Run>, NoMemory>
     requires { ends.AreAllRising classes.now }
