@@ -18,3 +18,4 @@ pub mod WindowedRows
 pub mod SeveralLemmas
 pub mod TableLemmas
 pub mod OnceLemmas
+pub mod EvenLemmas

@@ -9,3 +9,4 @@ pub mod CountedRows
 pub mod NearRows
 pub mod SeveralWindows
 pub mod HappensOnce
+pub mod EvenRules

@@ -14,6 +14,7 @@ ghost use Rattle.override_merge.specs.Conversions.{tables_of, HasZone};
 ghost use Rattle.rrule_sets.specs.AskedStarts.{later_starts};
 ghost use Rattle.rrule_sets.specs.NeededDigits.{EndsBy};
 
+use crate::even::{days_apart_beside, even_starts};
 use crate::range::{Digits, FIRST_DIGITS, moment_at};
 use cal_base::{List, NoMemory, Steps};
 use cal_model::walk::clock::Clock;
@@ -39,6 +40,36 @@ pub fn clock_beside<'a>(zones: &[LocalTimes<'a>], stamp: Stamp) -> Clock<'a>
     }
 }
 
+/// Puts the later starts of a rule between two moments behind the others: by adding days where its
+/// moments stand equally far apart, else from moment to moment.
+fn put_rule<R: Rules, L: Ledger>(
+    alloc: Global,
+    body: &R,
+    rule: &Rule,
+    start: Local,
+    clock: &Clock,
+    low: Local,
+    high: Local,
+    out: &mut List<i64>,
+    steps: &mut Steps<L>,
+) -> Result<(), NoMemory>
+    requires start { IsWritten start }
+    requires low { IsWritten low }
+    requires high { IsWritten high }
+    requires low_before_end { moment_of_local low ≤ 86_400 * end_day }
+    requires high_before_end { moment_of_local high ≤ 86_400 * end_day }
+    requires clock { IsClock clock.now }
+    requires rule { IsUsable rule.now }
+    requires coarse { is_fine rule.now.freq ≡ false }
+    ensures steps { steps.new ≤ steps.old + (1 + count_by (passes_by rule.now (moment_of_local start) (reading_by clock.now).dated (last_period rule.now (moment_of_local high))) every_moment) }
+    ensures starts { OnOk result (out.new ≡ out.old ++ starts_between rule.now (moment_of_local start) (reading_by clock.now) (moment_of_local low) (moment_of_local high)) }
+{
+    let Some(days) = days_apart_beside(rule, start, clock) else {
+        return rule_starts(alloc, body, rule, start, clock, low, high, out, steps);
+    };
+    even_starts(rule, days, start, clock, low, high, out)
+}
+
 /// Puts the later starts of rules between two moments behind the others.
 pub fn put_rules<R: Rules, L: Ledger>(
     alloc: Global,
@@ -55,6 +86,7 @@ pub fn put_rules<R: Rules, L: Ledger>(
     requires low { IsWritten low }
     requires high { IsWritten high }
     requires low_before_end { moment_of_local low ≤ 86_400 * end_day }
+    requires high_before_end { moment_of_local high ≤ 86_400 * end_day }
     requires clock { IsClock clock.now }
     requires usable { All IsUsable rules.now }
     requires coarse { All (λ (rule : Rule). is_fine rule.freq ≡ false) rules.now }
@@ -63,7 +95,7 @@ pub fn put_rules<R: Rules, L: Ledger>(
 {
     let mut rest = rules;
     'rules: while let Some((rule, behind)) = rest.split_first() {
-        rule_starts(alloc, body, rule, start, clock, low, high, out, steps)?;
+        put_rule(alloc, body, rule, start, clock, low, high, out, steps)?;
         rest = behind;
     }
     Ok(())

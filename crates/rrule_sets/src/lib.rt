@@ -9,6 +9,7 @@
 mod asked;
 mod count;
 mod ends;
+mod even;
 mod fine;
 mod instances;
 mod later;
