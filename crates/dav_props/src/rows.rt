@@ -277,5 +277,5 @@ fn first_named<'r>(rows: &'r [Row], name: &PropName) -> Option<&'r Row>
 fn is_named(row: Row, name: &PropName) -> bool
     ensures { result ≡ same_name (spec.name_of row) name.now }
 {
-    space_of(row) == name.space.as_slice() && name_of(row) == name.name.as_slice()
+    name_of(row) == name.name.as_slice() && space_of(row) == name.space.as_slice()
 }
