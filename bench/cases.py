@@ -65,12 +65,15 @@ def needs(path, privilege, **how):
 
 
 def found(*responses):
-    """207 with responses: an href, and for each status the elements of its properties."""
+    """207 with responses: an href, and for each status the elements of its properties; or one status alone."""
     text = OPENED % "multistatus"
     if not responses:
         return reply(207, (text[:-1] + "/>").encode(), XML)
     for href, of_status in responses:
         text += f"<D:response><D:href>{href}</D:href>"
+        if isinstance(of_status, int):
+            text += f"<D:status>HTTP/1.1 {of_status} {REASONS[of_status]}</D:status></D:response>"
+            continue
         for status, props in of_status:
             text += f"<D:propstat><D:prop>{props}</D:prop><D:status>HTTP/1.1 {status} {REASONS[status]}</D:status></D:propstat>"
         text += "</D:response>"
@@ -767,6 +770,35 @@ def replaced():
         case("an object is " + title, text, 0, len(text), output)
 
 
+def several():
+    """Hrefs that name nothing, a report that asks for no property, and objects of more than four components, in which a filter goes another way."""
+    tag = (200, f'<D:getetag>"{etag(E1)}"</D:getetag>')
+    hrefs = f"<D:href>{CALENDAR}none.ics</D:href><D:href>{CALENDAR}one.ics</D:href><D:href>http://h/elsewhere</D:href><D:href>{CALENDAR}%6fne.ics</D:href>"
+    runs("a multiget of hrefs that name nothing, and of one that repeats", [
+        (put("one.ics", E1), stored(E1)),
+        (report(f"<C:calendar-multiget {NAMES}><D:prop><D:getetag/></D:prop>{hrefs}</C:calendar-multiget>".encode()),
+         found((CALENDAR + "none.ics", 404), (CALENDAR + "one.ics", [tag]), ("http://h/elsewhere", 404), (CALENDAR + "one.ics", [tag]))),
+        (report(f"<C:calendar-multiget {NAMES}>{hrefs}</C:calendar-multiget>".encode()),
+         found((CALENDAR + "none.ics", 404), (CALENDAR + "one.ics", 200), ("http://h/elsewhere", 404), (CALENDAR + "one.ics", 200))),
+    ])
+    moved = calendar(
+        "BEGIN:VEVENT", "UID:six", "DTSTART:20250303T090000Z", "DTEND:20250303T100000Z", "RRULE:FREQ=DAILY;COUNT=6", "SUMMARY:Plain", "END:VEVENT",
+        *[line for day in range(4, 9) for line in (
+            "BEGIN:VEVENT", "UID:six", f"RECURRENCE-ID:2025030{day}T090000Z", f"DTSTART:2025030{day}T150000Z", f"DTEND:2025030{day}T160000Z", f"SUMMARY:Moved {day}", "END:VEVENT",
+        )],
+    )
+    shown, nothing = found((CALENDAR + "six.ics", [(200, f'<D:getetag>"{etag(moved)}"</D:getetag>')])), found()
+
+    def asks(day, hour, text=None):
+        inner = f'<C:prop-filter name="SUMMARY"><C:text-match>{text}</C:text-match></C:prop-filter>' if text else ""
+        return report(query(f"2025030{day}T{hour:02}0000Z", f"2025030{day}T{hour + 1:02}0000Z", "<D:getetag/>", inner))
+
+    runs("a meeting of which five instances were moved, asked for by what is left of it", [
+        (put("six.ics", moved), stored(moved)), (asks(3, 9), shown), (asks(3, 15), nothing), (asks(5, 9), nothing), (asks(5, 15), shown), (asks(8, 15), shown), (asks(9, 9), nothing),
+        (asks(7, 15, "moved 7"), shown), (asks(6, 15, "moved 7"), nothing), (asks(3, 9, "plain"), shown), (asks(7, 15, "plain"), nothing),
+    ])
+
+
 def walk(title, steps):
     """A walk through a book: for each step its letter, the request that it answers, if it answers one, and what is printed."""
     letters = "".join(letter for letter, _, _ in steps)
@@ -842,7 +874,7 @@ def books():
 
 
 def main():
-    for part in (ends, cuttings, streams, objects, methods, reading, deleting, putting, properties, granting, reporting, homes, replaced, books):
+    for part in (ends, cuttings, streams, objects, methods, reading, deleting, putting, properties, granting, reporting, homes, replaced, several, books):
         part()
     for crate, given, told in (("script_cases", CASES, ANSWERS), ("book_cases", WALKS, TOLD)):
         texts = {"stdin": b"".join(given), "stdout": b"".join(told)}
