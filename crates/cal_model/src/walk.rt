@@ -5,7 +5,7 @@
 //! allows. Each moment is taken from the rule once. Zones and objects are read by it.
 
 pub mod clock;
-mod cursor;
+pub mod cursor;
 mod kept;
 mod period;
 mod picks;

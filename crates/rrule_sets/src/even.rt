@@ -1,5 +1,5 @@
-//! Rules whose moments stand equally far apart, as those of most do: each is found by adding days to the
-//! one before (RFC 5545, 3.3.10).
+//! Rules whose moments stand equally far apart: each is found by adding days to the one before (RFC 5545,
+//! 3.3.10).
 ghost use Rattle.std.specs.Prelude.{◌≡◌, ◌⊎◌, ◌+◌, ◌*◌, ◌<◌, ◌≤◌, ◌^◌, ◌++◌, ℕ, ℤ, pos, ◌+ℤ◌, true, false, None, nat_le, nat_lt, ◌&&◌, ◌∷◌, [], if◌then◌else◌, Some, IfSome, OnOk};
 ghost use Rattle.cal_moment.specs.Calendar.{seconds_since_1970};
 ghost use Rattle.cal_model.specs.Recurrence.NextPassing.{IsUsable, IsWritten, end_day};
@@ -12,14 +12,10 @@ ghost use Rattle.rrule_sets.specs.EvenRules.{IsBare, IsEven, fewer};
 
 use cal_base::{List, NoMemory};
 use cal_model::walk::clock::Clock;
+use cal_model::walk::cursor::is_before;
+use cal_model::walk::rule_walk::{LAST_WRITTEN, less_one};
 use cal_model::{Freq, Rule};
 use cal_moment::Local;
-
-/// The last written value of a start, the end of 2100.
-const LAST_WRITTEN: Local = Local {
-    day: 47_846,
-    second: 86_399,
-};
 
 /// A place among the moments of a rule: the last that was taken, and how many COUNT still allows.
 #[derive(Clone, Copy)]
@@ -92,15 +88,6 @@ fn moment_behind(at: Local, days: u64) -> Local
     }
 }
 
-/// Whether a moment lies before another.
-fn is_before(a: Local, b: Local) -> bool
-    requires a { IsWritten a }
-    requires b { IsWritten b }
-    ensures { result ≡ nat_lt (moment_of_local a) (moment_of_local b) }
-{
-    a.day < b.day || (a.day == b.day && a.second < b.second)
-}
-
 /// How many moments of a rule that stand so many days apart lie behind its start on days before that of
 /// another moment.
 fn moments_before(start: Local, days: u64, low: Local) -> u32
@@ -114,16 +101,6 @@ fn moments_before(start: Local, days: u64, low: Local) -> u32
     }
     let between = (low.day as i64 - start.day as i64 - 1) as u64;
     (between / days) as u32
-}
-
-/// One less, where some are said.
-fn less_one(left: Option<u32>) -> Option<u32>
-    ensures { result ≡ one_less left }
-{
-    match left {
-        None => None,
-        Some(n) => Some(n.saturating_sub(1)),
-    }
 }
 
 /// So many fewer, where some are said.

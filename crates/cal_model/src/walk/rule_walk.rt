@@ -36,7 +36,7 @@ const SECOND_YEAR: Local = Local {
 };
 
 /// The last written value of a start, the end of 2100.
-const LAST_WRITTEN: Local = Local {
+pub const LAST_WRITTEN: Local = Local {
     day: 47_846,
     second: 86_399,
 };
@@ -47,7 +47,8 @@ pub const END: Local = Local {
     second: 0,
 };
 
-fn less_one(left: Option<u32>) -> Option<u32>
+/// One less, where some are said.
+pub fn less_one(left: Option<u32>) -> Option<u32>
     ensures { result ≡ one_less left }
 {
     match left {
