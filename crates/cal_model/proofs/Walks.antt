@@ -6,3 +6,5 @@ pub mod BeginLemmas
 pub mod BudgetLemmas
 pub mod DayCounts
 pub mod PlaceLemmas
+pub mod DayTimeLemmas
+pub mod DayLemmas

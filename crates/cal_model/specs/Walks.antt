@@ -3,6 +3,7 @@
 pub mod Clocks
 pub mod KeptMoments
 pub mod Cursors
+pub mod DayTimes
 pub mod PickedRest
 pub mod Places
 pub mod Budgets

@@ -2,10 +2,12 @@
 //!
 //! Given: a rule, a start and the clock beside which it is written. Gives: one after the other, the
 //! moments that pass and exist, of these those that BYSETPOS picks, up to UNTIL and as many as COUNT
-//! allows. Each moment is taken from the rule once. Zones and objects are read by it.
+//! allows. No moment is taken from the rule twice. Zones and objects are read by it.
 
 pub mod clock;
 pub mod cursor;
+mod day_times;
+mod days;
 mod kept;
 mod period;
 mod picks;

@@ -1,6 +1,5 @@
 -- The local day of some digits begins at or before them, and the next one after them, also before the year 0.
-use Rattle.std.proofs.Common.{◌≡◌, ℕ, ◌*◌, sym, arith, ℤ, pos, negsuc, neg_ℤ, ◌+ℤ◌, ◌*ℤ◌, ◌≤ℤ◌, ◌<ℤ◌}
-use Rattle.std.specs.Int.{int_div_euclid}
+use Rattle.std.proofs.Common.{◌≡◌, ◌*◌, arith, ℤ, pos, negsuc, neg_ℤ, ◌+ℤ◌, ◌*ℤ◌, ◌≤ℤ◌, ◌<ℤ◌}
 use Rattle.std.proofs.lemmas.Int.{ints}
 use Rattle.cal_moment.specs.Calendar.{moment_of_seconds, seconds_since_1970, day_of_moment}
 use Rattle.cal_model.specs.Instances.Alignment.{midnight_of}

@@ -1,7 +1,7 @@
 -- The greatest of some ends, and the first start of a day.
-use Rattle.std.proofs.Common.{◌≡◌, ℕ, zero, suc, List, [], ◌∷◌, refl, sym, ap, ◌∙◌, arith, Bool, true, false, ℤ, ◌<ℤ◌, ◌≤ℤ◌, inl, inr}
-use Rattle.std.specs.Prelude.{All, AllPairs, Contains, filter, int_lt, if◌then◌else◌}
-use Rattle.std.proofs.lemmas.Int.{ints, by_lt_z}
+use Rattle.std.proofs.Common.{◌≡◌, List, [], ◌∷◌, refl, arith, Bool, true, false, ℤ, ◌<ℤ◌, ◌≤ℤ◌, inl, inr}
+use Rattle.std.specs.Prelude.{All, AllPairs, Contains, filter, int_lt}
+use Rattle.std.proofs.lemmas.Int.{ints}
 use Rattle.std.proofs.lemmas.Bool.{cases_Bool}
 use Rattle.std.proofs.lemmas.List.Elements.{All-head, All-tail, All-cons, All-contains}
 use Rattle.cal_model.specs.Words.Integers.{greatest_of}

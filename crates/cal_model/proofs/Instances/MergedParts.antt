@@ -1,5 +1,5 @@
 -- A merge over a part of the instances gives the rows of a window, if the part has the instances of the window and those on the days that overrides name.
-use Rattle.std.proofs.Common.{◌≡◌, ℕ, List, [], ◌∷◌, ◌++◌, refl, ap, sym, ◌∙◌, Bool, true, false, inl, inr, ℤ}
+use Rattle.std.proofs.Common.{◌≡◌, List, [], ◌∷◌, ◌++◌, refl, ap, sym, ◌∙◌, Bool, true, inl, inr, ℤ}
 use Rattle.std.specs.Prelude.{All, AllPairs, filter, map, flat_map, option_to_list, not, Option, None, Some}
 use Rattle.std.proofs.lemmas.Bool.{cases_Bool}
 use Rattle.std.proofs.lemmas.List.Elements.{All-head, All-tail, filter-append}

@@ -1,12 +1,12 @@
 -- Each start and each dated row of an object that was read lies within three days of the stated dates, so between 1599 and 2102, and in a window of theirs.
-use Rattle.std.proofs.Common.{◌≡◌, ℕ, ◌+◌, ◌-◌, ◌≤◌, ◌<◌, List, [], ◌∷◌, ◌++◌, map, refl, sym, subst, arith, Bool, true, false, ℤ, pos, neg_ℤ, ◌+ℤ◌, ◌-ℤ◌, ◌*ℤ◌, ◌≤ℤ◌, ◌<ℤ◌, inl, inr, ap}
-use Rattle.std.specs.Prelude.{All, Contains, filter, flat_map, not, nat_le, int_le, int_lt, ◌&&◌, slice_get, option_to_list, option_and_then, is_none, unwrap_or, if◌then◌else◌, Option, Some, None}
+use Rattle.std.proofs.Common.{◌≡◌, ℕ, ◌+◌, ◌≤◌, List, [], ◌∷◌, ◌++◌, map, refl, sym, subst, arith, Bool, true, false, ℤ, pos, neg_ℤ, ◌+ℤ◌, ◌-ℤ◌, ◌≤ℤ◌, inl, inr, ap}
+use Rattle.std.specs.Prelude.{All, Contains, filter, flat_map, not, nat_le, slice_get, option_to_list, option_and_then, is_none, unwrap_or, if◌then◌else◌, Option, Some, None}
 use Rattle.std.specs.Int.{int_div_euclid}
 use Rattle.std.proofs.lemmas.Int.{ints}
 use Rattle.std.proofs.lemmas.Bool.{cases_Bool, leb-true}
 use Rattle.std.proofs.lemmas.Option.{none-some}
-use Rattle.std.proofs.lemmas.List.Elements.{All-head, All-tail, All-nil, All-cons, All-append, All-map, All-filter, All-weaker, All-contains, filter_passes}
-use Rattle.cal_moment.specs.Calendar.{IsCalendarMoment, seconds_since_1970, moment_of_seconds}
+use Rattle.std.proofs.lemmas.List.Elements.{All-head, All-nil, All-cons, All-append, All-map, All-filter, All-weaker, All-contains, filter_passes}
+use Rattle.cal_moment.specs.Calendar.{seconds_since_1970}
 use Rattle.cal_moment.proofs.CalendarLaws.{seconds_since_1970-moment_of_seconds}
 use Rattle.cal_moment.specs.declared.stamp.Stamp.{Stamp}
 use Rattle.cal_moment.specs.declared.stamp.Stamp.TheVariants.{Date, Floating, Zoned, Utc}
@@ -25,19 +25,17 @@ use Rattle.cal_model.specs.Words.Limits.{first_date, last_date}
 use Rattle.cal_model.specs.Recurrence.RecurrenceSet.{first_counted, later_moments, last_written}
 use Rattle.cal_model.specs.Objects.ObjectFacts.{IsServed, IsReadComponent, IsReadObject, stamps_of_extent}
 use Rattle.cal_model.specs.Objects.ObjectFaults.{stamps_of_period, stamps_of_end}
-use Rattle.cal_model.specs.Instances.Alignment.{Aligned, reading_of, value_of, kind_of, written_value, written_moment, midnight_of, zone_of}
+use Rattle.cal_model.specs.Instances.Alignment.{Aligned, reading_of, value_of, kind_of, written_value, written_moment, midnight_of}
 use Rattle.cal_model.specs.Instances.Starts.{own_start, own_start_of, recurs, is_excepted, rule_starts, date_start, period_starts, plain_starts, ascending, starts_from, starts_of, is_date, end_from, end_of_instance}
 use Rattle.cal_model.specs.Instances.Rows.{Numbered, numbered, has_id, masters, overrides, ids_start, id_of_override, named_by, is_named, row_of, undated_row, undated_rows, is_dated, starts, master_row, row_at, override_row, override_row_from, dated_rows, rows_by, rows_over, rows, nominal_beside, nominal_start, window_of, window_seconds}
-use Rattle.cal_model.specs.Instances.LaterRows.{Governor, governors, greatest_id, moved_digits, moved_row, governed_row, later_row_at, later_rows_over}
 use Rattle.cal_model.specs.Ranges.Nearness.{IsNear, HasShortOffsets}
 use Rattle.cal_model.specs.Reports.NeededWindows.{is_stated_window}
 use Rattle.cal_model.proofs.Recurrence.RecurrenceSetLemmas.{uncounted, later_moments-after}
-use Rattle.cal_model.proofs.TimeZones.NearTimes.{instant_of-near}
 use Rattle.cal_model.proofs.Instances.DayLaws.{midnight_of-holds}
 use Rattle.cal_model.proofs.Words.AllLemmas.{All-everywhere, All-flat_map, All-each_part, All-left, All-right, All-option, All-slice_get}
 use Rattle.cal_model.proofs.Instances.EachRowLemmas.{All-in_order, All-numbered_from}
 use Rattle.cal_model.proofs.Instances.RisingLists.{All-ascending}
-use Rattle.cal_model.proofs.Ranges.RowBounds.{instant-near, local-near, zone_of-short}
+use Rattle.cal_model.proofs.Ranges.RowBounds.{instant-near, local-near}
 use Rattle.cal_model.proofs.Ranges.NearRanges.{window-holds}
 use Rattle.cal_model.proofs.Objects.ObjectNearness.{HasNearRows-object}
 

@@ -1,12 +1,11 @@
 -- The offsets and the rules of the parts of a zone that was read.
-use Rattle.std.proofs.Common.{◌≡◌, ℕ, ◌+◌, ◌*◌, ◌≤◌, Bool, true, false, List, [], ◌∷◌, ◌++◌, ap, arith, ℤ, pos, neg_ℤ, subst, ◌<◌, refl, min, sym, map, ◌+ℤ◌, ◌*ℤ◌}
-use Rattle.std.specs.Prelude.{Option, Some, None, nat_le, ◌&&◌, bytes_eq, ◌≤ℤ◌, if◌then◌else◌, unwrap_or, take, drop, codes, option_map}
+use Rattle.std.proofs.Common.{◌≡◌, ℕ, ◌+◌, ◌*◌, ◌≤◌, Bool, true, false, List, [], ◌∷◌, ◌++◌, ap, arith, ℤ, pos, neg_ℤ, subst, refl, sym, map}
+use Rattle.std.specs.Prelude.{Option, Some, None, nat_le, ◌&&◌, bytes_eq, if◌then◌else◌, unwrap_or, codes, option_map}
 use Rattle.std.proofs.lemmas.Bool.{leb-true}
 use Rattle.std.proofs.lemmas.Int.{ints}
 use Rattle.std.proofs.lemmas.Option.{none-some, cond_some}
-use Rattle.cal_moment.specs.Calendar.{IsBetween, month_length, first_of_year, day_of_date, day_since_1970, IsCalendarMoment, moment_of_seconds, seconds_since_1970, day_of_moment, second_of_day}
-use Rattle.cal_moment.proofs.CalendarLaws.{first_of_year-le, day_of_date-within, seconds_since_1970-moment_of_seconds}
-use Rattle.cal_moment.specs.declared.stamp.Day.{Day}
+use Rattle.cal_moment.specs.Calendar.{IsBetween, day_since_1970, IsCalendarMoment, moment_of_seconds, seconds_since_1970, day_of_moment, second_of_day}
+use Rattle.cal_moment.proofs.CalendarLaws.{seconds_since_1970-moment_of_seconds}
 use Rattle.cal_moment.specs.declared.stamp.Local.{Local}
 use Rattle.cal_model.specs.Recurrence.NextPassing.{IsWritten, IsUsable, is_fine}
 use Rattle.std.specs.List.{AllByRecursion as Each}
@@ -28,8 +27,8 @@ use Rattle.cal_model.proofs.Objects.TestedLines.{period_by}
 use Rattle.cal_model.specs.Values.StampTexts.{local_digits, stamp_of_time, time_stamp, utc_stamp, stamp_of, stamps_in_grammar, is_one_of, utc_names, is_date_text, line_zone, items_of, period_of_ends, written_period_end, period_with, period_of, periods_in_grammar}
 use Rattle.cal_model.proofs.Objects.WrittenDates.{date_read, date_time_read, moment_of_digits}
 use Rattle.cal_model.proofs.Objects.RuleBounds.{map_value, and_then_value, each_read, IsUsable-rule_of}
-use Rattle.cal_moment.specs.Texts.{digits, sign_text, signed, date_text, time_text, utc_text, local_of_seconds}
-use Rattle.cal_model.specs.Values.ValueTexts.{number_at, is_calendar_date, is_clock_time, date_of, time_of, date_time_of, local_time, utc_of_local, moment_of, cut, offset_of, is_negative, second_text}
+use Rattle.cal_moment.specs.Texts.{digits, sign_text, signed, local_of_seconds}
+use Rattle.cal_model.specs.Values.ValueTexts.{number_at, date_of, date_time_of, utc_of_local, moment_of, cut, offset_of, is_negative, second_text}
 use Rattle.cal_model.proofs.Words.EachLemmas.{both_hold, each_of_any, each-map, each-append, each-flat_map, each-filter_map}
 
 signed_within : (negative : Bool) (n : ℕ) → n ≤ 86_399 → IsBetween (neg_ℤ (pos 86_399)) (pos 86_399) (signed negative n)

@@ -1,8 +1,8 @@
 -- The last day up to which a window may cost rises with the window.
-use Rattle.std.proofs.Common.{◌≡◌, ℕ, ◌≤◌, arith, ℤ, pos, negsuc, ◌+ℤ◌, ◌*ℤ◌, ◌≤ℤ◌}
+use Rattle.std.proofs.Common.{◌≤◌, arith, ℤ, pos, negsuc, ◌+ℤ◌, ◌*ℤ◌, ◌≤ℤ◌}
 use Rattle.std.proofs.lemmas.Int.{ints}
 use Rattle.cal_moment.specs.Calendar.{epoch_day}
-use Rattle.cal_model.specs.Ranges.Cost.{natural_part, number_of_day, last_of_window}
+use Rattle.cal_model.specs.Ranges.Cost.{natural_part, last_of_window}
 
 natural_part-le : (a b : ℤ) → a ≤ℤ b → natural_part a ≤ natural_part b
 natural_part-le (pos m) (pos n) le = omega (arith, ints, le)

@@ -1,7 +1,6 @@
 -- Each dated row of an object is the row of a component that has a start, with its end near its own start.
 use Rattle.std.proofs.Common.{◌≡◌, ℕ, ◌+◌, ◌≤◌, Bool, List, [], ◌∷◌, ◌++◌, map, refl, arith, true, ℤ, inl, inr}
 use Rattle.std.specs.Prelude.{All, filter, flat_map, not, int_le, int_lt, slice_get, option_to_list, is_none, Some}
-use Rattle.std.proofs.lemmas.Int.{ints}
 use Rattle.std.proofs.lemmas.Bool.{cases_Bool}
 use Rattle.std.proofs.lemmas.List.Elements.{All-head, All-tail, All-nil, All-cons, All-append, All-map, All-filter, All-weaker}
 use Rattle.cal_moment.specs.declared.stamp.Stamp.{Stamp}

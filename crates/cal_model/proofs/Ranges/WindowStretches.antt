@@ -1,21 +1,21 @@
 -- Of a rule without COUNT, the members that start in a window are those of a stretch that covers the window's digits.
-use Rattle.std.proofs.Common.{◌≡◌, ℕ, ◌+◌, ◌-◌, ◌*◌, ◌<◌, ◌≤◌, List, [], ◌∷◌, ◌++◌, refl, ap, sym, ◌∙◌, arith, Bool, true, false, inl, inr, nat_lt, ◌⊎◌, ℤ, pos, ◌+ℤ◌, ◌*ℤ◌, ◌≤ℤ◌, ◌<ℤ◌}
-use Rattle.std.specs.Prelude.{All, filter, if◌then◌else◌, Option, None, Some, nat_le}
+use Rattle.std.proofs.Common.{◌≡◌, ℕ, ◌*◌, ◌<◌, ◌≤◌, List, [], ◌∷◌, ◌++◌, refl, ap, ◌∙◌, arith, Bool, true, false, inl, inr, ◌⊎◌, ℤ, pos, ◌+ℤ◌, ◌*ℤ◌, ◌≤ℤ◌, ◌<ℤ◌}
+use Rattle.std.specs.Prelude.{All, filter, None}
 use Rattle.std.specs.Int.{int_div_euclid}
 use Rattle.std.proofs.lemmas.Int.{ints}
 use Rattle.std.proofs.lemmas.Bool.{cases_Bool}
-use Rattle.std.proofs.lemmas.List.Elements.{All-head, All-tail, All-filter, All-take, filter-append}
+use Rattle.std.proofs.lemmas.List.Elements.{All-head, All-tail, filter-append}
 use Rattle.cal_moment.specs.Calendar.{seconds_since_1970}
 use Rattle.cal_moment.specs.declared.stamp.Stamp.{Stamp}
 use Rattle.cal_moment.specs.declared.stamp.Stamp.TheVariants.{Date, Floating, Zoned, Utc}
 use Rattle.cal_model.specs.declared.rule.Rule.{Rule}
 use Rattle.cal_model.specs.declared.zone.ZoneTable.{ZoneTable}
-use Rattle.cal_model.specs.Words.Lists.{is_empty, numbers_between}
-use Rattle.cal_model.specs.Words.Integers.{some_names_place, same_int}
+use Rattle.cal_model.specs.Words.Lists.{numbers_between}
+use Rattle.cal_model.specs.Words.Integers.{same_int}
 use Rattle.cal_model.specs.Recurrence.NextPassing.{end_day}
-use Rattle.cal_model.specs.Recurrence.Passing.{passes, period_number}
+use Rattle.cal_model.specs.Recurrence.Passing.{period_number}
 use Rattle.cal_model.specs.Instances.Alignment.{reading_of, zone_of}
-use Rattle.cal_model.specs.Recurrence.RecurrenceSet.{Reading, every_moment, first_moment, found_moments, at_places, place_in_period, size_of_period, until_passes, first_counted, later_moments, last_written}
+use Rattle.cal_model.specs.Recurrence.RecurrenceSet.{every_moment, first_moment, later_moments}
 use Rattle.cal_model.specs.Instances.Rows.{window_seconds}
 use Rattle.cal_model.proofs.Words.IntegerLemmas.{same_int-true}
 use Rattle.cal_model.proofs.TimeZones.NearTimes.{local_at-instant_of}

@@ -1,15 +1,13 @@
 -- Conversions in the standard's own words: the offset at an instant, and whether a local time exists.
-use Rattle.std.proofs.Common.{◌≡◌, ℕ, zero, suc, ◌<◌, List, [], ◌∷◌, length, get_or, refl, sym, arith, Bool, true, false, ℤ, ◌≤ℤ◌, ◌<ℤ◌, inl, inr, ◌⊎◌}
-use Rattle.std.specs.Prelude.{Contains, not, ◌==◌, slice_index_or}
+use Rattle.std.proofs.Common.{◌≡◌, ℕ, zero, suc, ◌<◌, List, [], ◌∷◌, length, get_or, refl, sym, arith, Bool, true, false, ℤ, inl, inr}
+use Rattle.std.specs.Prelude.{Contains, not, ◌==◌}
 use Rattle.std.specs.Bool.{OnTrue, OnFalse}
-use Rattle.std.proofs.lemmas.Int.{ints}
 use Rattle.cal_model.specs.declared.zone.Onset.{Onset}
 use Rattle.cal_model.specs.declared.zone.ZoneTable.{ZoneTable}
 use Rattle.cal_model.specs.Words.Lists.{is_empty}
 use Rattle.cal_model.specs.TimeZones.TableBounds.{IsRising}
-use Rattle.cal_model.specs.TimeZones.Stretches.{no_onset}
-use Rattle.cal_model.specs.TimeZones.Zones.{offset_at, local_at, exists_in, instant_of, instants_of, IsLatestOnset, IsOffsetAt, IsShown, IsSkipped}
-use Rattle.cal_model.proofs.TimeZones.Instants.{In, instants_of-all, nth, Latest, Earlier, latest_onset}
+use Rattle.cal_model.specs.TimeZones.Zones.{offset_at, exists_in, instant_of, instants_of, IsOffsetAt, IsShown, IsSkipped}
+use Rattle.cal_model.proofs.TimeZones.Instants.{In, instants_of-all, nth, latest_onset}
 use Rattle.cal_model.proofs.TimeZones.NearTimes.{local_at-instant_of}
 
 -- what stands at some place stands there whatever is read past the end

@@ -1,21 +1,19 @@
 -- Where a walk may begin.
-use Rattle.std.proofs.Common.{◌≡◌, ℕ, zero, suc, ◌+◌, ◌-◌, ◌*◌, ◌/◌, ◌%◌, ◌<◌, ◌≤◌, List, [], ◌∷◌, ◌++◌, drop, length, refl, sym, ap, ◌∙◌, arith, Bool, true, false, nat_lt, inl, inr, ◌⊎◌}
-use Rattle.std.specs.Prelude.{All, filter, nat_le, ◌&&◌, Option, Some, None}
+use Rattle.std.proofs.Common.{◌≡◌, ℕ, zero, suc, ◌+◌, ◌-◌, ◌*◌, ◌/◌, ◌%◌, ◌<◌, ◌≤◌, List, [], ◌++◌, length, refl, ap, ◌∙◌, arith, true, nat_lt, inl, inr, ◌⊎◌}
+use Rattle.std.specs.Prelude.{All, filter, nat_le, ◌&&◌, Option, None}
 use Rattle.std.proofs.lemmas.Bool.{cases_Bool, ltb-true, ltb-false}
 use Rattle.std.proofs.lemmas.List.Elements.{All-filter, All-weaker, All-nil, All-cons}
-use Rattle.cal_moment.specs.Calendar.{first_of_year, year_of, day_of_moment, month_of}
+use Rattle.cal_moment.specs.Calendar.{first_of_year, year_of}
 use Rattle.cal_moment.proofs.CalendarLaws.{first_of_year-le, year_of-first, year_of-last, year_of-only}
 use Rattle.cal_model.specs.declared.rule.Rule.{Rule}
-use Rattle.cal_model.specs.declared.rule.Freq.{Freq}
-use Rattle.cal_model.specs.declared.rule.Freq.TheVariants.{Secondly, Minutely, Hourly, Daily, Weekly, Monthly, Yearly}
+use Rattle.cal_model.specs.declared.rule.Freq.TheVariants.{Hourly, Daily, Weekly, Monthly, Yearly}
 use Rattle.cal_model.specs.Words.Lists.{is_empty, numbers_between, counted_from}
 use Rattle.cal_model.specs.Words.Integers.{some_names_place}
 use Rattle.cal_model.specs.Values.LocalTimes.{moment_of_local}
-use Rattle.cal_model.specs.Recurrence.NextPassing.{end_day, is_fine}
-use Rattle.cal_model.specs.Recurrence.Passing.{period_number}
-use Rattle.cal_model.specs.Recurrence.RecurrenceSet.{Reading, every_moment, first_moment, found_moments, at_places, later_moments, place_in_period, size_of_period}
-use Rattle.cal_model.proofs.Recurrence.Rising.{period_number-le, month_of-first, month_of-last}
-use Rattle.cal_model.specs.Walks.KeptMoments.{found_from, found_between, kept_from, wanted, one_less, IsPeriodFirst, number_of, moments_of}
+use Rattle.cal_model.specs.Recurrence.NextPassing.{end_day}
+use Rattle.cal_model.specs.Recurrence.RecurrenceSet.{Reading, every_moment, first_moment, at_places, later_moments, place_in_period, size_of_period}
+use Rattle.cal_model.proofs.Recurrence.Rising.{month_of-first, month_of-last}
+use Rattle.cal_model.specs.Walks.KeptMoments.{found_from, found_between, kept_from, wanted, one_less, IsPeriodFirst, number_of}
 use Rattle.cal_model.specs.Walks.PickedRest.{rest_of}
 use Rattle.cal_model.specs.declared.walk.picks.Picks.{Picks}
 use Rattle.cal_model.proofs.Walks.KeptLemmas.{kept_from-period, kept_from-plain, is_found, later_periods}

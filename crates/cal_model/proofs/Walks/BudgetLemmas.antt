@@ -1,15 +1,16 @@
 -- Each moment that is taken is one less to take.
-use Rattle.std.proofs.Common.{◌≡◌, ℕ, zero, suc, ◌+◌, ◌-◌, ◌*◌, ◌<◌, ◌≤◌, List, [], ◌∷◌, ◌++◌, refl, sym, ap, ◌∙◌, arith, Bool, true, false, inl, inr, cond}
+use Rattle.std.proofs.Common.{◌≡◌, ℕ, suc, ◌+◌, ◌-◌, ◌*◌, ◌<◌, ◌≤◌, List, [], ◌∷◌, ◌++◌, refl, sym, ap, ◌∙◌, arith, Bool, true, false, inl, inr, cond}
 use Rattle.std.specs.Prelude.{count_by, nat_le, if◌then◌else◌, ◌&&◌}
-use Rattle.std.proofs.lemmas.Bool.{cases_Bool, leb-true, leb-false}
+use Rattle.std.proofs.lemmas.Bool.{cases_Bool, leb-true}
 use Rattle.std.proofs.lemmas.List.Sums.{sum_by-append}
 use Rattle.cal_model.specs.declared.rule.Rule.{Rule}
 use Rattle.cal_model.specs.Words.Lists.{numbers_between, counted_from}
-use Rattle.cal_model.specs.Recurrence.NextPassing.{IsNextPassing, NonePasses, end_day}
-use Rattle.cal_model.specs.Recurrence.Passing.{passes, period_number}
+use Rattle.cal_model.specs.Recurrence.NextPassing.{IsNextPassing, end_day}
+use Rattle.cal_model.specs.Recurrence.Passing.{passes}
 use Rattle.cal_model.specs.Recurrence.RecurrenceSet.{every_moment, first_moment}
 use Rattle.cal_model.proofs.Words.CountedLemmas.{numbers_between-cut}
 use Rattle.cal_model.proofs.Recurrence.Periods.{count_one, count_zero}
+use Rattle.cal_model.proofs.Recurrence.Rising.{period_number-le}
 use Rattle.cal_model.specs.Walks.KeptMoments.{number_of}
 use Rattle.cal_model.specs.Walks.Budgets.{passes_by, last_period, budget}
 use Rattle.cal_moment.specs.declared.stamp.Stamp.{Stamp}
@@ -68,6 +69,18 @@ module _ (rule : Rule) (start : ℕ) (dated : Bool) (last : ℕ) where
       let up = count_from (passes_by rule start dated last) first_moment p (86400 * end_day) from to in
       elim (cases_Bool (nat_le (number_of rule (p - 1)) last)) [
         | inl w ↦ rw w (omega (arith, up))
+        | inr w ↦ rw w (omega (arith, up))
+      ]
+
+module _ (rule : Rule) (start : ℕ) (dated : Bool) (last : ℕ) where
+  -- a place further on leaves no more to take
+  pub budget-further : (p q : ℕ) → p ≤ q → q ≤ 86400 * end_day → budget rule start dated last q ≤ budget rule start dated last p
+  unfolding budget
+  budget-further p q le end =
+      let up = count_from (passes_by rule start dated last) p q (86400 * end_day) le end in
+      let rises = period_number-le rule.freq rule.week_start (p - 1) (q - 1) (omega (arith, le)) in
+      elim (cases_Bool (nat_le (number_of rule (q - 1)) last)) [
+        | inl w ↦ (let within = leb-true _ _ w in let allowed : nat_le (number_of rule (p - 1)) last ≡ true = grind (arith, rises, within) in rw (w, allowed) (omega (arith, up)))
         | inr w ↦ rw w (omega (arith, up))
       ]
 

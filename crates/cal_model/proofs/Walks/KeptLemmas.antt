@@ -136,7 +136,7 @@ module _ (rule : Rule) (start : ℕ) (reading : Reading) where
   pub none_later : (P : ℕ → Type 0) (a : ℕ) → a ≡ 86400 * end_day → All P (found_from rule start reading a)
   none_later P a e = let empty = ap (found_from rule start reading) e ∙ found_from-end in rw empty (All-nil P)
 
-  all_within : (P : ℕ → Type 0) (first n : ℕ) → ((m : ℕ) → first ≤ m → m < first + n → P m) → All P (counted_from first n)
+  pub all_within : (P : ℕ → Type 0) (first n : ℕ) → ((m : ℕ) → first ≤ m → m < first + n → P m) → All P (counted_from first n)
   unfolding counted_from
   all_within P first zero h = All-nil P
   all_within P first (suc n) h = All-cons P first (counted_from (first + 1) n) (h first (omega arith) (omega arith)) (all_within P (first + 1) n (λ m low high. h m (omega arith) (omega arith)))

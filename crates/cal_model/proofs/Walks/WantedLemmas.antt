@@ -1,15 +1,14 @@
 -- What a rule's set has in a range, one kept moment after the other.
-use Rattle.std.proofs.Common.{◌≡◌, ℕ, zero, suc, ◌+◌, ◌-◌, ◌*◌, ◌<◌, ◌≤◌, List, [], ◌∷◌, ◌++◌, take, append_assoc, refl, sym, ap, ◌∙◌, arith, Bool, true, false, nat_lt, inl, inr}
-use Rattle.std.specs.Prelude.{All, filter, nat_le, if◌then◌else◌, ◌&&◌, Option, Some, None, option_map, is_some}
-use Rattle.std.proofs.lemmas.Bool.{cases_Bool, ltb-true, ltb-false, leb-true, leb-false}
-use Rattle.std.proofs.lemmas.List.Elements.{All-head, All-tail, All-nil, All-cons, All-filter, All-take, All-weaker, filter-append}
+use Rattle.std.proofs.Common.{◌≡◌, ℕ, zero, suc, ◌+◌, ◌-◌, ◌*◌, ◌<◌, ◌≤◌, List, [], ◌∷◌, ◌++◌, take, append_assoc, refl, ap, ◌∙◌, arith, Bool, true, false, nat_lt, inl, inr}
+use Rattle.std.specs.Prelude.{All, filter, nat_le, if◌then◌else◌, ◌&&◌, Option, Some, None, is_some}
+use Rattle.std.proofs.lemmas.Bool.{cases_Bool}
+use Rattle.std.proofs.lemmas.List.Elements.{All-head, All-tail, All-nil, All-cons, All-filter, All-take, All-weaker}
 use Rattle.cal_model.specs.declared.rule.Rule.{Rule}
-use Rattle.cal_model.specs.Words.Lists.{numbers_between, counted_from, is_empty}
-use Rattle.cal_model.specs.Words.Integers.{some_names_place}
+use Rattle.cal_model.specs.Words.Lists.{numbers_between, counted_from}
 use Rattle.cal_model.specs.Recurrence.NextPassing.{end_day}
-use Rattle.cal_model.specs.Recurrence.RecurrenceSet.{Reading, every_moment, first_moment, found_moments, at_places, until_passes, first_counted, later_moments, last_written, place_in_period, size_of_period}
+use Rattle.cal_model.specs.Recurrence.RecurrenceSet.{Reading, first_moment, found_moments, at_places, until_passes, first_counted, later_moments, last_written}
 use Rattle.cal_model.proofs.Walks.KeptLemmas.{is_found, found_from-cut}
-use Rattle.cal_model.specs.Walks.KeptMoments.{found_from, kept_from, counted_by, wanted, one_less, starts_by}
+use Rattle.cal_model.specs.Walks.KeptMoments.{found_from, counted_by, wanted, one_less, starts_by}
 use Rattle.std.proofs.Common.{ℤ}
 use Rattle.cal_moment.specs.Calendar.{seconds_since_1970}
 

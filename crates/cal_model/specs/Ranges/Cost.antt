@@ -19,9 +19,9 @@ use Rattle.cal_model.specs.declared.row.Range.{Range}
 use Rattle.std.specs.Int.{int_div_euclid}
 use Rattle.cal_model.specs.Recurrence.Passing.{passes, period_number}
 use Rattle.cal_model.specs.Recurrence.RecurrenceSet.{every_moment}
-use Rattle.cal_model.specs.Instances.Alignment.{Aligned, at, on_day, reading_of, value_of, written_moment}
+use Rattle.cal_model.specs.Instances.Alignment.{Aligned, at, on_day, value_of, written_moment}
 use Rattle.cal_model.specs.Ranges.Overlap.{seconds_of}
-use Rattle.cal_model.specs.Instances.Rows.{Numbered, is_date, own_start, overrides, ids_start, named_by, window_seconds}
+use Rattle.cal_model.specs.Instances.Rows.{is_date, own_start, overrides, ids_start, named_by, window_seconds}
 
 -- Cost.
 

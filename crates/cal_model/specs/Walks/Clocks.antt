@@ -1,5 +1,5 @@
 -- The readings that clocks stand for.
-use Rattle.std.specs.Prelude.{Bool, true, false}
+use Rattle.std.specs.Prelude.{true, false}
 use Rattle.cal_model.specs.declared.walk.clock.Clock.{Clock}
 use Rattle.cal_model.specs.declared.walk.clock.Clock.TheVariants as clock
 use Rattle.cal_model.specs.TimeZones.TableBounds.{IsTable, IsOffset}

@@ -8,6 +8,7 @@ use Rattle.cal_model.specs.Recurrence.RecurrenceSet.{Reading}
 use Rattle.cal_model.specs.declared.walk.picks.Picks.{Picks}
 use Rattle.cal_model.specs.declared.walk.rule_walk.RuleWalk.{RuleWalk}
 use Rattle.cal_model.specs.Walks.Cursors.{IsAt}
+use Rattle.cal_model.specs.Walks.DayTimes.{AreTimes}
 use Rattle.cal_model.specs.Walks.KeptMoments.{kept_from, moments_of, wanted}
 
 abbrev pub rest_of : Rule → ℕ → Reading → Picks → List ℕ
@@ -17,6 +18,7 @@ pub record IsPicks (rule : Rule) (start : ℕ) (dated : Bool) (picks : Picks) : 
   pub cursor : IsAt rule start dated picks.cursor
   pub given : picks.given ≤ length picks.moments
   pub written : All IsWritten picks.moments
+  pub times : AreTimes rule start dated picks.times
   pub plain : is_empty rule.by_set_pos ≡ true → picks.moments ≡ []
 
 -- what a walk still gives of the moments from `low` up to `high`

@@ -60,7 +60,8 @@ pub fn is_before(a: Local, b: Local) -> bool
     a.day < b.day || (a.day == b.day && a.second < b.second)
 }
 
-fn is_dated(clock: &Clock) -> bool
+/// Whether a clock is that of a DATE.
+pub fn is_dated(clock: &Clock) -> bool
     ensures { result ≡ (reading_by clock.now).dated }
 {
     match clock {

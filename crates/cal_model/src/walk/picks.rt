@@ -4,33 +4,24 @@ ghost use Rattle.cal_model.specs.Recurrence.NextPassing.{NonePasses, IsWritten, 
 ghost use Rattle.cal_model.specs.Words.Integers as integers;
 ghost use Rattle.cal_model.specs.Words.Lists as lists;
 ghost use Rattle.cal_model.specs.Values.LocalTimes.{moment_of_local};
+ghost use Rattle.cal_model.specs.declared.rule.Freq.TheVariants.{Hourly};
 ghost use Rattle.cal_model.specs.Recurrence.RecurrenceSet.{at_places};
 ghost use Rattle.cal_model.specs.Walks.Budgets.{last_period, left_to_take};
 ghost use Rattle.cal_model.specs.Walks.Clocks.{reading_by, IsClock};
 ghost use Rattle.cal_model.specs.Walks.Cursors.{IsAt};
-ghost use Rattle.cal_model.specs.Walks.KeptMoments.{found_from, found_between, kept_from, moments_of, if_there, number_of};
+ghost use Rattle.cal_model.specs.Walks.DayTimes.{times_of_day, AreTimes};
+ghost use Rattle.cal_model.specs.Walks.KeptMoments.{found_from, found_between, kept_from, moments_of, number_of};
 
 use crate::next_passing::Rules;
-use crate::rule::Rule;
+use crate::rule::{Freq, Rule};
 use crate::walk::clock::Clock;
-use crate::walk::cursor::{Cursor, peek, second_after};
+use crate::walk::cursor::{Cursor, is_dated, peek, second_after};
+use crate::walk::day_times::find_times;
+use crate::walk::days::{keep_day, keep_if_there, next_midnight};
 use crate::walk::period::period_of;
 use cal_base::{List, NoMemory, Steps};
 use cal_moment::Local;
 use std::sync::ledger::Ledger;
-
-/// Puts a moment behind the others, if it exists.
-fn keep_if_there(clock: &Clock, m: Local, found: &mut List<Local>) -> Result<(), NoMemory>
-    requires clock { IsClock clock.now }
-    requires written { IsWritten m }
-    ensures found { OnOk result (moments_of found.new ≡ moments_of found.old ++ if_there (reading_by clock.now) (moment_of_local m)) }
-    ensures written { OnOk result (All (λ l. IsWritten l) found.old → All (λ l. IsWritten l) found.new) }
-{
-    if clock.exists(m) {
-        found.push(m)?;
-    }
-    Ok(())
-}
 
 /// Goes on to the next moment that passes, and says whether it lies in the period of that number.
 fn stays<R: Rules, L: Ledger>(
@@ -65,7 +56,7 @@ fn stays<R: Rules, L: Ledger>(
     period_of(rule, next) == number
 }
 
-/// Gathers what is found in the period of the moment at hand.
+/// Gathers what is found in the period of the moment at hand, one moment after the other.
 pub fn gather<R: Rules, L: Ledger>(
     rules: &R,
     rule: &Rule,
@@ -97,6 +88,49 @@ pub fn gather<R: Rules, L: Ledger>(
         let m = cursor.at;
         keep_if_there(clock, m, found)?;
         cursor.at = second_after(m);
+        cursor.taken = false;
+        if !stays(rules, rule, start, clock, number, cursor, end, steps) {
+            return Ok(());
+        }
+    }
+}
+
+/// Gathers the same day by day, where a period has whole days: one moment of each day that passes is
+/// taken from the rule, and the others stand at the times of such days.
+pub fn gather_days<R: Rules, L: Ledger>(
+    rules: &R,
+    rule: &Rule,
+    start: Local,
+    clock: &Clock,
+    times: &[u32],
+    cursor: &mut Cursor,
+    found: &mut List<Local>,
+    end: Local,
+    steps: &mut Steps<L>,
+) -> Result<(), NoMemory>
+    requires start { IsWritten start }
+    requires clock { IsClock clock.now }
+    requires rule { IsUsable rule.now }
+    requires coarse { is_fine rule.now.freq ≡ false }
+    requires whole { rule.now.freq ≡ Hourly → ⊥ }
+    requires times { times.now ≡ times_of_day rule.now (moment_of_local start) (reading_by clock.now).dated }
+    requires cursor { IsAt rule.now (moment_of_local start) (reading_by clock.now).dated cursor.old }
+    requires taken { cursor.old.taken ≡ true }
+    requires empty { found.old ≡ [] }
+    requires begun { number_of rule.now (moment_of_local cursor.old.at) ≤ last_period rule.now (moment_of_local end) }
+    ensures cursor { IsAt rule.now (moment_of_local start) (reading_by clock.now).dated cursor.new }
+    ensures steps { steps.new + left_to_take rule.now (moment_of_local start) (reading_by clock.now).dated (moment_of_local end) cursor.new ≤ steps.old + left_to_take rule.now (moment_of_local start) (reading_by clock.now).dated (moment_of_local end) cursor.old }
+    ensures forward { OnOk result (moment_of_local cursor.old.at < moment_of_local cursor.new.at) }
+    ensures found { OnOk result (moments_of found.new ≡ found_between rule.now (moment_of_local start) (reading_by clock.now) (moment_of_local cursor.old.at) (moment_of_local cursor.new.at)) }
+    ensures written { OnOk result (All (λ l. IsWritten l) found.new) }
+    ensures one { OnOk result (All (λ m. number_of rule.now m ≡ number_of rule.now (moment_of_local cursor.old.at)) (moments_of found.new)) }
+    ensures later { OnOk result (All (λ m. number_of rule.now (moment_of_local cursor.old.at) < number_of rule.now m) (found_from rule.now (moment_of_local start) (reading_by clock.now) (moment_of_local cursor.new.at))) }
+{
+    let number = period_of(rule, cursor.at);
+    'days: loop {
+        let m = cursor.at;
+        keep_day(rule, start, clock, times, m, found)?;
+        cursor.at = next_midnight(m);
         cursor.taken = false;
         if !stays(rules, rule, start, clock, number, cursor, end, steps) {
             return Ok(());
@@ -157,6 +191,8 @@ fn pick(rule: &Rule, found: &List<Local>, out: &mut List<Local>) -> Result<(), N
 #[derive(Drop)]
 pub struct Picks {
     pub cursor: Cursor,
+    /// The seconds of each day that passes at which its moments stand, once they were needed.
+    pub times: List<u32>,
     /// What was found in the period.
     pub found: List<Local>,
     /// What was picked of it.
@@ -171,6 +207,7 @@ pub fn give(picks: &mut Picks) -> Option<Local>
     requires written { All (λ l. IsWritten l) picks.old.moments }
     ensures given { picks.new.given ≤ length picks.new.moments }
     ensures moments { picks.new.moments ≡ picks.old.moments }
+    ensures times { picks.new.times ≡ picks.old.times }
     ensures cursor { picks.new.cursor ≡ picks.old.cursor }
     ensures written { IfSome result (λ m. IsWritten m) }
     ensures next { MatchOption result (drop picks.old.given (moments_of picks.old.moments) ≡ [])
@@ -182,6 +219,62 @@ pub fn give(picks: &mut Picks) -> Option<Local>
     let m = picks.moments[picks.given];
     picks.given += 1;
     Some(m)
+}
+
+/// Gathers what is found in the period of the moment at hand: day by day, where it has whole days.
+fn gather_period<R: Rules, L: Ledger>(
+    rules: &R,
+    rule: &Rule,
+    start: Local,
+    clock: &Clock,
+    picks: &mut Picks,
+    end: Local,
+    steps: &mut Steps<L>,
+) -> Result<(), NoMemory>
+    requires start { IsWritten start }
+    requires clock { IsClock clock.now }
+    requires rule { IsUsable rule.now }
+    requires coarse { is_fine rule.now.freq ≡ false }
+    requires cursor { IsAt rule.now (moment_of_local start) (reading_by clock.now).dated picks.old.cursor }
+    requires taken { picks.old.cursor.taken ≡ true }
+    requires empty { picks.old.found ≡ [] }
+    requires times { AreTimes rule.now (moment_of_local start) (reading_by clock.now).dated picks.old.times }
+    requires begun { number_of rule.now (moment_of_local picks.old.cursor.at) ≤ last_period rule.now (moment_of_local end) }
+    ensures cursor { IsAt rule.now (moment_of_local start) (reading_by clock.now).dated picks.new.cursor }
+    ensures times { OnOk result (AreTimes rule.now (moment_of_local start) (reading_by clock.now).dated picks.new.times) }
+    ensures steps { steps.new + left_to_take rule.now (moment_of_local start) (reading_by clock.now).dated (moment_of_local end) picks.new.cursor ≤ steps.old + left_to_take rule.now (moment_of_local start) (reading_by clock.now).dated (moment_of_local end) picks.old.cursor }
+    ensures forward { OnOk result (moment_of_local picks.old.cursor.at < moment_of_local picks.new.cursor.at) }
+    ensures found { OnOk result (moments_of picks.new.found ≡ found_between rule.now (moment_of_local start) (reading_by clock.now) (moment_of_local picks.old.cursor.at) (moment_of_local picks.new.cursor.at)) }
+    ensures written { OnOk result (All (λ l. IsWritten l) picks.new.found) }
+    ensures one { OnOk result (All (λ m. number_of rule.now m ≡ number_of rule.now (moment_of_local picks.old.cursor.at)) (moments_of picks.new.found)) }
+    ensures later { OnOk result (All (λ m. number_of rule.now (moment_of_local picks.old.cursor.at) < number_of rule.now m) (found_from rule.now (moment_of_local start) (reading_by clock.now) (moment_of_local picks.new.cursor.at))) }
+    ensures moments { picks.new.moments ≡ picks.old.moments }
+    ensures given { picks.new.given ≡ picks.old.given }
+{
+    if rule.freq == Freq::Hourly {
+        return gather(
+            rules,
+            rule,
+            start,
+            clock,
+            &mut picks.cursor,
+            &mut picks.found,
+            end,
+            steps,
+        );
+    }
+    find_times(rule, start, is_dated(clock), &mut picks.times)?;
+    gather_days(
+        rules,
+        rule,
+        start,
+        clock,
+        picks.times.as_slice(),
+        &mut picks.cursor,
+        &mut picks.found,
+        end,
+        steps,
+    )
 }
 
 /// Picks from the period of the moment at hand.
@@ -201,8 +294,10 @@ pub fn refill<R: Rules, L: Ledger>(
     requires some { lists.is_empty rule.now.by_set_pos ≡ false }
     requires cursor { IsAt rule.now (moment_of_local start) (reading_by clock.now).dated picks.old.cursor }
     requires taken { picks.old.cursor.taken ≡ true }
+    requires times { AreTimes rule.now (moment_of_local start) (reading_by clock.now).dated picks.old.times }
     requires begun { number_of rule.now (moment_of_local picks.old.cursor.at) ≤ last_period rule.now (moment_of_local end) }
     ensures cursor { OnOk result (IsAt rule.now (moment_of_local start) (reading_by clock.now).dated picks.new.cursor) }
+    ensures times { OnOk result (AreTimes rule.now (moment_of_local start) (reading_by clock.now).dated picks.new.times) }
     ensures steps { steps.new + left_to_take rule.now (moment_of_local start) (reading_by clock.now).dated (moment_of_local end) picks.new.cursor ≤ steps.old + left_to_take rule.now (moment_of_local start) (reading_by clock.now).dated (moment_of_local end) picks.old.cursor }
     ensures forward { OnOk result (moment_of_local picks.old.cursor.at < moment_of_local picks.new.cursor.at) }
     ensures given { OnOk result (picks.new.given ≡ 0) }
@@ -211,16 +306,7 @@ pub fn refill<R: Rules, L: Ledger>(
         ≡ moments_of picks.new.moments ++ kept_from rule.now (moment_of_local start) (reading_by clock.now) (moment_of_local picks.new.cursor.at)) }
 {
     picks.found.truncate(0);
-    gather(
-        rules,
-        rule,
-        start,
-        clock,
-        &mut picks.cursor,
-        &mut picks.found,
-        end,
-        steps,
-    )?;
+    gather_period(rules, rule, start, clock, picks, end, steps)?;
     picks.moments.truncate(0);
     picks.given = 0;
     pick(rule, &picks.found, &mut picks.moments)?;

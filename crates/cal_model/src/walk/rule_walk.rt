@@ -208,6 +208,7 @@ pub fn begin_walk(alloc: Global, rule: &Rule, start: Local, low: Local) -> RuleW
                 at: begin(rule, start, low),
                 taken: false,
             },
+            times: List::new(alloc),
             found: List::new(alloc),
             moments: List::new(alloc),
             given: 0,
@@ -217,7 +218,7 @@ pub fn begin_walk(alloc: Global, rule: &Rule, start: Local, low: Local) -> RuleW
 }
 
 /// The next of the later moments that lie from `low` up to `high`, `high` left out; `None` exactly
-/// where there is none. Each moment that passes is taken from the rule once, and no period that
+/// where there is none. No moment that passes is taken from the rule twice, and no period that
 /// begins at or after `high` is entered.
 pub fn next_moment<R: Rules, L: Ledger>(
     rules: &R,

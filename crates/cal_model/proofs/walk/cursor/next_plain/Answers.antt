@@ -1,13 +1,11 @@
-use Rattle.std.proofs.Common.{◌≡◌, ℕ, ◌+◌, ◌-◌, ◌≤◌, ◌<◌, ◌*◌, sym, ap, ◌∙◌, arith, rules, true, false, ◌∷◌, nat_lt, refl}
-use Rattle.std.specs.Prelude.{if◌then◌else◌, not, All}
-use Rattle.std.proofs.lemmas.Bool.{ltb-true, ltb-false}
+use Rattle.std.proofs.Common.{◌≡◌, ℕ, ◌+◌, ◌-◌, ◌≤◌, ◌<◌, ◌*◌, sym, ap, ◌∙◌, arith, true, false, refl}
+use Rattle.std.proofs.lemmas.Bool.{ltb-false}
 use Rattle.cal_moment.specs.Calendar.{seconds_since_1970}
 use Rattle.cal_model.specs.Values.LocalTimes.{moment_of_local, local_seconds}
 use Rattle.cal_model.specs.Recurrence.NextPassing.{end_day}
 use Rattle.cal_model.proofs.Recurrence.Rising.{period_number-le}
-use Rattle.cal_model.specs.Walks.Budgets.{last_period, left_to_take, place_of, budget}
+use Rattle.cal_model.specs.Walks.Budgets.{last_period, place_of, budget}
 use Rattle.cal_model.specs.Walks.Clocks.{reading_by}
-use Rattle.cal_model.specs.Walks.KeptMoments.{found_from}
 use Rattle.cal_model.proofs.Walks.KeptLemmas.{nothing_left, rest_past, step_there, step_skipped, seconds_of_written}
 use Rattle.cal_model.proofs.walk.cursor.next_plain.Goals as goal
 

@@ -1,7 +1,7 @@
 use Rattle.std.proofs.Common.{◌≡◌, ◌+◌, ◌*◌, arith, refl}
 use Rattle.cal_model.specs.Recurrence.NextPassing.{end_day}
 use Rattle.cal_model.specs.Values.LocalTimes.{moment_of_local}
-use Rattle.cal_model.specs.Walks.Budgets.{last_period, left_to_take}
+use Rattle.cal_model.specs.Walks.Budgets.{last_period}
 use Rattle.cal_model.specs.Walks.Clocks.{reading_by}
 use Rattle.cal_model.proofs.Walks.BudgetLemmas.{taken_one, taken_none}
 use Rattle.cal_model.proofs.walk.cursor.peek.Goals as goal

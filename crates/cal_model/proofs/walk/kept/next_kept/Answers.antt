@@ -1,8 +1,7 @@
-use Rattle.std.proofs.Common.{◌≡◌, sym, ◌∙◌, ap, arith, rules, true}
+use Rattle.std.proofs.Common.{◌≡◌, rules, true}
 use Rattle.cal_model.specs.Words.Lists.{is_empty}
 use Rattle.cal_model.specs.Values.LocalTimes.{moment_of_local}
 use Rattle.cal_model.specs.Walks.Clocks.{reading_by}
-use Rattle.cal_model.specs.Walks.PickedRest.{rest_of}
 use Rattle.cal_model.proofs.Walks.BeginLemmas.{plain_rest}
 use Rattle.cal_model.proofs.walk.kept.next_kept.Goals as goal
 

@@ -1,11 +1,10 @@
-use Rattle.std.proofs.Common.{◌≡◌, ℕ, ◌≤◌, ◌<◌, ◌-◌, ◌++◌, sym, ap, ◌∙◌, arith, drop, true}
+use Rattle.std.proofs.Common.{ℕ, ◌≤◌, ◌<◌, ◌-◌, sym, ◌∙◌, arith, drop}
 use Rattle.std.proofs.lemmas.Bool.{ltb-true, ltb-false}
 use Rattle.cal_model.proofs.Recurrence.Days.{NonePasses-empty}
 use Rattle.cal_model.proofs.Recurrence.Rising.{period_number-le}
-use Rattle.cal_model.specs.Recurrence.NextPassing.{NonePasses}
 use Rattle.cal_model.specs.Values.LocalTimes.{moment_of_local}
 use Rattle.cal_model.specs.Walks.Clocks.{reading_by}
-use Rattle.cal_model.specs.Walks.KeptMoments.{moments_of, kept_from}
+use Rattle.cal_model.specs.Walks.KeptMoments.{moments_of}
 use Rattle.cal_model.specs.Walks.PickedRest.{rest_of}
 use Rattle.cal_model.proofs.Walks.KeptLemmas.{past_end, no_more, refilled}
 use Rattle.cal_model.proofs.walk.kept.next_picked.Goals as goal
@@ -42,6 +41,7 @@ next-preserved g c =
         cursor = c.in_ok-refill.ensures.cursor;
         given = rw zero (omega arith);
         written = c.in_ok-refill.ensures.written;
+        times = c.in_ok-refill.ensures.times;
         plain = λ empty. let some = c.requires.some in absurd cc;
       };
       rest = rw zero (refilled c.args.rule.now (moment_of_local c.args.start) (reading_by c.args.clock.now) (rest_of c.args.rule.now (moment_of_local c.args.start) (reading_by c.args.clock.now) c.args.picks.now) (drop c.next.picks.given (moments_of c.next.picks.moments)) (moments_of c.refill.new.picks.moments) (moment_of_local c.next.picks.cursor.at) (moment_of_local c.peek.new.cursor.at) (moment_of_local c.refill.new.picks.cursor.at)

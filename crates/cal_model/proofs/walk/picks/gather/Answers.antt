@@ -1,11 +1,11 @@
-use Rattle.std.proofs.Common.{◌≡◌, ℕ, ◌+◌, ◌-◌, ◌<◌, ◌≤◌, sym, ap, ◌∙◌, arith, rules, true, refl, [], List}
+use Rattle.std.proofs.Common.{◌≡◌, ◌+◌, ◌-◌, sym, ap, ◌∙◌, arith, refl}
 use Rattle.std.proofs.lemmas.List.Elements.{All-nil}
 use Rattle.cal_model.specs.Recurrence.NextPassing.{IsWritten}
 use Rattle.cal_model.specs.Values.LocalTimes.{moment_of_local}
 use Rattle.cal_model.proofs.Recurrence.Rising.{period_number-le}
 use Rattle.cal_model.specs.Walks.Budgets.{last_period, place_of, budget}
 use Rattle.cal_model.specs.Walks.Clocks.{reading_by}
-use Rattle.cal_model.specs.Walks.KeptMoments.{number_of, moments_of, found_between}
+use Rattle.cal_model.specs.Walks.KeptMoments.{number_of, moments_of}
 use Rattle.cal_model.proofs.Walks.KeptLemmas.{found_between-none, gathered_more, gathered_one}
 use Rattle.cal_model.proofs.walk.picks.gather.Goals as goal
 

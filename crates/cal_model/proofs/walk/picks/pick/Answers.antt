@@ -1,7 +1,7 @@
-use Rattle.std.proofs.Common.{◌+◌, ◌∙◌, ap, arith, rules}
+use Rattle.std.proofs.Common.{◌+◌, ◌∙◌, ap, arith}
 use Rattle.cal_model.specs.Words.Integers.{some_names_place}
 use Rattle.cal_model.specs.Walks.KeptMoments.{moments_of}
-use Rattle.cal_model.proofs.Walks.PickLemmas.{picked_step, picked_all}
+use Rattle.cal_model.proofs.Walks.PickLemmas.{picked_step}
 use Rattle.cal_model.proofs.walk.picks.pick.Goals as goal
 
 pub loop-k-preserved : goal.loop-k-preserved

@@ -1,4 +1,4 @@
-use Rattle.std.proofs.Common.{◌≡◌, ◌++◌, take, length}
+use Rattle.std.proofs.Common.{◌≡◌, ◌++◌, take}
 use Rattle.std.specs.Prelude.{All, filter}
 use Rattle.cal_model.specs.Recurrence.NextPassing.{IsWritten}
 use Rattle.cal_model.specs.Walks.KeptMoments.{moments_of}

@@ -1,4 +1,4 @@
-use Rattle.std.proofs.Common.{◌≡◌, sym, ◌∙◌, ap, arith, ◌++◌}
+use Rattle.std.proofs.Common.{◌≡◌, sym, ◌∙◌, ap, ◌++◌}
 use Rattle.cal_model.specs.Recurrence.RecurrenceSet.{at_places}
 use Rattle.cal_model.specs.Values.LocalTimes.{moment_of_local}
 use Rattle.cal_model.specs.Walks.Clocks.{reading_by}
@@ -8,15 +8,15 @@ use Rattle.cal_model.proofs.walk.picks.refill.Goals as goal
 
 pub pick-requires-clause-rises : goal.pick-requires-clause-rises
 pick-requires-clause-rises g c =
-    Rises-gathered c.args.rule.now (moment_of_local c.args.start) (reading_by c.args.clock.now) (moments_of c.gather.new.found) (moment_of_local c.args.picks.now.cursor.at) (moment_of_local c.gather.new.cursor.at) c.in_ok-gather.ensures.found
+    Rises-gathered c.args.rule.now (moment_of_local c.args.start) (reading_by c.args.clock.now) (moments_of c.gather_period.new.picks.found) (moment_of_local c.args.picks.now.cursor.at) (moment_of_local c.gather_period.new.picks.cursor.at) c.in_ok-gather_period.ensures.found
 
 pub pick-requires-clause-one : goal.pick-requires-clause-one
-pick-requires-clause-one g c = (number_of c.args.rule.now (moment_of_local c.args.picks.now.cursor.at), c.in_ok-gather.ensures.one)
+pick-requires-clause-one g c = (number_of c.args.rule.now (moment_of_local c.args.picks.now.cursor.at), c.in_ok-gather_period.ensures.one)
 
 pub returns-clause-kept : goal.returns-clause-kept
 returns-clause-kept g c =
-    let within = c.in_ok-gather.ensures.cursor.within in
-    let whole = kept_from-gathered c.args.rule.now (moment_of_local c.args.start) (reading_by c.args.clock.now) (moments_of c.gather.new.found) (moment_of_local c.args.picks.now.cursor.at) (moment_of_local c.gather.new.cursor.at) (number_of c.args.rule.now (moment_of_local c.args.picks.now.cursor.at))
-    c.in_ok-gather.ensures.forward within c.in_ok-gather.ensures.found c.in_ok-gather.ensures.one c.in_ok-gather.ensures.later in
-    let picked : moments_of c.pick.new.out ≡ at_places c.args.rule.now (moments_of c.gather.new.found) = c.in_ok-pick.ensures.picked ∙ ap (λ ls. moments_of ls ++ at_places c.args.rule.now (moments_of c.gather.new.found)) c.truncate-2.ensures in
-    whole ∙ ap (λ xs. xs ++ kept_from c.args.rule.now (moment_of_local c.args.start) (reading_by c.args.clock.now) (moment_of_local c.gather.new.cursor.at)) (sym picked)
+    let within = c.in_ok-gather_period.ensures.cursor.within in
+    let whole = kept_from-gathered c.args.rule.now (moment_of_local c.args.start) (reading_by c.args.clock.now) (moments_of c.gather_period.new.picks.found) (moment_of_local c.args.picks.now.cursor.at) (moment_of_local c.gather_period.new.picks.cursor.at) (number_of c.args.rule.now (moment_of_local c.args.picks.now.cursor.at))
+    c.in_ok-gather_period.ensures.forward within c.in_ok-gather_period.ensures.found c.in_ok-gather_period.ensures.one c.in_ok-gather_period.ensures.later in
+    let picked : moments_of c.pick.new.out ≡ at_places c.args.rule.now (moments_of c.gather_period.new.picks.found) = c.in_ok-pick.ensures.picked ∙ ap (λ ls. moments_of ls ++ at_places c.args.rule.now (moments_of c.gather_period.new.picks.found)) c.truncate-2.ensures in
+    whole ∙ ap (λ xs. xs ++ kept_from c.args.rule.now (moment_of_local c.args.start) (reading_by c.args.clock.now) (moment_of_local c.gather_period.new.picks.cursor.at)) (sym picked)

@@ -1,4 +1,4 @@
-use Rattle.std.proofs.Common.{◌≡◌, ◌+◌, ◌≤◌, sym, ◌∙◌, arith}
+use Rattle.std.proofs.Common.{◌≡◌, ◌+◌, sym, ◌∙◌, arith, inl}
 use Rattle.std.proofs.lemmas.Int.{ints}
 use Rattle.std.proofs.lemmas.List.Elements.{All-nil}
 use Rattle.cal_model.specs.Recurrence.NextPassing.{IsWritten}
@@ -17,8 +17,9 @@ returns-clause-walk c = λ dated. record {
     passing = λ taken. absurd cc;
   };
   given = omega arith;
-  written = rw c.new-2.ensures (All-nil (λ l. IsWritten l));
-  plain = λ none. c.new-2.ensures;
+  written = rw c.new-3.ensures (All-nil (λ l. IsWritten l));
+  times = inl c.new.ensures;
+  plain = λ none. c.new-3.ensures;
 }
 
 pub returns-clause-steps : goal.returns-clause-steps
@@ -29,4 +30,4 @@ returns-clause-steps c = λ dated high.
 
 pub returns-clause-whole : goal.returns-clause-whole
 returns-clause-whole c = λ reading high.
-    rw (c.less_one.ensures, c.new-2.ensures) (sym (wanted_of_kept c.args.rule.now (moment_of_local c.args.start) reading (moment_of_local c.args.low) high ∙ c.begin.ensures.same reading high))
+    rw (c.less_one.ensures, c.new-3.ensures) (sym (wanted_of_kept c.args.rule.now (moment_of_local c.args.start) reading (moment_of_local c.args.low) high ∙ c.begin.ensures.same reading high))

@@ -1,6 +1,5 @@
-use Rattle.std.proofs.Common.{◌≡◌, ◌+◌, ◌≤◌, sym, ◌∙◌, inl, inr, refl, arith}
+use Rattle.std.proofs.Common.{sym, ◌∙◌, inl, inr, refl, arith}
 use Rattle.std.proofs.lemmas.Bool.{ltb-false}
-use Rattle.cal_model.specs.Values.LocalTimes.{moment_of_local}
 use Rattle.cal_model.proofs.Walks.WantedLemmas.{no_count}
 use Rattle.cal_model.proofs.walk.rule_walk.first_counted.Goals as goal
 

@@ -1,4 +1,4 @@
-use Rattle.std.proofs.Common.{◌≡◌, ◌++◌, ap, arith}
+use Rattle.std.proofs.Common.{◌++◌, ap, arith}
 use Rattle.std.proofs.lemmas.List.{append-nil}
 use Rattle.cal_model.specs.Values.LocalTimes.{moment_of_local}
 use Rattle.cal_model.specs.Walks.Clocks.{reading_by}
