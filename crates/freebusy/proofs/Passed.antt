@@ -1,6 +1,7 @@
 -- Where no class opens or closes behind a moment and before another, the class stays, and the counts before the later one tell it.
 use Rattle.std.proofs.Common.{◌≡◌, ℕ, zero, suc, ◌≤◌, ◌<◌, Bool, true, false, List, length, get_or, refl, sym, ap, ◌∙◌, ◌⊎◌, inl, inr, ⊎_elim, arith}
 use Rattle.std.specs.Prelude.{ℤ, ◌≤ℤ◌, ◌<ℤ◌, int_le, int_lt, nat_lt}
+use Rattle.std.specs.Int.{int_max}
 use Rattle.std.specs.List.{AllWithin}
 use Rattle.std.specs.List.Sorted.{IsSorted}
 use Rattle.std.specs.Ordering.{int_cmp}
@@ -50,15 +51,27 @@ counted_later ends counts last later more first = record {
 is_below : (x upper : ℤ) → int_lt x upper ≡ true → x <ℤ upper
 is_below x upper is = grind (arith, ints)
 
+-- the later of two moments lies behind none of them, and before what both lie before
+
+later_first : (x y z : ℤ) → z ≡ int_max x y → x ≤ℤ z
+later_first x y z is = grind (arith, ints)
+
+later_second : (x y z : ℤ) → z ≡ int_max x y → y ≤ℤ z
+later_second x y z is = grind (arith, ints)
+
+later_below : (x y z upper : ℤ) → z ≡ int_max x y → x <ℤ upper → y <ℤ upper → z <ℤ upper
+later_below x y z upper is first second = grind (arith, ints)
+
 -- the last of some moments
 pub last_of_some : (moments : List ℤ) (count before : ℕ) (last least result d : ℤ) → IsSorted int_cmp moments → count ≤ length moments → count ≡ suc before → last ≡ get_or moments before d
-    → least ≤ℤ result → last ≤ℤ result → ((upper : ℤ) → least <ℤ upper → last <ℤ upper → result <ℤ upper) → IsLast moments count least result
-last_of_some moments count before last least result d up bound is at later more below =
+    → result ≡ int_max last least → IsLast moments count least result
+last_of_some moments count before last least result d up bound is at later_is =
     let inside : before < length moments = omega (arith, bound, is) in
+    let more = later_first last least result later_is in
     record {
-      later = later;
+      later = later_second last least result later_is;
       up_to = λ k e low high. omega (arith, ints, more, at, get_or_default moments before d e inside, le_far moments up k before e (omega (arith, high, is)) inside);
-      before = λ upper less all. below upper less (omega (arith, ints, at, is_below (get_or moments before d) upper (all before d (omega arith) (omega (arith, is)))));
+      before = λ upper less all. later_below last least result upper later_is (omega (arith, ints, at, is_below (get_or moments before d) upper (all before d (omega arith) (omega (arith, is))))) less;
     }
 
 pub last_of_both : (ends : Ends) (counts : Counts) (least middle last : ℤ) → IsLast ends.ends counts.ends least middle → IsLast ends.starts counts.starts middle last → IsLastOf ends counts least last

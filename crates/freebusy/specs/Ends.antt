@@ -1,5 +1,6 @@
 -- The times of a class, the moments at which it opens and closes, in rising order, and the class that they give a moment: a class is open where it has opened more often than closed.
-use Rattle.std.specs.Prelude.{◌≡◌, ℕ, Bool, true, false, ◌&&◌, if◌then◌else◌, List, map, filter, All, Option, Some, None, ℤ, ◌<ℤ◌, int_le, int_lt, nat_lt}
+use Rattle.std.specs.Prelude.{◌≡◌, ℕ, Bool, true, false, ◌&&◌, List, map, filter, All, Option, Some, None, ℤ, ◌<ℤ◌, int_le, int_lt, nat_lt}
+use Rattle.std.specs.Int.{int_max}
 use Rattle.std.specs.List.{count_by, list_any}
 use Rattle.std.specs.List.Sorted.{IsSorted, IsSortedByKey}
 use Rattle.std.specs.Ordering.{int_cmp}
@@ -22,12 +23,9 @@ span_of row = record { start = row.start; end = row.end }
 abbrev pub spans_of : Class → List BusyRow → List Span
 spans_of class rows = map span_of (filter (is_of class) rows)
 
-abbrev pub later : ℤ → ℤ → ℤ
-later moment other = if int_lt moment other then other else moment
-
 -- a stretch, lengthened by one that starts in it
 abbrev pub lengthened : Span → Span → Span
-lengthened span next = record { start = span.start; end = later span.end next.end }
+lengthened span next = record { start = span.start; end = int_max next.end span.end }
 
 abbrev pub covers_at : ℤ → Span → Bool
 covers_at at span = int_le span.start at && int_lt at span.end

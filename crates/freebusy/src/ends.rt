@@ -70,15 +70,8 @@ fn lengthened(span: Span, next: &Span) -> Span
 {
     Span {
         start: span.start,
-        end: later(span.end, next.end),
+        end: next.end.max(span.end),
     }
-}
-
-/// The later of two moments.
-fn later(moment: i64, other: i64) -> i64
-    ensures { result ≡ spec.later moment other }
-{
-    if moment < other { other } else { moment }
 }
 
 /// Puts the ends of a stretch behind others.

@@ -76,15 +76,6 @@ fn lies_before(moments: &[i64], place: usize, upper: i64) -> bool
     moments[place] < upper
 }
 
-/// The later of two moments.
-fn later(moment: i64, other: i64) -> i64
-    ensures first { moment ≤ℤ result }
-    ensures second { other ≤ℤ result }
-    ensures before { (upper : ℤ) → moment <ℤ upper → other <ℤ upper → result <ℤ upper }
-{
-    if moment < other { other } else { moment }
-}
-
 /// The last of the first so many of some moments in rising order, or a moment where that comes later.
 fn last_of(moments: &[i64], count: usize, least: i64) -> i64
     requires rising { IsSorted int_cmp moments.now }
@@ -94,7 +85,7 @@ fn last_of(moments: &[i64], count: usize, least: i64) -> i64
     if count == 0 {
         return least;
     }
-    later(moment_at(moments, count - 1), least)
+    moment_at(moments, count - 1).max(least)
 }
 
 /// The last start or end of a class of those that are left, or a moment where that comes later.

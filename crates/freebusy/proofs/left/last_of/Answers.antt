@@ -4,8 +4,8 @@ use Rattle.freebusy.proofs.left.last_of.Goals as goal
 
 pub returns : goal.returns
 returns c =
-    let last : to_z w64 (of_z w64 c.later.result) ≡ c.later.result = search (rules, c.later.type_inv) in
+    let last : to_z w64 (of_z w64 c.max.result) ≡ c.max.result = search (rules, c.max.type_inv) in
     let least : to_z w64 (of_z w64 c.args.least) ≡ c.args.least = search rules in
     let moment : to_z w64 (of_z w64 c.moment_at.result) ≡ c.moment_at.result = search (rules, c.moment_at.type_inv) in
-    rw last (last_of_some c.args.moments.now c.args.count (c.args.count - 1) c.moment_at.result c.args.least c.later.result (pos 0) c.requires.rising c.requires.bound (omega (arith, c.if-count-eq0.false)) c.moment_at.ensures
-    (rw least at c.later.ensures.second) (rw moment at c.later.ensures.first) (λ upper less more. c.later.ensures.before upper (rw moment more) (rw least less)))
+    rw last (last_of_some c.args.moments.now c.args.count (c.args.count - 1) c.moment_at.result c.args.least c.max.result (pos 0) c.requires.rising c.requires.bound (omega (arith, c.if-count-eq0.false)) c.moment_at.ensures
+    (rw (moment, least) at c.max.ensures.value))
