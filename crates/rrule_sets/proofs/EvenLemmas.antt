@@ -1,15 +1,15 @@
 -- DAILY and WEEKLY rules without BY parts have moments that stand equally far apart.
 use Rattle.std.proofs.Common.{◌≡◌, ℕ, ℤ, zero, suc, nat_lt, List, [], ◌∷◌, ◌++◌, ◌+◌, ◌-◌, ◌*◌, ◌/◌, ◌%◌, ◌<◌, ◌≤◌, refl, sym, ap, ◌∙◌, arith, Bool, true, false, ◌==◌, inl, inr, ◌⊎◌}
-use Rattle.std.specs.Prelude.{if◌then◌else◌, nat_le, ◌&&◌, filter, Option, Some, None, All}
+use Rattle.std.specs.Prelude.{if◌then◌else◌, nat_le, ◌&&◌, filter, Option, Some, None}
 use Rattle.std.proofs.lemmas.List.Elements.{All-nil, All-weaker}
 use Rattle.std.proofs.lemmas.List.{append-nil}
 use Rattle.std.proofs.lemmas.Bool.{cases_Bool, eqb-true, eq-eqb, ltb-true, ltb-false, lt-ltb}
-use Rattle.std.proofs.Math.Nat.{suc-mul, add-mod_right, add-mod, mod-eq_of_lt, mod-add-mod, zero-mod}
+use Rattle.std.proofs.Math.Nat.{suc-mul, add-mod_right, mod-eq_of_lt, mod-add-mod, zero-mod}
 use Rattle.cal_moment.specs.Calendar.{day_of_moment, second_of_day, seconds_since_1970, weekday_of}
 use Rattle.cal_model.specs.declared.rule.Rule.{Rule}
 use Rattle.cal_model.specs.declared.rule.Freq.TheVariants.{Daily, Weekly}
-use Rattle.cal_model.specs.Words.Lists.{is_empty, numbers_between}
-use Rattle.cal_model.specs.Recurrence.Passing.{passes, period_number, period_passes, day_passes, time_passes, week_number_of}
+use Rattle.cal_model.specs.Words.Lists.{numbers_between}
+use Rattle.cal_model.specs.Recurrence.Passing.{passes, period_passes, day_passes, time_passes, week_number_of}
 use Rattle.cal_model.specs.Recurrence.NextPassing.{NonePasses, IsUsable, end_day}
 use Rattle.cal_model.specs.Recurrence.RecurrenceSet.{Reading, every_moment, first_moment, found_moments, last_written, later_moments, until_passes}
 use Rattle.cal_model.specs.Walks.KeptMoments.{found_from, one_less, starts_by, wanted}

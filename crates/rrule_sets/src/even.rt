@@ -212,6 +212,22 @@ fn put_moment(
     Ok(())
 }
 
+/// For how many moments behind a place there is to be room: no more than there are up to the end of the
+/// range, than the range can have, and than COUNT still allows.
+fn room_behind(place: Place, days: u64, low: Local, high: Local) -> usize
+    requires days { 0 < days }
+    requires at { IsWritten place.at }
+    requires low { IsWritten low }
+    requires high { IsWritten high }
+{
+    let in_range = moments_before(low, days, high).saturating_add(1);
+    let room = moments_before(place.at, days, high).min(in_range);
+    match place.left {
+        None => room as usize,
+        Some(left) => room.min(left) as usize,
+    }
+}
+
 /// Puts the starts at the moments behind a place that lie before an end behind the others.
 fn put_behind(
     rule: &Rule,
@@ -237,6 +253,7 @@ fn put_behind(
     requires behind { moment_of_local start ≤ moment_of_local place.at }
     ensures { OnOk result (out.new ≡ out.old ++ starts_by (reading_by clock.now) (wanted rule.now (moment_of_local start) (reading_by clock.now) (moment_of_local low) (moment_of_local high) place.left (found_from rule.now (moment_of_local start) (reading_by clock.now) (moment_of_local place.at + 1)))) }
 {
+    out.reserve(room_behind(place, days, low, high))?;
     let mut at = place.at;
     let mut left = place.left;
     'moments: loop {

@@ -260,6 +260,7 @@ fn rows_at(
     ensures { IfOk result (λ rows. rows ≡ map (row_by (tables_of zones.now) stamp extent asked.now.plain asked.now.periods number) (filter (λ r. not (has_name (alignment.reading_of (tables_of zones.now) stamp) r excepted.now)) starts.now)) }
 {
     let mut rows = List::new(alloc);
+    rows.reserve(starts.len())?;
     let mut rest = starts;
     'starts: while let Some((start, behind)) = rest.split_first() {
         put_instance(

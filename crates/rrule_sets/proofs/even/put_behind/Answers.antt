@@ -1,4 +1,4 @@
-use Rattle.std.proofs.Common.{◌≡◌, ◌+◌, ◌*◌, ◌++◌, ◌<◌, ◌≤◌, List, ℕ, sym, ap, ◌∙◌, arith}
+use Rattle.std.proofs.Common.{◌+◌, ◌++◌, List, ℕ, sym, ap, ◌∙◌, arith}
 use Rattle.std.proofs.lemmas.Bool.{ltb-true, ltb-false}
 use Rattle.std.proofs.lemmas.List.{append-nil}
 use Rattle.cal_model.specs.Values.LocalTimes.{moment_of_local}
@@ -11,7 +11,7 @@ pub returns-then-not-lies_before : goal.returns-then-not-lies_before
 returns-then-not-lies_before c =
     let past = ltb-false _ _ (sym c.lies_before.ensures ∙ c.if-not-lies_before.true) in
     let none = wanted_past c.args.rule.now c.args.days c.requires.even (moment_of_local c.args.start) (reading_by c.args.clock.now) (moment_of_local c.args.low) (moment_of_local c.args.high) c.moments.left (moment_of_local c.moments.at) past c.requires.high_before_end c.moments.invariant.passing in
-    rw append-nil at (rw none at c.moments.invariant.all)
+    rw (append-nil, c.reserve.ensures) at (rw none at c.moments.invariant.all)
 
 pub moments-preserved : goal.moments-preserved
 moments-preserved c =

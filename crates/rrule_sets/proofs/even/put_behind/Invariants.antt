@@ -1,4 +1,4 @@
-use Rattle.std.proofs.Common.{◌≡◌, ℕ, ◌+◌, ◌-◌, ◌*◌, ◌≤◌, ◌<◌, ◌++◌, true}
+use Rattle.std.proofs.Common.{◌≡◌, ◌+◌, ◌-◌, ◌*◌, ◌≤◌, ◌<◌, ◌++◌, true}
 use Rattle.cal_model.specs.Recurrence.NextPassing.{IsWritten, end_day}
 use Rattle.cal_model.specs.Recurrence.Passing.{passes}
 use Rattle.cal_model.specs.Values.LocalTimes.{moment_of_local}

@@ -1,4 +1,4 @@
-use Rattle.std.proofs.Common.{◌≡◌, ◌+◌, ◌++◌, ◌∷◌, ◌<◌, ◌≤◌, List, ℕ, ℤ, Bool, sym, ap, ◌∙◌, arith, true, false}
+use Rattle.std.proofs.Common.{◌≡◌, ◌+◌, ◌++◌, ◌∷◌, List, ℕ, Bool, sym, ap, ◌∙◌, arith, true, false}
 use Rattle.std.specs.Prelude.{if◌then◌else◌}
 use Rattle.cal_moment.specs.Calendar.{seconds_since_1970}
 use Rattle.cal_model.specs.Values.LocalTimes.{moment_of_local}
