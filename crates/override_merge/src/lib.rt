@@ -15,4 +15,4 @@ pub mod stamps;
 pub mod starts;
 pub mod zones;
 
-pub use merged::{merge, merged_rows};
+pub use merged::{has_overrides, merge, merged_rows, put_asked_rows};

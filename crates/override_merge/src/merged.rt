@@ -118,12 +118,33 @@ fn put_unnamed_rows(
 }
 
 /// Whether some component is an override.
-fn has_overrides(components: &[Component]) -> bool
+pub fn has_overrides(components: &[Component]) -> bool
     ensures { result ≡ list_any (λ (c : Component). is_some c.recurrence_id) components.now }
 {
     components
         .iter()
         .any(|component| component.recurrence_id.is_some())
+}
+
+/// Puts those of some rows that are asked for behind others.
+pub fn put_asked_rows(
+    zones: &[LocalTimes<'_>],
+    object: &Object,
+    rows: &[Row],
+    part: Part,
+    out: &mut List<Row>,
+) -> Result<(), NoMemory>
+    requires zones { tables_of zones.now ≡ object.now.zones }
+    requires object { HasConvertibleRows object.now }
+    requires near { All HasRowTimes rows.now }
+    ensures { OnOk result (out.new ≡ out.old ++ filter (lies_in object.now part) rows.now) }
+{
+    let mut rest = rows;
+    'rows: while let Some((row, behind)) = rest.split_first() {
+        put_row(zones, object, part, Some(*row), out)?;
+        rest = behind;
+    }
+    Ok(())
 }
 
 /// The rows of a part, of an object without overrides: no row is named, and none is added.
@@ -140,11 +161,7 @@ fn without_overrides(
     ensures { IfOk result (λ out. out ≡ spec.in_order (filter (lies_in object.now part) rows.now)) }
 {
     let mut out = List::new(alloc);
-    let mut rest = rows;
-    'rows: while let Some((row, behind)) = rest.split_first() {
-        put_row(zones, object, part, Some(*row), &mut out)?;
-        rest = behind;
-    }
+    put_asked_rows(zones, object, rows, part, &mut out)?;
     put_in_order(out)
 }
 

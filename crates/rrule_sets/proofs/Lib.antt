@@ -19,3 +19,4 @@ pub mod SeveralLemmas
 pub mod TableLemmas
 pub mod OnceLemmas
 pub mod EvenLemmas
+pub mod AloneLemmas

@@ -75,7 +75,7 @@ starts_plain zones s c true true plain own r d = rw (own, r, plain.rules, plain.
 end_plain : (zones : List ZoneTable) (s : Stamp) (c : Component) → end_of_instance every_moment zones s c (value_of zones s) ≡ end_of_extent zones s c.extent (value_of zones s)
 end_plain zones s c = rw (same_int-self (value_of zones s)) refl
 
-dated_kind : (s : Stamp) → has_date (kind_of s) ≡ true
+pub dated_kind : (s : Stamp) → has_date (kind_of s) ≡ true
 dated_kind (Date day) = refl
 dated_kind (Floating local) = refl
 dated_kind (Zoned local zone) = refl

@@ -24,7 +24,7 @@ const WINDOW: i64 = 5_529_600;
 const DAY: i64 = 86_400;
 
 /// The digits of a window of 64 days, counted from 1970.
-fn window_digits(window: i32) -> Digits
+pub fn window_digits(window: i32) -> Digits
     ensures low { result.low ≡ window *ℤ window_seconds }
     ensures high { result.high ≡ (window +ℤ pos 1) *ℤ window_seconds }
 {

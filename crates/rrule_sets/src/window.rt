@@ -10,16 +10,16 @@ ghost use Rattle.rrule_sets.specs.MasterRows.{masters_from, rows_of_master, mast
 ghost use Rattle.rrule_sets.specs.NeededDigits.{EndsBy};
 
 use crate::instances::instances;
-use crate::needed::needed;
+use crate::needed::{needed, window_digits};
 use crate::once::{only_row, row_in_windows};
 use crate::range::Digits;
 use cal_base::{List, NoMemory, Steps};
 use cal_model::{Component, LocalTimes, Object, Row, Rules};
 use cal_moment::Stamp;
-use override_merge::merged_rows;
 use override_merge::rows::Part;
 use override_merge::starts::{ids_start, own_start};
 use override_merge::zones::local_times;
+use override_merge::{has_overrides, merged_rows};
 use rrule_step::PeriodStep;
 use std::alloc::Global;
 use std::sync::ledger::Ledger;
@@ -67,9 +67,8 @@ pub fn master_rows<R: Rules, L: Ledger>(
     instances(alloc, body, zones, stamp, component, number, range, steps)
 }
 
-/// The rows of a window, where the zones are at hand and the stamp is that beside which the ids of the
-/// object are aligned.
-pub fn rows_beside<L: Ledger>(
+/// The rows of a window of an object that may have overrides.
+fn rows_with_overrides<L: Ledger>(
     alloc: Global,
     zones: &[LocalTimes<'_>],
     ids: Stamp,
@@ -94,6 +93,31 @@ pub fn rows_beside<L: Ledger>(
         rows.as_slice(),
         Part::Window(window),
     )
+}
+
+/// The rows of a window, where the zones are at hand and the stamp is that beside which the ids of the
+/// object are aligned. Without overrides they are the rows of the master in the digits of the window.
+pub fn rows_beside<L: Ledger>(
+    alloc: Global,
+    zones: &[LocalTimes<'_>],
+    ids: Stamp,
+    object: &Object,
+    window: i32,
+    steps: &mut Steps<L>,
+) -> Result<List<Row>, NoMemory>
+    requires object { HasRowsToFind object.now }
+    requires zones { tables_of zones.now ≡ object.now.zones }
+    requires ids { Some ids ≡ spec.ids_start object.now }
+    ensures steps { steps.new + 1 ≤ steps.old + cost object.now window }
+    ensures rows { IfOk result (λ rows. rows ≡ spec.rows_in object.now window) }
+{
+    let components = object.components.as_slice();
+    if has_overrides(components) {
+        rows_with_overrides(alloc, zones, ids, object, window, steps)
+    } else {
+        let range = window_digits(window);
+        master_rows(alloc, &PeriodStep, zones, components, range, steps)
+    }
 }
 
 /// The dated rows whose nominal start lies in a window of 64 days, counted from 1970, by id, then

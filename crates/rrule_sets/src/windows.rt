@@ -17,10 +17,10 @@ use crate::window::{master_rows, rows_beside};
 use cal_base::{List, NoMemory, Steps};
 use cal_model::{Component, LocalTimes, Object, Row};
 use cal_moment::Stamp;
-use override_merge::merged_rows;
 use override_merge::rows::Part;
 use override_merge::starts::ids_start;
 use override_merge::zones::local_times;
+use override_merge::{has_overrides, merged_rows, put_asked_rows};
 use rrule_step::PeriodStep;
 use std::alloc::Global;
 use std::sync::ledger::Ledger;
@@ -49,6 +49,7 @@ fn needed_of_each<L: Ledger>(
     ensures needed { IfOk result (λ each. All (IsNeeded (tables_of zones.now) ids components.now) each) }
 {
     let mut each = List::new(alloc);
+    each.reserve(windows.len())?;
     let mut rest = windows;
     'windows: while let Some((window, behind)) = rest.split_first() {
         steps.tick();
@@ -89,9 +90,9 @@ fn joined_with(first: Digits, each: &[Needed]) -> Digits
     range
 }
 
-/// Puts the rows of a window behind others, given the rows of the master in a range that has what the
-/// window needs.
-fn put_window(
+/// Puts the rows of a window of an object that may have overrides behind others, given the rows of the
+/// master in a range that has what the window needs.
+fn put_with_overrides(
     alloc: Global,
     zones: &[LocalTimes<'_>],
     ids: Stamp,
@@ -114,6 +115,34 @@ fn put_window(
     let part = Part::Window(needed.window);
     let found = merged_rows(alloc, zones, ids, object, near, part)?;
     out.extend_from_slice(found.as_slice())
+}
+
+/// Puts the rows of a window behind others, given the rows of the master in a range that has what the
+/// window needs. Without overrides they are those of the master that lie in it, as they stand.
+fn put_window(
+    alloc: Global,
+    zones: &[LocalTimes<'_>],
+    ids: Stamp,
+    object: &Object,
+    range: Digits,
+    rows: &[Row],
+    needed: &Needed,
+    out: &mut List<Row>,
+) -> Result<(), NoMemory>
+    requires object { HasRowsToFind object.now }
+    requires zones { tables_of zones.now ≡ object.now.zones }
+    requires ids { Some ids ≡ spec.ids_start object.now }
+    requires rows { rows.now ≡ flat_map (rows_of_master object.now.zones range) (spec.masters object.now) }
+    requires range { HasRange range needed.now.range }
+    requires needed { IsNeeded object.now.zones ids object.now.components needed.now }
+    ensures { OnOk result (out.new ≡ out.old ++ spec.rows_in object.now needed.now.window) }
+{
+    if has_overrides(object.components.as_slice()) {
+        return put_with_overrides(alloc, zones, ids, object, range, rows, needed, out);
+    }
+    let near = near_rows(rows, needed.range);
+    out.reserve(near.len())?;
+    put_asked_rows(zones, object, near, Part::Window(needed.window), out)
 }
 
 /// The rows of several windows, given the rows of the master in a range that has what each of them
@@ -225,8 +254,17 @@ fn is_counted(components: &[Component]) -> bool {
         .any(|rule| rule.count.is_some()))
 }
 
+/// Whether windows in rising order stand side by side, so that a walk over all of them goes over no other.
+fn are_neighbours(windows: &[i32]) -> bool {
+    match (windows.first(), windows.last()) {
+        (Some(first), Some(last)) => (*last as i64 - *first as i64) < windows.len() as i64,
+        _ => false,
+    }
+}
+
 /// The dated rows of several windows: of each window those that `window_rows` gives, in the order of
-/// the windows given. Where a rule counts its occurrences, it is walked over once for all windows.
+/// the windows given. Rules are walked over once for all windows where these stand side by side, and
+/// where a rule counts its occurrences.
 /// Takes no more steps than finding the rows of each window by itself may cost.
 pub fn windows_rows<L: Ledger>(
     alloc: Global,
@@ -247,7 +285,7 @@ pub fn windows_rows<L: Ledger>(
         return Ok(List::new(alloc));
     };
     let zones = local_times(alloc, object.zones.as_slice())?;
-    if is_counted(object.components.as_slice()) {
+    if are_neighbours(windows) || is_counted(object.components.as_slice()) {
         rows_of_one_walk(alloc, zones.as_slice(), ids, object, windows, steps)
     } else {
         rows_of_each(alloc, zones.as_slice(), ids, object, windows, steps)

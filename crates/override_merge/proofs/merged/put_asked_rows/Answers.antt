@@ -3,7 +3,7 @@ use Rattle.std.proofs.lemmas.List.Elements.{All-tail}
 use Rattle.override_merge.specs.Conversions.{HasRowTimes}
 use Rattle.override_merge.specs.Parts.{lies_in}
 use Rattle.override_merge.proofs.MergeLemmas.{filter_more}
-use Rattle.override_merge.proofs.merged.without_overrides.Goals as goal
+use Rattle.override_merge.proofs.merged.put_asked_rows.Goals as goal
 
 pub rows-preserved : goal.rows-preserved
 rows-preserved c =

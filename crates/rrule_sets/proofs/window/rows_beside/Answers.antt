@@ -1,24 +1,12 @@
-use Rattle.std.proofs.Common.{◌≡◌, ◌∙◌, sym, subst, rules, List, length, FitsSigned, w32, to_z-of_z}
-use Rattle.std.specs.Prelude.{All, IfOk}
+use Rattle.std.proofs.Common.{◌≡◌, ◌∙◌, refl, sym, subst, rules, List, FitsSigned, w32, to_z-of_z}
+use Rattle.std.specs.Prelude.{IfOk, flat_map}
 use Rattle.cal_model.specs.declared.row.Row.{Row}
+use Rattle.cal_model.specs.Instances.Rows.{masters}
 use Rattle.cal_model.specs.Ranges.Cost.{last_day}
-use Rattle.override_merge.specs.Conversions.{HasRowTimes}
 use Rattle.override_merge.proofs.MergeLemmas.{zones_count}
-use Rattle.override_merge.proofs.StampLemmas.{ids_convertible}
-use Rattle.rrule_sets.proofs.CostLemmas.{window_counted}
-use Rattle.rrule_sets.proofs.WindowLemmas.{ends_by_last, rows_near, window_found}
+use Rattle.rrule_sets.specs.MasterRows.{rows_of_master}
+use Rattle.rrule_sets.proofs.AloneLemmas.{alone_counted, alone_ends, alone_found}
 use Rattle.rrule_sets.proofs.window.rows_beside.Goals as goal
-
-pub needed-range-requires-clause-ids : goal.needed-range-requires-clause-ids
-needed-range-requires-clause-ids g c =
-    let object = c.args.object.now in
-    let count = zones_count c.args.zones.now object.zones c.requires.zones in
-    rw count (ids_convertible (length object.zones) object c.args.ids c.requires.object.rows.components c.requires.ids).zone
-
-pub needed-range-requires-clause-components : goal.needed-range-requires-clause-components
-needed-range-requires-clause-components g c =
-    let count = zones_count c.args.zones.now c.args.object.now.zones c.requires.zones in
-    rw (c.as_slice-components.ensures, count) c.requires.object.rows.components
 
 pub master_rows-requires-clause-components : goal.master_rows-requires-clause-components
 master_rows-requires-clause-components g c =
@@ -31,43 +19,25 @@ master_rows-requires-clause-few g c = rw c.as_slice-components.ensures c.require
 pub master_rows-requires-clause-one : goal.master_rows-requires-clause-one
 master_rows-requires-clause-one g c = rw c.as_slice-components.ensures c.requires.object.read.one_master
 
-pub merged_rows-requires-clause-ids : goal.merged_rows-requires-clause-ids
-merged_rows-requires-clause-ids g c =
-    let object = c.args.object.now in
-    let count = zones_count c.args.zones.now object.zones c.requires.zones in
-    rw count (ids_convertible (length object.zones) object c.args.ids c.requires.object.rows.components c.requires.ids).zone
-
-pub merged_rows-requires-clause-near : goal.merged_rows-requires-clause-near
-merged_rows-requires-clause-near g c =
-    let made = rw (c.requires.zones, c.as_slice-components.ensures) at c.in_ok-rows.ensures.rows in
-    subst (All HasRowTimes) (sym (c.as_slice.ensures ∙ made)) (rows_near c.args.object.now c.needed-range.result c.requires.object.read)
-
-pub returns-in_err-rows-clause-steps : goal.returns-in_err-rows-clause-steps
-returns-in_err-rows-clause-steps g c =
+pub returns-else-has_overrides-clause-steps : goal.returns-else-has_overrides-clause-steps
+returns-else-has_overrides-clause-steps g c =
     let object = c.args.object.now in
     let fits : FitsSigned w32 c.args.window = search rules in
-    let least = simp to_z-of_z at (rw (c.requires.zones, c.as_slice-components.ensures) at c.needed-range.ensures.least) in
-    let ends = ends_by_last object c.args.ids c.args.window c.needed-range.result c.requires.ids least in
-    let looked = rw c.as_slice-components.ensures at c.needed-range.ensures.steps in
-    let made = rw c.as_slice-components.ensures at (c.master_rows.ensures.steps (last_day object c.args.window) ends) in
-    window_counted object c.args.window c.args.steps.now c.needed-range.new.steps c.master_rows.new.steps looked made
+    let low = simp to_z-of_z at c.window_digits-range.ensures.low in
+    let high = simp to_z-of_z at c.window_digits-range.ensures.high in
+    let alone = rw c.as_slice-components.ensures at (sym c.has_overrides.ensures ∙ c.if-has_overrides.false) in
+    let ends = alone_ends object c.args.ids c.args.window c.window_digits-range.result c.requires.ids low high in
+    let spent = rw c.as_slice-components.ensures at (c.master_rows.ensures.steps (last_day object c.args.window) ends) in
+    alone_counted object c.args.window c.args.steps.now c.master_rows.new.steps alone spent
 
-pub returns-clause-steps : goal.returns-clause-steps
-returns-clause-steps g c =
+pub returns-else-has_overrides-clause-rows : goal.returns-else-has_overrides-clause-rows
+returns-else-has_overrides-clause-rows g c =
     let object = c.args.object.now in
+    let range = c.window_digits-range.result in
     let fits : FitsSigned w32 c.args.window = search rules in
-    let least = simp to_z-of_z at (rw (c.requires.zones, c.as_slice-components.ensures) at c.needed-range.ensures.least) in
-    let ends = ends_by_last object c.args.ids c.args.window c.needed-range.result c.requires.ids least in
-    let looked = rw c.as_slice-components.ensures at c.needed-range.ensures.steps in
-    let made = rw c.as_slice-components.ensures at (c.master_rows.ensures.steps (last_day object c.args.window) ends) in
-    window_counted object c.args.window c.args.steps.now c.needed-range.new.steps c.master_rows.new.steps looked made
-
-pub returns-clause-rows : goal.returns-clause-rows
-returns-clause-rows g c =
-    let object = c.args.object.now in
-    let fits : FitsSigned w32 c.args.window = search rules in
-    let has = simp to_z-of_z at c.needed-range.ensures.window in
-    let days = simp to_z-of_z at (rw (c.requires.zones, c.as_slice-components.ensures) at c.needed-range.ensures.days) in
-    let made = c.as_slice.ensures ∙ (rw (c.requires.zones, c.as_slice-components.ensures) at c.in_ok-rows.ensures.rows) in
-    let merged = simp to_z-of_z at c.merged_rows.ensures in
-    subst (λ (xs : List Row). IfOk c.merged_rows.result (λ all. all ≡ xs)) (window_found object c.args.ids c.args.window c.needed-range.result c.as_slice.result.now c.requires.ids c.requires.object.read.one_master has days made) merged
+    let low = simp to_z-of_z at c.window_digits-range.ensures.low in
+    let high = simp to_z-of_z at c.window_digits-range.ensures.high in
+    let alone = rw c.as_slice-components.ensures at (sym c.has_overrides.ensures ∙ c.if-has_overrides.false) in
+    let made = rw (c.requires.zones, c.as_slice-components.ensures) at c.master_rows.ensures.rows in
+    let found = alone_found object c.args.ids c.args.window range c.requires.ids low high (flat_map (rows_of_master object.zones range) (masters object)) c.requires.object.read.one_master alone refl in
+    subst (λ (xs : List Row). IfOk c.master_rows.result (λ rows. rows ≡ xs)) found made
