@@ -8,6 +8,7 @@ What is to come is made here from the rules: the octets of each reply by docs/RE
 docs/STATE_AND_LIMITS.md and docs/REQUESTS.md. Nothing is taken from the program. It needs Python 3 alone.
 """
 import base64, hashlib, os, re, sys
+from email.utils import formatdate
 
 TOP = os.path.dirname(os.path.dirname(os.path.abspath(__file__)))
 MOMENT = 1741600000
@@ -116,12 +117,17 @@ def stored(octets, status=201):
     return reply(status, etag=etag(octets))
 
 
-def frame(octets, connection=0):
-    return b"bytes %d %d %d\n%s\n" % (connection, MOMENT, len(whole(octets)), octets)
+def frame(octets, connection=0, moment=MOMENT):
+    return b"bytes %d %d %d\n%s\n" % (connection, moment, len(whole(octets)), octets)
 
 
 def answer(octets, connection=0):
     return b"reply %d %d\n%s\n" % (connection, len(octets), octets)
+
+
+def dated(told, moment):
+    """A reply as it is at another moment."""
+    return told.replace(DATE.encode(), formatdate(moment, usegmt=True).encode())
 
 
 def exchange(steps, connection=0):
@@ -306,6 +312,26 @@ def cuttings():
     case("version 1.0 closes", text, 0, len(text), answer(closed))
 
 
+def moments():
+    """A reply has the date of the frame that brought the last octet of its request, whatever frames come before and behind it."""
+    options, allowed = request("OPTIONS", "/"), reply(200, allow=OF_HOME)
+    meeting, kept = put("one.ics", E1), stored(E1)
+    busy = report(f"<C:free-busy-query {NAMES}><C:time-range{attributes('20250310T000000Z', '20250311T000000Z')}/></C:free-busy-query>".encode())
+    times = lines("BEGIN:VCALENDAR", "VERSION:2.0", "PRODID:-//caldav_server//EN", "BEGIN:VFREEBUSY", "UID:free-busy", "DTSTAMP:20010909T014640Z", "DTSTART:20250310T000000Z",
+                  "DTEND:20250311T000000Z", "FREEBUSY;FBTYPE=BUSY:20250310T090000Z/20250310T100000Z", "END:VFREEBUSY", "END:VCALENDAR")
+    fault = b"GET / HTTP/2.0\r\n\r\n"
+    steps = [  # connection, moment, octets, and the reply that they complete
+        (0, MOMENT, options, allowed), (0, MOMENT + 60, options, allowed), (1, 0, meeting[:100], b""), (2, 86_399, options, allowed), (1, 1, meeting[100:-1], b""),
+        (1, 951_782_400, meeting[-1:], kept), (0, 253_402_300_799, options, allowed), (0, 5, options + options[:9], allowed), (3, 1_000_000_000, busy, reply(200, times, TEXT)),
+        (0, 86_400, options[9:], allowed), (4, 1_200_000_000, fault, reply(505, close=True)), (4, 7, options, b""), (5, 1_300_000_000, request("GET", "/", who=None), reply(401)),
+        (6, 1_400_000_000, put("one.ics", E1, if_match='"0"'), reply(412)), (7, 1_500_000_000, b"\r\n", b""), (7, 1_600_000_000, request("GET", CALENDAR + "one.ics"), reply(200, E1, TEXT, etag(E1))),
+    ]
+    assert formatdate(951_782_400, usegmt=True) == "Tue, 29 Feb 2000 00:00:00 GMT" and formatdate(1_000_000_000, usegmt=True) == "Sun, 09 Sep 2001 01:46:40 GMT"
+    text = b"".join(frame(octets, connection, moment) + b"claim 0\n" for connection, moment, octets, _ in steps)
+    output = b"".join(answer(dated(told, moment), connection) for connection, moment, _, told in steps if told)
+    case("frames of other moments: a reply has that of its request's last octet", text, 0, len(text), output)
+
+
 def streams():
     """Faults of streams, each of which closes its connection."""
     head = "PUT /calendars/alice/calendar/one.ics HTTP/1.1\r\n"
@@ -434,7 +460,10 @@ class Order:
         return request(**how), told(how["path"]) if callable(told) else told
 
     def run(self, *both, never=()):
-        """`both` has the changes of pairs that touch the same part of a request; `never` the pairs that no request has."""
+        """`both` has the changes of pairs that touch the same part of a request; `never` the pairs that no request has.
+
+        A pair of `both` may have others between its two, which no request has with the first.
+        """
         given = dict((pair, changes) for pair, changes in both)
         for name, told, changes in self.stages:
             self.steps.append(self.asked(changes, told))
@@ -447,7 +476,10 @@ class Order:
                 assert not set(changes) & set(others), (self.base["method"], first, second)
                 merged = {**others, **changes}
             self.steps.append(self.asked(merged, told))
-        assert not given, given
+        place = {name: number for number, (name, _, _) in enumerate(self.stages)}
+        for (first, second), merged in given.items():
+            assert place[first] + 1 < place[second] and (first, self.stages[place[first] + 1][0]) in never, (first, second)
+            self.steps.append(self.asked(merged, self.stages[place[first]][1]))
         self.steps.append(self.asked({}, self.done))
         names = ", ".join(name for name, _, _ in self.stages)
         return runs(f"{self.base['method']} {self.base['path']}: {names}", SETTING + self.steps)
@@ -465,6 +497,95 @@ def fields(order, media=True):
     order.add("coding", reply(415), coding="gzip")
     if media:
         order.add("type", reply(415), media="text/plain")
+
+
+OF_OBJECTS, OF_CALENDARS = OF_OBJECT.split(", "), OF_CALENDAR.split(", ")
+METHODS = OF_OBJECTS + [method for method in OF_CALENDARS if method not in OF_OBJECTS]
+
+
+def of(method, path, **how):
+    """A request of a method, right in itself."""
+    base = {
+        "PUT": dict(body=E1, media="text/calendar"), "PROPFIND": dict(body=propfind("<D:resourcetype/>"), depth="0"), "PROPPATCH": dict(body=update("<D:displayname>x</D:displayname>")),
+        "REPORT": dict(body=query(*ALL, "<D:getetag/>")), "ACL": dict(body=grants(ace(BOB))),
+    }
+    return request(method, path, **{**base.get(method, {}), **how})
+
+
+def each(path, object_path, told, other=(), **how):
+    """A request of each method on the path of a calendar and of an object, and its reply."""
+    other = dict(other)
+    return [(of(method, at, **how), other.get((method, at), told(at) if callable(told) else told))
+            for at, those in ((path, OF_CALENDARS), (object_path, OF_OBJECTS)) for method in those]
+
+
+def shapes():
+    """What each method is answered at a stream's fault, at no path, and at what is not there or is hidden."""
+    faulty = [(n, request(method, "/", who=None, depth="0", more=["Depth: 0"])) for n, method in enumerate(METHODS)]
+    text = b"".join(frame(octets + request("OPTIONS", "/"), n) for n, octets in faulty)
+    case("each method on a stream with a fault, without credentials", text, 0, len(text), b"".join(answer(reply(400, close=True), n) for n, _ in faulty))
+    runs("each method on no path, with credentials and without", [
+        step for method in METHODS for step in ((of(method, "/calendars/alice/calendar/one.ics/more"), reply(404)), (of(method, "/nowhere", who=None), reply(401)))])
+    runs("each method on what an unknown user would have", each("/calendars/nobody/calendar/", "/calendars/nobody/calendar/one.ics", reply(404)) + [
+        (of(method, path), reply(404)) for method in ("OPTIONS", "PROPFIND") for path in ("/principals/nobody/", "/calendars/nobody/")])
+    runs("each method in a home that is hidden", SETTING + each(CALENDAR, CALENDAR + "one.ics", reply(404), who="carol") + [
+        (of(method, HOME, who="carol"), reply(404)) for method in ("OPTIONS", "PROPFIND")])
+    steps = []
+    for name in ("todos", "none"):
+        path, object_path = f"{HOME}{name}/", f"{HOME}{name}/one.ics"
+        steps += each(path, object_path, reply(404), {
+            ("OPTIONS", path): reply(200, allow=OF_CALENDAR), ("OPTIONS", object_path): reply(200, allow=OF_OBJECT), ("MKCALENDAR", path): needs(path, "D:bind"),
+        }, who="bob")
+    runs("each method in a hidden calendar of a home that is seen, and in one that is not there", SETTING + steps)
+    path, object_path = HOME + "none/", HOME + "none/one.ics"
+    runs("each method in a calendar that is not there", [(of(method, at), reply(200, allow=allow) if method == "OPTIONS" else reply(404)) for at, those, allow in (
+        (path, OF_CALENDARS, OF_CALENDAR), (object_path, OF_OBJECTS, OF_OBJECT)) for method in those if method != "MKCALENDAR"] + [(of("MKCALENDAR", path), reply(201))])
+
+
+def conditions():
+    """Conditional fields of each method: malformed ones, those that count nothing, and weak tags."""
+    steps = []
+    for field in (dict(if_match="x"), dict(if_none='"a",'), dict(if_match='*, "0"'), dict(if_match="W/x"), dict(if_none='w/"0"')):
+        steps += each(HOME + "fresh/", CALENDAR + "one.ics", reply(404), {**{("OPTIONS", HOME + "fresh/"): reply(400), ("MKCALENDAR", HOME + "fresh/"): reply(400)}, **{
+            (method, CALENDAR + "one.ics"): reply(400) for method in OF_OBJECTS}}, **field)
+        steps += [(of(method, CALENDAR, **field), reply(400)) for method in OF_CALENDARS] + [(of(method, HOME, **field), reply(400)) for method in ("OPTIONS", "PROPFIND")]
+    runs("each method with a malformed If-Match and with a malformed If-None-Match", SETTING + steps)
+    shown, named = found((CALENDAR, [(200, "<D:resourcetype><D:collection/><C:calendar/></D:resourcetype>")])), found((CALENDAR, [(200, "<D:displayname/>")]))
+    reported = found(*[(CALENDAR + name, [(200, f'<D:getetag>"{etag(octets)}"</D:getetag>')]) for name, octets in (("one.ics", E1), ("two.ics", E2))])
+    steps = []
+    for field in (dict(if_match='"0"'), dict(if_none="*"), dict(if_match='"0"', if_none="*")):
+        steps += [
+            (of("OPTIONS", CALENDAR, **field), reply(200, allow=OF_CALENDAR)), (of("OPTIONS", CALENDAR + "one.ics", **field), reply(200, allow=OF_OBJECT)),
+            (of("PROPFIND", CALENDAR, **field), shown), (of("PROPPATCH", CALENDAR, **field), named), (of("REPORT", CALENDAR, **field), reported), (of("ACL", CALENDAR, **field), reply(200)),
+            (of("MKCALENDAR", HOME + "fresh/", **field), reply(201)), (of("DELETE", HOME + "fresh/", **field), reply(204)),
+        ]
+    runs("conditions count on objects alone, and not of OPTIONS", SETTING + steps)
+    own, weak = f'"{etag(E1)}"', f'W/"{etag(E1)}"'
+    one = CALENDAR + "one.ics"
+    runs("If-Match is compared strongly, If-None-Match weakly", SETTING + [
+        *[(of(method, one, if_match=weak), reply(412, head=method == "HEAD")) for method in ("GET", "HEAD", "PUT", "DELETE", "PROPFIND")],
+        *[(of(method, one, if_none=tags), reply(304, etag=etag(E1))) for method in ("GET", "HEAD") for tags in (own, weak, f'"0", {weak}', "*")],
+        *[(of(method, one, if_none=tags), reply(412)) for method in ("PUT", "DELETE", "PROPFIND") for tags in (own, weak, f'"0", {weak}', "*")],
+        *[(of(method, one, if_match='"0"', if_none=own), reply(412)) for method in ("GET", "HEAD", "PUT", "DELETE", "PROPFIND")],
+        *[(of(method, CALENDAR + "none.ics", if_match="*"), reply(404)) for method in ("GET", "HEAD", "DELETE", "PROPFIND")],
+        (put("new.ics", NEW, if_match="*"), reply(412)), (put("new.ics", NEW, if_match=own), reply(412)),
+        (put("new.ics", NEW, if_none=own), stored(NEW)), (put("one.ics", E1, if_match="*"), stored(E1, 204)), (put("one.ics", E1, if_match=own, if_none='"0"'), stored(E1, 204)),
+        (request("GET", one, if_match=own), reply(200, E1, TEXT, etag(E1))), (request("DELETE", one, if_match=f'{weak}, {own}'), reply(204)), (request("GET", one), reply(404)),
+    ])
+
+
+def bodies():
+    """Bodies that are no XML, and roots of other methods."""
+    faults = [
+        ("another encoding", b"<?xml version='1.0' encoding='latin1'?><a/>"), ("a document type", b"<!DOCTYPE a><a/>"), ("an entity", b"<a>&x;</a>"), ("a prefix that nothing declares", b"<x:a/>"),
+        ("33 levels", b"<a>" * 33 + b"</a>" * 33), ("a body that ends inside", b"<a>"), ("two roots", b"<a/><a/>"),
+    ]
+    at = {"PROPFIND": CALENDAR, "PROPPATCH": CALENDAR, "REPORT": CALENDAR, "MKCALENDAR": HOME + "fresh/", "ACL": CALENDAR}
+    runs("bodies of each method that are no XML: " + ", ".join(name for name, _ in faults), [
+        (of(method, path, body=octets), reply(400)) for method, path in at.items() for _, octets in faults])
+    roots = {"PROPFIND": propfind("<D:getetag/>"), "PROPPATCH": update("<D:displayname>x</D:displayname>"), "REPORT": query(*ALL), "MKCALENDAR": make("<D:displayname>x</D:displayname>"), "ACL": grants()}
+    runs("bodies of each method with the root of another", [
+        (of(method, path, body=body), refused("<D:supported-report/>") if method == "REPORT" else reply(400)) for method, path in at.items() for other, body in roots.items() if other != method])
 
 
 def methods():
@@ -522,8 +643,16 @@ def reading():
     order.add("If-None-Match", reply(412), if_none="*")
     order.run(
         (("stranger", "hidden"), dict(who=None, path="/calendars/nobody/calendar/one.ics")), (("hidden", "privilege"), dict(who="carol")),
-        never=[("no Depth", "another Depth")],
+        (("no Depth", "If-Match"), dict(depth=None, if_match='"0"')), never=[("no Depth", "another Depth")],
     )
+    order = Order("PROPFIND", CALENDAR, found((CALENDAR, [(200, "<D:displayname>calendar</D:displayname>")])), body=propfind("<D:displayname/>"), media="text/xml", depth="0", if_match='"0"')
+    starts(order, shape=False)
+    fields(order)
+    order.add("body", reply(400), body=b"<D:propfind xmlns:D='DAV:'/>")
+    order.add("malformed", reply(400), if_none="x")
+    order.add("no Depth", refused("<D:propfind-finite-depth/>"), depth="infinity")
+    order.add("another Depth", reply(400), depth="2")
+    order.run((("stranger", "hidden"), dict(who=None, path="/calendars/nobody/calendar/")), never=[("no Depth", "another Depth")])
 
 
 def deleting():
@@ -584,6 +713,12 @@ def putting():
     runs("PUT: other privileges, conditions and conflicts", SETTING + [
         (put("there.ics", E1, HOME + "part/", who="bob"), needs(HOME + "part/there.ics", "D:write-content")),
         (put("none.ics", E1, CALENDAR, who="bob"), needs(CALENDAR + "none.ics", "D:bind")),
+        (put("one.ics", E1, CALENDAR, who="bob"), needs(CALENDAR + "one.ics", "D:bind")),
+        (request("ACL", HOME + "todos/", grants(ace(BOB, "<D:write-content/>"))), reply(200)),
+        (put("none.ics", todo("none"), HOME + "todos/", who="bob"), needs(HOME + "todos/none.ics", "D:bind")),
+        (put("some.ics", todo("some"), HOME + "todos/"), stored(todo("some"))),
+        (put("some.ics", todo("some"), HOME + "todos/", who="bob"), stored(todo("some"), 204)),
+        (put("mine.ics", NEW, HOME + "part/", who="bob"), stored(NEW)),
         (put("one.ics", E1, HOME + "none/"), reply(404)),
         (put("one.ics", E1, "/calendars/nobody/calendar/"), reply(404)),
         (put("one.ics", E1, if_none="*"), reply(412)),
@@ -616,6 +751,13 @@ def properties():
     order.add("there", refused("<D:resource-must-be-null/>"), path=CALENDAR)
     order.add("setting", refused("<D:cannot-modify-protected-property/>"), body=make("<D:displayname>x</D:displayname>", "<D:getetag/>"))
     order.run((("hidden", "privilege"), dict(who="carol")))
+    kinds = "<C:supported-calendar-component-set><C:comp name=\"VTIMEZONE\"/></C:supported-calendar-component-set>"
+    zone, odd, text = "<C:calendar-timezone>x</C:calendar-timezone>", '<x xmlns="u"><y/></x>', "<D:displayname>x</D:displayname>"
+    protected, bad = refused("<D:cannot-modify-protected-property/>"), refused("<C:valid-calendar-data/>")
+    runs("MKCALENDAR: the first setting that is refused decides", [
+        (request("MKCALENDAR", HOME + "work/", make(*names)), told) for names, told in (
+            ((text, zone, kinds), bad), ((text, kinds, zone), protected), ((odd, zone), protected), ((zone, odd), bad), (("<D:acl/>", zone), protected), ((kinds,), protected), ((zone,), bad))
+    ] + [(request("PROPFIND", HOME + "work/", depth="0"), reply(404))])
 
 
 def granting():
@@ -647,8 +789,18 @@ def granting():
         (("no-invert", "recognized-principal"), dict(body=grants(ace(NOBODY, inner=f"<D:invert>{BOB}</D:invert>")))),
         (("allowed-principal", "not-supported-privilege"), dict(body=grants(ace(empty, bad)))),
         (("not-supported-privilege", "limited-number-of-aces"), dict(body=many("unlock"))),
+        (("recognized-principal", "not-supported-privilege"), dict(body=grants(ace(NOBODY, bad)))),
         never=[("recognized-principal", "allowed-principal")],
     )
+    later = ace(BOB, inner=deny)
+    runs("ACL: the first ace that is refused decides", SETTING + [
+        (request("ACL", CALENDAR, grants(ace(BOB, bad), later)), refused("<D:not-supported-privilege/>")),
+        (request("ACL", CALENDAR, grants(ace(odd), later)), refused("<D:allowed-principal/>")),
+        (request("ACL", CALENDAR, grants(ace(NOBODY), later)), refused("<D:recognized-principal/>")),
+        (request("ACL", CALENDAR, grants(ace("", inner=f"<D:invert>{BOB}</D:invert>"), later)), refused("<D:no-invert/>")),
+        (request("ACL", CALENDAR, grants(ace(BOB), later)), refused("<D:grant-only/>")),
+        (request("GET", CALENDAR + "one.ics", who="bob"), needs(CALENDAR + "one.ics", "D:read")),
+    ])
 
 
 def reporting():
@@ -690,6 +842,7 @@ def reporting():
         (("supported-collation", "supported-calendar-data"), dict(body=asks(collated, old))),
         (("zone", "min-date-time"), dict(body=asks(zone, span=early))),
         (("min-date-time", "max-date-time"), dict(body=asks(span=("15991231T000000Z", "21010101T000000Z")))),
+        (("supported-report", "malformed"), dict(body=b"<a/>", if_none="x")),
         never=[("supported-report", "nameless")],
     )
     busy = f"<C:free-busy-query {NAMES}><C:time-range%s/></C:free-busy-query>"
@@ -699,6 +852,88 @@ def reporting():
     def expands(first, second, limit=""):
         return report(query(*second, f'<C:calendar-data><C:expand{attributes(*first)}/>{limit}</C:calendar-data>'))
 
+    def fb(span):
+        return (busy % attributes(*span)).encode()
+
+    def gets(inner="<D:getetag/>", hrefs=href):
+        return (several.replace("<D:getetag/>", inner) % hrefs).encode()
+
+    def expanding(span):
+        return gets(f"<C:calendar-data><C:expand{attributes(*span)}/></C:calendar-data>")
+
+    free = lines("BEGIN:VCALENDAR", "VERSION:2.0", "PRODID:-//caldav_server//EN", "BEGIN:VFREEBUSY", "UID:free-busy", "DTSTAMP:20250310T094640Z", "DTSTART:20250301T000000Z",
+                 "DTEND:20250401T000000Z", "FREEBUSY;FBTYPE=BUSY:20250310T090000Z/20250310T100000Z", "FREEBUSY;FBTYPE=BUSY:20250311T090000Z/20250311T100000Z", "END:VFREEBUSY", "END:VCALENDAR")
+    order = Order("REPORT", CALENDAR, reply(200, free, TEXT), body=fb(month), media="text/xml", if_match='"0"', who="bob")
+    starts(order)
+    fields(order)
+    order.add("body", reply(400), body=f"<C:free-busy-query {NAMES}/>".encode())
+    order.add("valid-filter", refuses("valid-filter"), body=fb(("", "")))
+    order.add("malformed", reply(400), if_none="x")
+    order.add("privilege", lambda path: needs(path, "C:read-free-busy"), path=HOME + "part/")
+    order.add("min-date-time", refuses("min-date-time"), body=fb(early))
+    order.add("max-date-time", refuses("max-date-time"), body=fb(late))
+    order.run(
+        (("body", "valid-filter"), dict(body=f"<C:free-busy-query {NAMES}><C:time-range/></C:free-busy-query>x".encode())),
+        (("min-date-time", "max-date-time"), dict(body=fb(("15991231T000000Z", "21010101T000000Z")))),
+    )
+    order = Order("REPORT", CALENDAR, found((CALENDAR + "one.ics", [(200, f'<D:getetag>"{etag(E1)}"</D:getetag>')])), body=gets(), media="text/xml", if_match='"0"')
+    starts(order)
+    fields(order)
+    order.add("body", reply(400), body=gets(hrefs=""))
+    order.add("valid-filter", refuses("valid-filter"), body=expanding(("", "")))
+    order.add("supported-calendar-data", refuses("supported-calendar-data"), body=gets(old))
+    order.add("malformed", reply(400), if_none="x")
+    order.add("privilege", lambda path: needs(path, "D:read"), who="bob")
+    order.add("min-date-time", refuses("min-date-time"), body=expanding(early))
+    order.add("max-date-time", refuses("max-date-time"), body=expanding(late))
+    order.run(
+        (("body", "valid-filter"), dict(body=gets('<C:calendar-data><C:expand/></C:calendar-data>', ""))),
+        (("valid-filter", "supported-calendar-data"), dict(body=gets('<C:calendar-data version="3.0"><C:expand/></C:calendar-data>'))),
+        (("min-date-time", "max-date-time"), dict(body=expanding(("15991231T000000Z", "21010101T000000Z")))),
+    )
+
+    def named(first, second, third, fourth, own=month, kind="expand"):
+        """A query with ranges in each place where one can stand: a selection's two, the filter's own, that of a property in it and that of a component in it."""
+        first, second, third, fourth = [attributes(*span) for span in (first, second, third, fourth)]
+        inner = f'<C:comp-filter name="VALARM"><C:time-range{fourth}/></C:comp-filter><C:prop-filter name="DTSTART"><C:time-range{third}/></C:prop-filter>'
+        return report(query(*own, f"<C:calendar-data><C:limit-freebusy-set{second}/><C:{kind}{first}/></C:calendar-data>", inner))
+
+    steps = []
+    for kind in ("expand", "limit-recurrence-set"):
+        steps += [(named(early, late, late, late, late, kind), refuses("min-date-time")), (named(late, early, early, early, early, kind), refuses("max-date-time"))]
+    for one, other, told in ((early, late, "min-date-time"), (late, early, "max-date-time")):
+        steps += [(named(month, one, other, other, other), refuses(told)), (named(month, month, other, other, one), refuses(told)),
+                  (named(month, month, one, other), refuses(told)), (named(month, month, month, one), refuses(told))]
+    steps += [(named(month, month, month, month), found())]
+    runs("REPORT: the first range that leaves the dates decides", SETTING + steps)
+
+    def filtered(inner, top="VCALENDAR"):
+        return report(f'<C:calendar-query {NAMES}><D:prop/><C:filter><C:comp-filter name="{top}">{inner}</C:comp-filter></C:filter></C:calendar-query>'.encode())
+
+    def ranged(name, span):
+        return f'<C:comp-filter name="{name}"><C:time-range{span}/></C:comp-filter>'
+
+    absent, month_of = "<C:is-not-defined/>", attributes(*month)
+    runs("REPORT: what a filter and a selection may not say", SETTING + [
+        (filtered("", "VEVENT"), refuses("valid-filter")),
+        (filtered(ranged("VEVENT", "")), refuses("valid-filter")),
+        (filtered(ranged("VEVENT", ' start="20250301T000000"')), refuses("valid-filter")),
+        (filtered(ranged("VEVENT", attributes(month[1], month[0]))), refuses("valid-filter")),
+        (filtered(ranged("VEVENT", attributes(month[0], month[0]))), refuses("valid-filter")),
+        (filtered(ranged("VTIMEZONE", month_of)), refuses("valid-filter")),
+        (filtered(f'<C:comp-filter name="VEVENT">{absent}<C:time-range{month_of}/></C:comp-filter>'), refuses("valid-filter")),
+        (filtered(f'<C:comp-filter name="VEVENT"><C:prop-filter name="SUMMARY">{absent}<C:text-match>a</C:text-match></C:prop-filter></C:comp-filter>'), refuses("valid-filter")),
+        (filtered(f'<C:comp-filter name="VEVENT"><C:prop-filter name="SUMMARY"><C:time-range{month_of}/></C:prop-filter></C:comp-filter>'), refuses("supported-filter")),
+        (filtered('<C:comp-filter name="VEVENT"><C:prop-filter name="SUMMARY"><C:text-match collation="i;unicode-casemap">a</C:text-match></C:prop-filter></C:comp-filter>'), refuses("supported-collation")),
+        (report(query(*month, '<C:calendar-data content-type="text/plain"/>')), refuses("supported-calendar-data")),
+        (report(query(*month, '<C:calendar-data version="1.0"/>')), refuses("supported-calendar-data")),
+        (report(query(*month, f"<C:calendar-data><C:expand{month_of}/><C:limit-recurrence-set{month_of}/></C:calendar-data>")), reply(400)),
+        (report(query(*month, "<C:calendar-data><C:expand/></C:calendar-data>")), refuses("valid-filter")),
+        (report(f"<C:calendar-query {NAMES}><D:prop/></C:calendar-query>".encode()), reply(400)),
+        (report(f"<C:calendar-query {NAMES}><D:prop/><C:filter/></C:calendar-query>".encode()), reply(400)),
+        (filtered("<C:comp-filter/>"), reply(400)),
+        (filtered(ranged("VEVENT", month_of)), found((CALENDAR + "one.ics", []), (CALENDAR + "two.ics", []))),
+    ])
     runs("REPORT: other reports, and ranges of several kinds", SETTING + [
         (report((busy % attributes(*month)).encode(), who="carol"), reply(404)),
         (report((busy % attributes(*month)).encode(), HOME + "part/", who="bob"), needs(HOME + "part/", "C:read-free-busy")),
@@ -719,42 +954,182 @@ def reporting():
 def full_home():
     """A home that has accepted 33,554,432 octets, and what it then refuses: 507 comes behind all else, and deletions are made.
 
-    MKCALENDAR without a body costs 256, and a PUT its body and 256, so the last PROPPATCH is the shorter by these. It is no
-    case of the gate, which would go over 33 MB twice: `bench/limits.py` runs it.
+    MKCALENDAR without a body costs 256, and a PUT its body and 256, so the last PROPPATCH is the shorter by these. What is
+    answered 507 costs nothing: behind three such requests, each of one octet too many, there is room for what fits to the
+    octet.
     """
-    displayname = update("<D:displayname>p</D:displayname>")
+    part = HOME + "part/"
+    displayname, made = update("<D:displayname>p</D:displayname>"), make("<D:displayname>p</D:displayname>")
+
+    def costing(cost, method, path, body):
+        return request(method, path, b"<!--~%d~-->" % (cost - 256 - len(b"<!---->") - len(body)) + body)
 
     def spends(cost):
-        return (request("PROPPATCH", HOME + "part/", b"~%d~" % (cost - 256 - len(displayname)) + displayname), found((HOME + "part/", [(200, "<D:displayname/>")])))
+        return (costing(cost, "PROPPATCH", part, displayname), found((part, [(200, "<D:displayname/>")])))
 
-    last = 1_048_576 - 256 - (len(E1) + 256)
-    over = request("PROPPATCH", HOME + "part/", displayname)
-    conflict = refused(f"<C:no-uid-conflict><D:href>{HOME}part/one.ics</D:href></C:no-uid-conflict>")
+    left = 1_048_576 - 256 - (len(E1) + 256)
+    wider = NEW.replace(b"UID:new", b"UID:newe")
+    over = request("PROPPATCH", part, displayname)
+    conflict = refused(f"<C:no-uid-conflict><D:href>{part}one.ics</D:href></C:no-uid-conflict>")
     return [
-        (request("MKCALENDAR", HOME + "part/"), reply(201)),
-        (put("one.ics", E1, HOME + "part/"), stored(E1)),
+        (request("MKCALENDAR", part), reply(201)),
+        (put("one.ics", E1, part), stored(E1)),
         *[spends(1_048_576)] * 31,
-        spends(last),
+        (costing(left + 1, "PROPPATCH", part, displayname), reply(507)),
+        (costing(left + 1, "ACL", part, grants()), reply(507)),
+        (costing(left + 1, "MKCALENDAR", HOME + "more/", made), reply(507)),
+        spends(left - (len(NEW) + 256)),
+        (put("new.ics", wider, part), reply(507)),
+        (put("new.ics", NEW, part), stored(NEW)),
         (over, reply(507)),
-        (request("PROPPATCH", HOME + "part/", update("<D:getetag/>")), found((HOME + "part/", [(403, "<D:getetag/>")]))),
-        (put("new.ics", NEW, HOME + "part/"), reply(507)),
-        (put("one.ics", E1, HOME + "part/"), reply(507)),
-        (put("new.ics", E1, HOME + "part/"), conflict),
-        (request("ACL", HOME + "part/", grants()), reply(507)),
+        (request("PROPPATCH", part, update("<D:getetag/>")), found((part, [(403, "<D:getetag/>")]))),
+        (put("two.ics", E2, part), reply(507)),
+        (put("one.ics", E1, part), reply(507)),
+        (put("one.ics", E1, part, if_match='"0"'), reply(412)),
+        (put("two.ics", E1, part), conflict),
+        (request("ACL", part, grants()), reply(507)),
+        (request("ACL", part, grants(ace(NOBODY))), refused("<D:recognized-principal/>")),
         (request("MKCALENDAR", HOME + "more/"), reply(507)),
         (request("MKCALENDAR", HOME + "more/", make("<D:getetag/>")), refused("<D:cannot-modify-protected-property/>")),
-        (request("MKCALENDAR", HOME + "part/"), refused("<D:resource-must-be-null/>")),
+        (request("MKCALENDAR", part), refused("<D:resource-must-be-null/>")),
         (put("one.ics", E1, "/calendars/bob/calendar/", who="bob"), stored(E1)),
-        (request("DELETE", HOME + "part/one.ics"), reply(204)),
-        (request("DELETE", HOME + "part/"), reply(204)),
+        (request("DELETE", part + "one.ics"), reply(204)),
+        (request("GET", part + "two.ics"), reply(404)),
+        (request("GET", part + "new.ics"), reply(200, NEW, TEXT, etag(NEW))),
+        (request("DELETE", part), reply(204)),
         (put("new.ics", NEW), reply(507)),
     ]
 
 
+def long_answers():
+    """Answers of more octets than one may have: 403 comes behind a range that leaves the dates."""
+    size = 262_144 - len(event("large", "DTSTART:20250101T000000Z", "X-NOTE:"))
+    large = event("large", "DTSTART:20250101T000000Z", f"X-NOTE:~{size}~")
+
+    def gets(count, data):
+        return report(f"<C:calendar-multiget {NAMES}><D:prop>{data}</D:prop>{f'<D:href>{CALENDAR}large.ics</D:href>' * count}</C:calendar-multiget>".encode())
+
+    def limited(start):
+        return f"<C:calendar-data><C:limit-recurrence-set{attributes(start, '20250401T000000Z')}/></C:calendar-data>"
+
+    over = refused("<D:number-of-matches-within-limits/>")
+    runs("answers of more than 67,108,864 octets", [
+        (put("large.ics", large), stored(large)), (gets(256, "<C:calendar-data/>"), over), (gets(257, limited("15991231T000000Z")), refused("<C:min-date-time/>")), (gets(257, limited("")), over),
+        (gets(1, "<D:getcontentlength/>"), found((CALENDAR + "large.ics", [(200, "<D:getcontentlength>262144</D:getcontentlength>")]))),
+    ])
+
+
 def homes():
+    runs("a home that has accepted all that it may", full_home())
     runs("a home of 64 calendars", [(request("MKCALENDAR", f"{HOME}c{n}/"), reply(201)) for n in range(63)] + [
         (request("MKCALENDAR", HOME + "c63/"), reply(507)), (request("MKCALENDAR", HOME + "c62/"), refused("<D:resource-must-be-null/>")),
+        (request("MKCALENDAR", HOME + "c63/", make("<D:getetag/>")), refused("<D:cannot-modify-protected-property/>")), (request("GET", HOME + "c63/one.ics"), reply(404)),
         (request("DELETE", HOME + "c62/"), reply(204)), (request("MKCALENDAR", HOME + "c63/"), reply(201)),
+    ])
+
+
+def rows():
+    """Worked examples, from an object to what a query, an expansion or a free-busy-query shows of it."""
+    def day(*hours):
+        return [f"20250310T{hour}00Z" for hour in hours]
+
+    def shows(name, octets, path=CALENDAR):
+        return found((path + name, [(200, f'<D:getetag>"{etag(octets)}"</D:getetag>' + data(octets))]))
+
+    def asks(start, end, **how):
+        return report(query(*day(start, end), **how))
+
+    runs("queries that meet a meeting, and that touch it", [
+        (put("one.ics", E1), stored(E1)), (asks("0900", "1000"), shows("one.ics", E1)), (asks("1000", "1100"), found()), (asks("0800", "0900"), found())])
+    point = event("point", "DTSTART:20250310T090000Z", "DURATION:PT0S")
+    runs("queries that begin and end at an event without a length", [(put("point.ics", point), stored(point)), (asks("0900", "1000"), shows("point.ics", point)), (asks("0800", "0900"), found())])
+    long = event("long", "DTSTART:20250101T000000Z", "DTEND:20250411T000000Z")
+    runs("an hour on the last day of a hundred", [(put("long.ics", long), stored(long)), (report(query("20250410T000000Z", "20250410T010000Z")), shows("long.ics", long))])
+
+    def instances(uid, starts, value=""):
+        return calendar(*[line for start in starts for line in (
+            "BEGIN:VEVENT", "UID:" + uid, "DTSTAMP:20250101T000000Z", f"DTSTART{value}:{start}", f"RECURRENCE-ID{value}:{start}", "END:VEVENT")])
+
+    def recurring(uid, start, rule):
+        return event(uid, start, "RRULE:" + rule)
+
+    def new_york(uid, *inner):
+        return calendar(*NY, "BEGIN:VEVENT", "UID:" + uid, "DTSTAMP:20250101T000000Z", *inner, "END:VEVENT")
+
+    leap = [f"{year}0229" for year in range(1604, 2100, 4) if year not in (1700, 1800, 1900)]
+    assert len(leap) == 121 and leap[-1] == "20960229"
+    week = "FREQ=WEEKLY;INTERVAL=2;COUNT=4;BYDAY=TU,SU;WKST="
+    recurrences = [
+        ("a31", recurring("a31", "DTSTART:20250131T090000Z", "FREQ=MONTHLY;BYMONTHDAY=31;COUNT=4"), instances("a31", [f"2025{month}31T090000Z" for month in ("01", "03", "05", "07")])),
+        ("b-2", recurring("b-2", "DTSTART:19970929T090000", "FREQ=MONTHLY;BYDAY=MO,TU,WE,TH,FR;BYSETPOS=-2;COUNT=4"), instances("b-2", [f"1997{day}T090000" for day in ("0929", "1030", "1127", "1230")])),
+        ("c3", recurring("c3", "DTSTART:19970904T090000", "FREQ=MONTHLY;COUNT=3;BYDAY=TU,WE,TH;BYSETPOS=3"), instances("c3", [f"1997{day}T090000" for day in ("0904", "1007", "1106")])),
+        ("dmo", recurring("dmo", "DTSTART:19970805T090000", week + "MO"), instances("dmo", [f"199708{day}T090000" for day in ("05", "10", "19", "24")])),
+        ("esu", recurring("esu", "DTSTART:19970805T090000", week + "SU"), instances("esu", [f"199708{day}T090000" for day in ("05", "17", "19", "31")])),
+        ("fgap", new_york("fgap", "DTSTART;TZID=NY:20250308T023000", "RRULE:FREQ=DAILY;COUNT=3"), instances("fgap", ["20250308T073000Z", "20250310T063000Z", "20250311T063000Z"])),
+        ("gtwice", new_york("gtwice", "DTSTART;TZID=NY:20251102T013000"), event("gtwice", "DTSTART:20251102T053000Z")),
+        ("hleap", recurring("hleap", "DTSTART;VALUE=DATE:16040229", "FREQ=YEARLY"), instances("hleap", leap, ";VALUE=DATE")),
+    ]
+    runs("instances of rules: the 31st, places in a month, weeks from Monday and from Sunday, a time that is skipped and one that comes twice, each 29 February", [
+        *[(put(f"{name}.ics", octets), stored(octets)) for name, octets, _ in recurrences],
+        (report(expanded(*ALL)), found(*[(f"{CALENDAR}{name}.ics", [(200, data(shown))]) for name, _, shown in recurrences])),
+    ])
+    busy = f"<C:free-busy-query {NAMES}><C:time-range{attributes('20250310T000000Z', '20250311T000000Z')}/></C:free-busy-query>".encode()
+
+    def times(*periods):
+        return reply(200, lines("BEGIN:VCALENDAR", "VERSION:2.0", "PRODID:-//caldav_server//EN", "BEGIN:VFREEBUSY", "UID:free-busy", "DTSTAMP:20250310T094640Z", "DTSTART:20250310T000000Z",
+                                "DTEND:20250311T000000Z", *periods, "END:VFREEBUSY", "END:VCALENDAR"), TEXT)
+
+    events = [
+        event("tentative", "DTSTART:20250310T090000Z", "DTEND:20250310T110000Z", "STATUS:TENTATIVE"), event("busy", "DTSTART:20250310T100000Z", "DTEND:20250310T120000Z"),
+        event("free", "DTSTART:20250310T080000Z", "DTEND:20250310T130000Z", "TRANSP:TRANSPARENT"),
+    ]
+    runs("a tentative event, one that overlaps it, and one that is transparent", [
+        *[(put(f"{n}.ics", octets), stored(octets)) for n, octets in enumerate(events)],
+        (report(busy), times("FREEBUSY;FBTYPE=BUSY-TENTATIVE:20250310T090000Z/20250310T100000Z", "FREEBUSY;FBTYPE=BUSY:20250310T100000Z/20250310T120000Z")),
+    ])
+    asked = query(*day("0900", "1000"))
+    runs("busy times are granted, and nothing else", [
+        (put("one.ics", E1), stored(E1)), (request("ACL", CALENDAR, grants(ace(BOB))), reply(200)),
+        (report(asked, who="bob"), needs(CALENDAR, "D:read")), (report(busy, who="bob"), times("FREEBUSY;FBTYPE=BUSY:20250310T090000Z/20250310T100000Z")),
+        *[(request("GET", CALENDAR + name, who="bob"), needs(CALENDAR + name, "D:read")) for name in ("one.ics", "two.ics")],
+        *[(report(body, who="carol"), reply(404)) for body in (asked, busy)],
+    ])
+    again = event("one", "DTSTART:20250311T090000Z")
+    runs("what is refused changes nothing", [
+        (put("one.ics", E1), stored(E1)), (put("one.ics", again, if_none="*"), reply(412)), (put("one.ics", again, if_match='"0"'), reply(412)), (report(asked), shows("one.ics", E1)),
+        (put("two.ics", E1), refused(f"<C:no-uid-conflict><D:href>{CALENDAR}one.ics</D:href></C:no-uid-conflict>")),
+        (put("h.ics", recurring("h", "DTSTART:20250101T000000Z", "FREQ=HOURLY")), refused("<C:max-instances/>")),
+        (put("m.ics", recurring("m", "DTSTART:20250101T000000Z", "FREQ=MINUTELY;COUNT=2")), refused("<C:max-instances/>")),
+        (put("e.ics", event("e", "DTSTART:15991231T235959Z")), refused("<C:min-date-time/>")), (put("l.ics", event("l", "DTSTART:21010101T000000Z")), refused("<C:max-date-time/>")),
+        *[(request("GET", f"{CALENDAR}{name}.ics"), reply(404)) for name in ("two", "h", "m", "e", "l")], (request("GET", CALENDAR + "one.ics"), reply(200, E1, TEXT, etag(E1))),
+    ])
+    due, some = todo("due", "DUE:20250310T090000Z"), todo("some")
+    tagged = [(f"{CALENDAR}{name}.ics", [(200, f'<D:getetag>"{etag(octets)}"</D:getetag>')]) for name, octets in (("due", due), ("some", some))]
+    runs("a task that is due, and one without a date", [
+        (put("due.ics", due), stored(due)), (put("some.ics", some), stored(some)),
+        *[(asks(*hours, asked="<D:getetag/>", name=' name="VTODO"'), told) for hours, told in ((("0800", "0900"), found(*tagged)), (("0900", "1000"), found(tagged[1])))],
+    ])
+
+    def ringing(*more):
+        return event("one", "DTSTART:20250310T090000Z", "DTEND:20250310T100000Z", "BEGIN:VALARM", "TRIGGER:-PT15M", *more, "END:VALARM", "SUMMARY:Stand-up")
+
+    def rings(start, end):
+        inner = f'<C:comp-filter name="VALARM"><C:time-range{attributes(*day(start, end))}/></C:comp-filter>'
+        return report(query(*ALL, "<D:getetag/>", inner))
+
+    once, thrice = ringing(), ringing("REPEAT:2", "DURATION:PT5M")
+    told = [found((CALENDAR + "one.ics", [(200, f'<D:getetag>"{etag(octets)}"</D:getetag>')])) for octets in (once, thrice)]
+    runs("an alarm a quarter of an hour before, and one that repeats", [
+        (put("one.ics", once), stored(once)), (rings("0845", "0846"), told[0]), (rings("0846", "0930"), found()), (rings("0850", "0851"), found()),
+        (put("one.ics", thrice), stored(thrice, 204)), (rings("0850", "0851"), told[1]), (rings("0855", "0856"), told[1]), (rings("0856", "0930"), found()),
+    ])
+    work = HOME + "work/"
+    runs("a calendar is made, named, shown and deleted", [
+        (request("MKCALENDAR", work), reply(201)), (request("MKCALENDAR", work), refused("<D:resource-must-be-null/>")),
+        (request("PROPPATCH", work, update("<D:displayname>Work</D:displayname>")), found((work, [(200, "<D:displayname/>")]))),
+        (request("PROPPATCH", work, update("<D:displayname>Play</D:displayname>", "<D:getetag/>")), found((work, [(403, "<D:getetag/>"), (424, "<D:displayname/>")]))),
+        (request("PROPFIND", work, propfind("<D:displayname/>"), depth="0"), found((work, [(200, "<D:displayname>Work</D:displayname>")]))),
+        (request("DELETE", work), reply(204)), (request("DELETE", work), reply(404)),
     ])
 
 
@@ -871,10 +1246,14 @@ def books():
         asks(request("ACL", CALENDAR, grants(ace(NOBODY))), 403, reply_body(refused("<D:recognized-principal/>"))), does("n", "1 entries"), shows(first),
         asks(request("ACL", CALENDAR, grants(ace(BOB))), 200), asks(put("one.ics", first, who="bob"), 403, reply_body(needs(CALENDAR + "one.ics", "D:bind"))), does("n", "2 entries"),
     ])
+    more = request("MKCALENDAR", HOME + "c63/")
+    walk("a home of 64 calendars takes no more, and what it does not take leaves no entry", [
+        *[asks(request("MKCALENDAR", f"{HOME}c{n}/"), 201) for n in range(63)], asks(more, 507), does("n", "63 entries"), asks(request("DELETE", HOME + "c0/"), 204), asks(more, 201), does("n", "65 entries"),
+    ])
 
 
 def main():
-    for part in (ends, cuttings, streams, objects, methods, reading, deleting, putting, properties, granting, reporting, homes, replaced, several, books):
+    for part in (ends, cuttings, moments, streams, objects, methods, shapes, conditions, bodies, reading, deleting, putting, properties, granting, reporting, long_answers, homes, replaced, several, rows, books):
         part()
     for crate, given, told in (("script_cases", CASES, ANSWERS), ("book_cases", WALKS, TOLD)):
         texts = {"stdin": b"".join(given), "stdout": b"".join(told)}

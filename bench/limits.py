@@ -101,9 +101,9 @@ def answers():
         front = len(event(uid, "DTSTART:20250101T000000Z", "X-NOTE:"))
         return event(uid, "DTSTART:20250101T000000Z", "X-NOTE:" + "x" * (size - front))
 
-    def several(hrefs):
+    def several(hrefs, data="<C:calendar-data/>"):
         asked = "".join(f"<D:href>{CALENDAR}{name}</D:href>" for name in hrefs)
-        return report(f"<C:calendar-multiget {NAMES}><D:prop><C:calendar-data/></D:prop>{asked}</C:calendar-multiget>".encode())
+        return report(f"<C:calendar-multiget {NAMES}><D:prop>{data}</D:prop>{asked}</C:calendar-multiget>".encode())
 
     big = put("big.ics", sized("big", 262144))
     hrefs = ["big.ics"] * 255 + ["fit.ics"]
@@ -111,6 +111,9 @@ def answers():
     room = 67_108_864 - length
     both("octets of an answer", [big, put("fit.ics", sized("fit", 200 + room)), several(hrefs)], [big, put("fit.ics", sized("fit", 201 + room)), several(hrefs)],
          207, 403, "<D:number-of-matches-within-limits/>")
+    limited = "<C:calendar-data><C:limit-recurrence-set%s end='20250401T000000Z'/></C:calendar-data>"
+    last("a range before the first date, and an answer of more octets", [big, several(["big.ics"] * 257, limited % " start='15991231T000000Z'")], 403, "<C:min-date-time/>")
+    last("the same with a range in the dates", [big, several(["big.ics"] * 257, limited % "")], 403, "<D:number-of-matches-within-limits/>")
 
 
 def objects():
