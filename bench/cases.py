@@ -526,6 +526,10 @@ def shapes():
     case("each method on a stream with a fault, without credentials", text, 0, len(text), b"".join(answer(reply(400, close=True), n) for n, _ in faulty))
     runs("each method on no path, with credentials and without", [
         step for method in METHODS for step in ((of(method, "/calendars/alice/calendar/one.ics/more"), reply(404)), (of(method, "/nowhere", who=None), reply(401)))])
+    runs("each method on each path that does not have it", [
+        (of(method, path), reply(405, allow=allow, head=method == "HEAD")) for path, allow in (
+            ("/", OF_HOME), ("/principals/alice/", OF_HOME), ("/principals/nobody/", OF_HOME), (HOME, OF_HOME), (CALENDAR, OF_CALENDAR), (CALENDAR + "one.ics", OF_OBJECT))
+        for method in METHODS if method not in allow.split(", ")])
     runs("each method on what an unknown user would have", each("/calendars/nobody/calendar/", "/calendars/nobody/calendar/one.ics", reply(404)) + [
         (of(method, path), reply(404)) for method in ("OPTIONS", "PROPFIND") for path in ("/principals/nobody/", "/calendars/nobody/")])
     runs("each method in a home that is hidden", SETTING + each(CALENDAR, CALENDAR + "one.ics", reply(404), who="carol") + [
@@ -742,6 +746,15 @@ def properties():
     order.add("malformed", reply(400), if_none="x")
     order.add("setting", found((CALENDAR, [(403, "<D:getetag/>"), (424, "<D:displayname/>")])), body=update("<D:displayname>x</D:displayname>", "<D:getetag/>"))
     order.run((("hidden", "privilege"), dict(who="carol")))
+    kinds = '<C:supported-calendar-component-set><C:comp name="VTODO"/></C:supported-calendar-component-set>'
+    runs("PROPPATCH: settings that are refused, and those beside them", [
+        (request("PROPPATCH", CALENDAR, update(*names)), found((CALENDAR, told))) for names, told in (
+            (("<C:calendar-timezone>x</C:calendar-timezone>",), [(403, "<C:calendar-timezone/>")]),
+            ((kinds, "<D:displayname>x</D:displayname>"), [(403, "<C:supported-calendar-component-set/>"), (424, "<D:displayname/>")]),
+            (('<x xmlns="u">a<y/></x>', '<z xmlns="u"/>', "<C:max-instances/>"), [(403, '<x:x xmlns:x="u"/><C:max-instances/>'), (424, '<x:z xmlns:x="u"/>')]),
+        )
+    ] + [(request("PROPFIND", CALENDAR, propfind('<D:displayname/><z xmlns="u"/>'), depth="0"),
+          found((CALENDAR, [(200, "<D:displayname>calendar</D:displayname>"), (404, '<x:z xmlns:x="u"/>')])))])
     order = Order("MKCALENDAR", HOME + "work/", reply(201), if_match='"0"')
     starts(order)
     order.add("privilege", lambda path: needs(path, "D:bind"), who="bob")
