@@ -114,6 +114,12 @@ def answers():
     limited = "<C:calendar-data><C:limit-recurrence-set%s end='20250401T000000Z'/></C:calendar-data>"
     last("a range before the first date, and an answer of more octets", [big, several(["big.ics"] * 257, limited % " start='15991231T000000Z'")], 403, "<C:min-date-time/>")
     last("the same with a range in the dates", [big, several(["big.ics"] * 257, limited % "")], 403, "<D:number-of-matches-within-limits/>")
+    names = [f'<x:t{n} xmlns:x="u"' for n in range(64)]
+    zone = calendar(*NY, "X-NOTE:" + "&" * (262_144 - len(calendar(*NY, "X-NOTE:")))).decode()
+    settings = update(f"<C:calendar-timezone><![CDATA[{zone}]]></C:calendar-timezone>", *[f"{name}><![CDATA[{'&' * 4096}]]></x:t{n}>" for n, name in enumerate(names)])
+    shown = request("PROPFIND", HOME, propfind("<C:calendar-timezone/>" + "".join(f"{name}/>" for name in names)), depth="1")
+    made = [step for n in range(26) for step in (request("MKCALENDAR", f"{HOME}c{n}/"), request("PROPPATCH", f"{HOME}c{n}/", settings))]
+    both("octets of the properties of a home", made[:50] + [shown], made + [shown], 207, 403, "<D:number-of-matches-within-limits/>")
 
 
 def objects():
