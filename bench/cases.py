@@ -194,6 +194,16 @@ def expanded(start, end):
     return query(start, end, f'<C:calendar-data><C:expand start="{start}" end="{end}"/></C:calendar-data>')
 
 
+def busy(start, end):
+    return f"<C:free-busy-query {NAMES}><C:time-range{attributes(start, end)}/></C:free-busy-query>".encode()
+
+
+def busy_times(start, end, *times, now="20250310T094640Z"):
+    """The reply to a free-busy-query at a moment: each time with its class."""
+    return reply(200, lines("BEGIN:VCALENDAR", "VERSION:2.0", "PRODID:-//caldav_server//EN", "BEGIN:VFREEBUSY", "UID:free-busy", "DTSTAMP:" + now, "DTSTART:" + start, "DTEND:" + end,
+                            *[f"FREEBUSY;FBTYPE={kind}:{time}" for kind, time in times], "END:VFREEBUSY", "END:VCALENDAR"), TEXT)
+
+
 def report(body, path=CALENDAR, **how):
     return request("REPORT", path, body, media="application/xml", **how)
 
@@ -316,13 +326,12 @@ def moments():
     """A reply has the date of the frame that brought the last octet of its request, whatever frames come before and behind it."""
     options, allowed = request("OPTIONS", "/"), reply(200, allow=OF_HOME)
     meeting, kept = put("one.ics", E1), stored(E1)
-    busy = report(f"<C:free-busy-query {NAMES}><C:time-range{attributes('20250310T000000Z', '20250311T000000Z')}/></C:free-busy-query>".encode())
-    times = lines("BEGIN:VCALENDAR", "VERSION:2.0", "PRODID:-//caldav_server//EN", "BEGIN:VFREEBUSY", "UID:free-busy", "DTSTAMP:20010909T014640Z", "DTSTART:20250310T000000Z",
-                  "DTEND:20250311T000000Z", "FREEBUSY;FBTYPE=BUSY:20250310T090000Z/20250310T100000Z", "END:VFREEBUSY", "END:VCALENDAR")
+    day = ("20250310T000000Z", "20250311T000000Z")
+    times = busy_times(*day, ("BUSY", "20250310T090000Z/20250310T100000Z"), now="20010909T014640Z")
     fault = b"GET / HTTP/2.0\r\n\r\n"
     steps = [  # connection, moment, octets, and the reply that they complete
         (0, MOMENT, options, allowed), (0, MOMENT + 60, options, allowed), (1, 0, meeting[:100], b""), (2, 86_399, options, allowed), (1, 1, meeting[100:-1], b""),
-        (1, 951_782_400, meeting[-1:], kept), (0, 253_402_300_799, options, allowed), (0, 5, options + options[:9], allowed), (3, 1_000_000_000, busy, reply(200, times, TEXT)),
+        (1, 951_782_400, meeting[-1:], kept), (0, 253_402_300_799, options, allowed), (0, 5, options + options[:9], allowed), (3, 1_000_000_000, report(busy(*day)), times),
         (0, 86_400, options[9:], allowed), (4, 1_200_000_000, fault, reply(505, close=True)), (4, 7, options, b""), (5, 1_300_000_000, request("GET", "/", who=None), reply(401)),
         (6, 1_400_000_000, put("one.ics", E1, if_match='"0"'), reply(412)), (7, 1_500_000_000, b"\r\n", b""), (7, 1_600_000_000, request("GET", CALENDAR + "one.ics"), reply(200, E1, TEXT, etag(E1))),
     ]
@@ -512,11 +521,9 @@ def of(method, path, **how):
     return request(method, path, **{**base.get(method, {}), **how})
 
 
-def each(path, object_path, told, other=(), **how):
-    """A request of each method on the path of a calendar and of an object, and its reply."""
-    other = dict(other)
-    return [(of(method, at, **how), other.get((method, at), told(at) if callable(told) else told))
-            for at, those in ((path, OF_CALENDARS), (object_path, OF_OBJECTS)) for method in those]
+def each(path, object_path, told, others={}, **how):
+    """A request of each method on the path of a calendar and of an object, and its reply: one for all, but for `others`."""
+    return [(of(method, at, **how), others.get((method, at), told)) for at, those in ((path, OF_CALENDARS), (object_path, OF_OBJECTS)) for method in those]
 
 
 def shapes():
@@ -542,17 +549,18 @@ def shapes():
         }, who="bob")
     runs("each method in a hidden calendar of a home that is seen, and in one that is not there", SETTING + steps)
     path, object_path = HOME + "none/", HOME + "none/one.ics"
-    runs("each method in a calendar that is not there", [(of(method, at), reply(200, allow=allow) if method == "OPTIONS" else reply(404)) for at, those, allow in (
-        (path, OF_CALENDARS, OF_CALENDAR), (object_path, OF_OBJECTS, OF_OBJECT)) for method in those if method != "MKCALENDAR"] + [(of("MKCALENDAR", path), reply(201))])
+    runs("each method in a calendar that is not there", [step for step in each(path, object_path, reply(404), {
+        ("OPTIONS", path): reply(200, allow=OF_CALENDAR), ("OPTIONS", object_path): reply(200, allow=OF_OBJECT), ("MKCALENDAR", path): reply(201),
+    }) if step[1] != reply(201)] + [(of("MKCALENDAR", path), reply(201))])
 
 
 def conditions():
     """Conditional fields of each method: malformed ones, those that count nothing, and weak tags."""
-    steps = []
+    steps, fresh = [], HOME + "fresh/"
     for field in (dict(if_match="x"), dict(if_none='"a",'), dict(if_match='*, "0"'), dict(if_match="W/x"), dict(if_none='w/"0"')):
-        steps += each(HOME + "fresh/", CALENDAR + "one.ics", reply(404), {**{("OPTIONS", HOME + "fresh/"): reply(400), ("MKCALENDAR", HOME + "fresh/"): reply(400)}, **{
-            (method, CALENDAR + "one.ics"): reply(400) for method in OF_OBJECTS}}, **field)
-        steps += [(of(method, CALENDAR, **field), reply(400)) for method in OF_CALENDARS] + [(of(method, HOME, **field), reply(400)) for method in ("OPTIONS", "PROPFIND")]
+        steps += each(CALENDAR, CALENDAR + "one.ics", reply(400), **field)
+        steps += [(of(method, fresh, **field), reply(400 if method in ("OPTIONS", "MKCALENDAR") else 404)) for method in OF_CALENDARS]
+        steps += [(of(method, HOME, **field), reply(400)) for method in ("OPTIONS", "PROPFIND")]
     runs("each method with a malformed If-Match and with a malformed If-None-Match", SETTING + steps)
     shown, named = found((CALENDAR, [(200, "<D:resourcetype><D:collection/><C:calendar/></D:resourcetype>")])), found((CALENDAR, [(200, "<D:displayname/>")]))
     reported = found(*[(CALENDAR + name, [(200, f'<D:getetag>"{etag(octets)}"</D:getetag>')]) for name, octets in (("one.ics", E1), ("two.ics", E2))])
@@ -561,7 +569,7 @@ def conditions():
         steps += [
             (of("OPTIONS", CALENDAR, **field), reply(200, allow=OF_CALENDAR)), (of("OPTIONS", CALENDAR + "one.ics", **field), reply(200, allow=OF_OBJECT)),
             (of("PROPFIND", CALENDAR, **field), shown), (of("PROPPATCH", CALENDAR, **field), named), (of("REPORT", CALENDAR, **field), reported), (of("ACL", CALENDAR, **field), reply(200)),
-            (of("MKCALENDAR", HOME + "fresh/", **field), reply(201)), (of("DELETE", HOME + "fresh/", **field), reply(204)),
+            (of("MKCALENDAR", fresh, **field), reply(201)), (of("DELETE", fresh, **field), reply(204)),
         ]
     runs("conditions count on objects alone, and not of OPTIONS", SETTING + steps)
     own, weak = f'"{etag(E1)}"', f'W/"{etag(E1)}"'
@@ -587,7 +595,8 @@ def bodies():
     at = {"PROPFIND": CALENDAR, "PROPPATCH": CALENDAR, "REPORT": CALENDAR, "MKCALENDAR": HOME + "fresh/", "ACL": CALENDAR}
     runs("bodies of each method that are no XML: " + ", ".join(name for name, _ in faults), [
         (of(method, path, body=octets), reply(400)) for method, path in at.items() for _, octets in faults])
-    roots = {"PROPFIND": propfind("<D:getetag/>"), "PROPPATCH": update("<D:displayname>x</D:displayname>"), "REPORT": query(*ALL), "MKCALENDAR": make("<D:displayname>x</D:displayname>"), "ACL": grants()}
+    name = "<D:displayname>x</D:displayname>"
+    roots = {"PROPFIND": propfind("<D:getetag/>"), "PROPPATCH": update(name), "REPORT": query(*ALL), "MKCALENDAR": make(name), "ACL": grants()}
     runs("bodies of each method with the root of another", [
         (of(method, path, body=body), refused("<D:supported-report/>") if method == "REPORT" else reply(400)) for method, path in at.items() for other, body in roots.items() if other != method])
 
@@ -858,15 +867,11 @@ def reporting():
         (("supported-report", "malformed"), dict(body=b"<a/>", if_none="x")),
         never=[("supported-report", "nameless")],
     )
-    busy = f"<C:free-busy-query {NAMES}><C:time-range%s/></C:free-busy-query>"
     several = f"<C:calendar-multiget {NAMES}><D:prop><D:getetag/></D:prop>%s</C:calendar-multiget>"
     href = f"<D:href>{CALENDAR}one.ics</D:href>"
 
     def expands(first, second, limit=""):
         return report(query(*second, f'<C:calendar-data><C:expand{attributes(*first)}/>{limit}</C:calendar-data>'))
-
-    def fb(span):
-        return (busy % attributes(*span)).encode()
 
     def gets(inner="<D:getetag/>", hrefs=href):
         return (several.replace("<D:getetag/>", inner) % hrefs).encode()
@@ -874,20 +879,19 @@ def reporting():
     def expanding(span):
         return gets(f"<C:calendar-data><C:expand{attributes(*span)}/></C:calendar-data>")
 
-    free = lines("BEGIN:VCALENDAR", "VERSION:2.0", "PRODID:-//caldav_server//EN", "BEGIN:VFREEBUSY", "UID:free-busy", "DTSTAMP:20250310T094640Z", "DTSTART:20250301T000000Z",
-                 "DTEND:20250401T000000Z", "FREEBUSY;FBTYPE=BUSY:20250310T090000Z/20250310T100000Z", "FREEBUSY;FBTYPE=BUSY:20250311T090000Z/20250311T100000Z", "END:VFREEBUSY", "END:VCALENDAR")
-    order = Order("REPORT", CALENDAR, reply(200, free, TEXT), body=fb(month), media="text/xml", if_match='"0"', who="bob")
+    times = busy_times(*month, ("BUSY", "20250310T090000Z/20250310T100000Z"), ("BUSY", "20250311T090000Z/20250311T100000Z"))
+    order = Order("REPORT", CALENDAR, times, body=busy(*month), media="text/xml", if_match='"0"', who="bob")
     starts(order)
     fields(order)
     order.add("body", reply(400), body=f"<C:free-busy-query {NAMES}/>".encode())
-    order.add("valid-filter", refuses("valid-filter"), body=fb(("", "")))
+    order.add("valid-filter", refuses("valid-filter"), body=busy("", ""))
     order.add("malformed", reply(400), if_none="x")
     order.add("privilege", lambda path: needs(path, "C:read-free-busy"), path=HOME + "part/")
-    order.add("min-date-time", refuses("min-date-time"), body=fb(early))
-    order.add("max-date-time", refuses("max-date-time"), body=fb(late))
+    order.add("min-date-time", refuses("min-date-time"), body=busy(*early))
+    order.add("max-date-time", refuses("max-date-time"), body=busy(*late))
     order.run(
-        (("body", "valid-filter"), dict(body=f"<C:free-busy-query {NAMES}><C:time-range/></C:free-busy-query>x".encode())),
-        (("min-date-time", "max-date-time"), dict(body=fb(("15991231T000000Z", "21010101T000000Z")))),
+        (("body", "valid-filter"), dict(body=busy("", "") + b"x")),
+        (("min-date-time", "max-date-time"), dict(body=busy("15991231T000000Z", "21010101T000000Z"))),
     )
     order = Order("REPORT", CALENDAR, found((CALENDAR + "one.ics", [(200, f'<D:getetag>"{etag(E1)}"</D:getetag>')])), body=gets(), media="text/xml", if_match='"0"')
     starts(order)
@@ -937,7 +941,8 @@ def reporting():
         (filtered(f'<C:comp-filter name="VEVENT">{absent}<C:time-range{month_of}/></C:comp-filter>'), refuses("valid-filter")),
         (filtered(f'<C:comp-filter name="VEVENT"><C:prop-filter name="SUMMARY">{absent}<C:text-match>a</C:text-match></C:prop-filter></C:comp-filter>'), refuses("valid-filter")),
         (filtered(f'<C:comp-filter name="VEVENT"><C:prop-filter name="SUMMARY"><C:time-range{month_of}/></C:prop-filter></C:comp-filter>'), refuses("supported-filter")),
-        (filtered('<C:comp-filter name="VEVENT"><C:prop-filter name="SUMMARY"><C:text-match collation="i;unicode-casemap">a</C:text-match></C:prop-filter></C:comp-filter>'), refuses("supported-collation")),
+        (filtered('<C:comp-filter name="VEVENT"><C:prop-filter name="SUMMARY"><C:text-match collation="i;unicode-casemap">a</C:text-match></C:prop-filter></C:comp-filter>'),
+         refuses("supported-collation")),
         (report(query(*month, '<C:calendar-data content-type="text/plain"/>')), refuses("supported-calendar-data")),
         (report(query(*month, '<C:calendar-data version="1.0"/>')), refuses("supported-calendar-data")),
         (report(query(*month, f"<C:calendar-data><C:expand{month_of}/><C:limit-recurrence-set{month_of}/></C:calendar-data>")), reply(400)),
@@ -948,12 +953,12 @@ def reporting():
         (filtered(ranged("VEVENT", month_of)), found((CALENDAR + "one.ics", []), (CALENDAR + "two.ics", []))),
     ])
     runs("REPORT: other reports, and ranges of several kinds", SETTING + [
-        (report((busy % attributes(*month)).encode(), who="carol"), reply(404)),
-        (report((busy % attributes(*month)).encode(), HOME + "part/", who="bob"), needs(HOME + "part/", "C:read-free-busy")),
-        (report((busy % "").encode(), HOME + "part/", who="bob"), refuses("valid-filter")),
+        (report(busy(*month), who="carol"), reply(404)),
+        (report(busy(*month), HOME + "part/", who="bob"), needs(HOME + "part/", "C:read-free-busy")),
+        (report(busy("", ""), HOME + "part/", who="bob"), refuses("valid-filter")),
         (report(f"<C:free-busy-query {NAMES}/>".encode()), reply(400)),
-        (report((busy % attributes(*early)).encode()), refuses("min-date-time")),
-        (report((busy % attributes(*late)).encode()), refuses("max-date-time")),
+        (report(busy(*early)), refuses("min-date-time")),
+        (report(busy(*late)), refuses("max-date-time")),
         (report((several % "").encode()), reply(400)),
         (report((several % href).encode(), who="bob"), needs(CALENDAR, "D:read")),
         (report((several % href).encode(), who="carol"), reply(404)),
@@ -1027,7 +1032,8 @@ def long_answers():
 
     over = refused("<D:number-of-matches-within-limits/>")
     runs("answers of more than 67,108,864 octets", [
-        (put("large.ics", large), stored(large)), (gets(256, "<C:calendar-data/>"), over), (gets(257, limited("15991231T000000Z")), refused("<C:min-date-time/>")), (gets(257, limited("")), over),
+        (put("large.ics", large), stored(large)), (gets(256, "<C:calendar-data/>"), over),
+        (gets(257, limited("15991231T000000Z")), refused("<C:min-date-time/>")), (gets(257, limited("")), over),
         (gets(1, "<D:getcontentlength/>"), found((CALENDAR + "large.ics", [(200, "<D:getcontentlength>262144</D:getcontentlength>")]))),
     ])
 
@@ -1074,7 +1080,8 @@ def rows():
     week = "FREQ=WEEKLY;INTERVAL=2;COUNT=4;BYDAY=TU,SU;WKST="
     recurrences = [
         ("a31", recurring("a31", "DTSTART:20250131T090000Z", "FREQ=MONTHLY;BYMONTHDAY=31;COUNT=4"), instances("a31", [f"2025{month}31T090000Z" for month in ("01", "03", "05", "07")])),
-        ("b-2", recurring("b-2", "DTSTART:19970929T090000", "FREQ=MONTHLY;BYDAY=MO,TU,WE,TH,FR;BYSETPOS=-2;COUNT=4"), instances("b-2", [f"1997{day}T090000" for day in ("0929", "1030", "1127", "1230")])),
+        ("b-2", recurring("b-2", "DTSTART:19970929T090000", "FREQ=MONTHLY;BYDAY=MO,TU,WE,TH,FR;BYSETPOS=-2;COUNT=4"),
+         instances("b-2", [f"1997{day}T090000" for day in ("0929", "1030", "1127", "1230")])),
         ("c3", recurring("c3", "DTSTART:19970904T090000", "FREQ=MONTHLY;COUNT=3;BYDAY=TU,WE,TH;BYSETPOS=3"), instances("c3", [f"1997{day}T090000" for day in ("0904", "1007", "1106")])),
         ("dmo", recurring("dmo", "DTSTART:19970805T090000", week + "MO"), instances("dmo", [f"199708{day}T090000" for day in ("05", "10", "19", "24")])),
         ("esu", recurring("esu", "DTSTART:19970805T090000", week + "SU"), instances("esu", [f"199708{day}T090000" for day in ("05", "17", "19", "31")])),
@@ -1086,26 +1093,21 @@ def rows():
         *[(put(f"{name}.ics", octets), stored(octets)) for name, octets, _ in recurrences],
         (report(expanded(*ALL)), found(*[(f"{CALENDAR}{name}.ics", [(200, data(shown))]) for name, _, shown in recurrences])),
     ])
-    busy = f"<C:free-busy-query {NAMES}><C:time-range{attributes('20250310T000000Z', '20250311T000000Z')}/></C:free-busy-query>".encode()
-
-    def times(*periods):
-        return reply(200, lines("BEGIN:VCALENDAR", "VERSION:2.0", "PRODID:-//caldav_server//EN", "BEGIN:VFREEBUSY", "UID:free-busy", "DTSTAMP:20250310T094640Z", "DTSTART:20250310T000000Z",
-                                "DTEND:20250311T000000Z", *periods, "END:VFREEBUSY", "END:VCALENDAR"), TEXT)
-
+    whole_day = ("20250310T000000Z", "20250311T000000Z")
     events = [
         event("tentative", "DTSTART:20250310T090000Z", "DTEND:20250310T110000Z", "STATUS:TENTATIVE"), event("busy", "DTSTART:20250310T100000Z", "DTEND:20250310T120000Z"),
         event("free", "DTSTART:20250310T080000Z", "DTEND:20250310T130000Z", "TRANSP:TRANSPARENT"),
     ]
     runs("a tentative event, one that overlaps it, and one that is transparent", [
         *[(put(f"{n}.ics", octets), stored(octets)) for n, octets in enumerate(events)],
-        (report(busy), times("FREEBUSY;FBTYPE=BUSY-TENTATIVE:20250310T090000Z/20250310T100000Z", "FREEBUSY;FBTYPE=BUSY:20250310T100000Z/20250310T120000Z")),
+        (report(busy(*whole_day)), busy_times(*whole_day, ("BUSY-TENTATIVE", "20250310T090000Z/20250310T100000Z"), ("BUSY", "20250310T100000Z/20250310T120000Z"))),
     ])
     asked = query(*day("0900", "1000"))
     runs("busy times are granted, and nothing else", [
         (put("one.ics", E1), stored(E1)), (request("ACL", CALENDAR, grants(ace(BOB))), reply(200)),
-        (report(asked, who="bob"), needs(CALENDAR, "D:read")), (report(busy, who="bob"), times("FREEBUSY;FBTYPE=BUSY:20250310T090000Z/20250310T100000Z")),
+        (report(asked, who="bob"), needs(CALENDAR, "D:read")), (report(busy(*whole_day), who="bob"), busy_times(*whole_day, ("BUSY", "20250310T090000Z/20250310T100000Z"))),
         *[(request("GET", CALENDAR + name, who="bob"), needs(CALENDAR + name, "D:read")) for name in ("one.ics", "two.ics")],
-        *[(report(body, who="carol"), reply(404)) for body in (asked, busy)],
+        *[(report(body, who="carol"), reply(404)) for body in (asked, busy(*whole_day))],
     ])
     again = event("one", "DTSTART:20250311T090000Z")
     runs("what is refused changes nothing", [
@@ -1261,12 +1263,14 @@ def books():
     ])
     more = request("MKCALENDAR", HOME + "c63/")
     walk("a home of 64 calendars takes no more, and what it does not take leaves no entry", [
-        *[asks(request("MKCALENDAR", f"{HOME}c{n}/"), 201) for n in range(63)], asks(more, 507), does("n", "63 entries"), asks(request("DELETE", HOME + "c0/"), 204), asks(more, 201), does("n", "65 entries"),
+        *[asks(request("MKCALENDAR", f"{HOME}c{n}/"), 201) for n in range(63)], asks(more, 507), does("n", "63 entries"),
+        asks(request("DELETE", HOME + "c0/"), 204), asks(more, 201), does("n", "65 entries"),
     ])
 
 
 def main():
-    for part in (ends, cuttings, moments, streams, objects, methods, shapes, conditions, bodies, reading, deleting, putting, properties, granting, reporting, long_answers, homes, replaced, several, rows, books):
+    orders = (methods, shapes, conditions, bodies, reading, deleting, putting, properties, granting, reporting, long_answers, homes)
+    for part in (ends, cuttings, moments, streams, objects, *orders, replaced, several, rows, books):
         part()
     for crate, given, told in (("script_cases", CASES, ANSWERS), ("book_cases", WALKS, TOLD)):
         texts = {"stdin": b"".join(given), "stdout": b"".join(told)}
