@@ -1,10 +1,11 @@
 -- The rows of a window of an object without overrides: those of its master in the digits of the window, as they stand.
-use Rattle.std.proofs.Common.{◌≡◌, ℕ, ◌+◌, ◌≤◌, List, [], ◌∷◌, length, refl, sym, ap, subst, ◌∙◌, arith, true, false, ℤ, pos, ◌+ℤ◌, ◌*ℤ◌, ◌≤ℤ◌, ◌<ℤ◌, inl, inr}
+use Rattle.std.proofs.Common.{◌≡◌, ℕ, ◌+◌, ◌≤◌, List, [], ◌∷◌, length, refl, sym, ap, subst, ◌∙◌, arith, Bool, true, false, ℤ, pos, ◌+ℤ◌, ◌-ℤ◌, ◌*ℤ◌, ◌≤ℤ◌, ◌<ℤ◌, ◌++◌, inl, inr}
 use Rattle.std.specs.Prelude.{All, AllPairs, filter, flat_map, int_le, int_lt, is_some, option_to_list, Option, Some, None}
 use Rattle.std.specs.List.{list_any}
 use Rattle.std.proofs.lemmas.Int.{ints}
 use Rattle.std.proofs.lemmas.Bool.{cases_Bool}
-use Rattle.std.proofs.lemmas.List.Elements.{All-head, All-map, All-nil, All-weaker, filter_passes}
+use Rattle.std.proofs.lemmas.List.{append_assoc}
+use Rattle.std.proofs.lemmas.List.Elements.{All-head, All-map, All-nil, All-tail, All-weaker, filter-append, filter_passes}
 use Rattle.std.proofs.lemmas.List.Kept.{AllPairs-filter}
 use Rattle.cal_moment.specs.declared.stamp.Stamp.{Stamp}
 use Rattle.cal_model.specs.declared.object.Component.{Component}
@@ -21,7 +22,8 @@ use Rattle.cal_model.specs.Words.Integers.{same_int}
 use Rattle.cal_model.proofs.Instances.RisingLists.{AllPairs-head, AllPairs-tail}
 use Rattle.cal_model.proofs.Instances.RowsInOrder.{StandsAt, masters_stand}
 use Rattle.cal_model.proofs.Ranges.NearRanges.{window-holds}
-use Rattle.cal_model.proofs.Words.AllLemmas.{All-flat_map, All-option}
+use Rattle.cal_model.proofs.Ranges.RowBounds.{local-near}
+use Rattle.cal_model.proofs.Words.AllLemmas.{All-everywhere, All-flat_map, All-option}
 use Rattle.cal_model.proofs.Words.EachLemmas.{both_hold}
 use Rattle.cal_model.proofs.Words.IntegerLemmas.{same_int-self}
 use Rattle.override_merge.specs.declared.rows.Part.TheVariants as part
@@ -30,12 +32,13 @@ use Rattle.rrule_sets.specs.declared.range.Digits.{Digits}
 use Rattle.rrule_sets.specs.AskedStarts.{instance_row, instances_in}
 use Rattle.rrule_sets.specs.DigitRanges.{starts_in}
 use Rattle.rrule_sets.specs.MasterRows.{masters_cost, masters_from, rows_of_master}
-use Rattle.rrule_sets.specs.NearRows.{HasLesserId, is_near}
+use Rattle.rrule_sets.specs.NearRows.{HasLesserId, LiesWhereInner, is_inner, is_near}
 use Rattle.rrule_sets.specs.NeededDigits.{EndsBy, HasDay, HasRange, HasWindow, days_needed, days_of_start, overrides_in}
 use Rattle.rrule_sets.proofs.CostLemmas.{window_counted}
+use Rattle.rrule_sets.proofs.NearRowLemmas.{filter_both, not_below, not_from}
 use Rattle.rrule_sets.proofs.OnceLemmas.{dated_kind}
 use Rattle.rrule_sets.proofs.SeveralLemmas.{filter-all, rows_by_id, window_found_near}
-use Rattle.rrule_sets.proofs.WindowLemmas.{ends_by_last, window_found}
+use Rattle.rrule_sets.proofs.WindowLemmas.{ends_by_last, filter-none, window_found}
 
 -- no component is an override
 abbrev pub IsAlone : List Component → Type 0
@@ -127,3 +130,82 @@ alone_near object ids window whole range rows near alone aligned one short has d
     let rises : AllPairs HasLesserId near = subst (AllPairs HasLesserId) (sym cut) (AllPairs-filter HasLesserId (is_near range) rows (rows_by_id object ids whole rows aligned one made)) in
     sym (in_order-lesser (filter (lies_in_window object window) near) (AllPairs-filter HasLesserId (lies_in_window object window) near rises))
     ∙ (ap in_order (merged_alone object ids near (part.Window window) alone) ∙ window_found_near object ids window whole range rows near aligned one short has days wider made cut)
+
+-- What lies in a window by its id.
+
+-- where a list of rows that stand by their ids is cut
+split_by_id : (z : ℤ) (rows : List Row) → AllPairs HasLesserId rows → filter (λ (row : Row). int_lt row.id z) rows ++ filter (λ (row : Row). int_le z row.id) rows ≡ rows
+split_by_id z [] rises = refl
+split_by_id z (x ∷ rows) rises = elim (cases_Bool (int_lt x.id z)) [
+  | inl w ↦ (let out = not_below x.id z w in rw (w, out) (ap (λ rest. x ∷ rest) (split_by_id z rows (AllPairs-tail HasLesserId x rows rises))))
+  | inr w ↦ (
+      let here = not_from x.id z w in
+      let behind = AllPairs-head HasLesserId x rows rises in
+      let from : z ≤ℤ x.id = grind (arith, ints, w) in
+      let none : filter (λ (row : Row). int_lt row.id z) rows ≡ [] = filter-none (λ (row : Row). int_lt row.id z) rows (All-weaker (HasLesserId x) (λ (row : Row). int_lt row.id z ≡ false) (λ row less. later_out x.id row.id z from less) rows behind) in
+      let all : filter (λ (row : Row). int_le z row.id) rows ≡ rows = filter-all (λ (row : Row). int_le z row.id) rows (All-weaker (HasLesserId x) (λ (row : Row). int_le z row.id ≡ true) (λ row less. later_in x.id row.id z from less) rows behind) in
+      rw (w, here, none, all) refl
+      )
+]
+  where
+    later_out : (a b z : ℤ) → z ≤ℤ a → a <ℤ b → int_lt b z ≡ false
+    later_out a b z from less = grind (arith, ints)
+
+    later_in : (a b z : ℤ) → z ≤ℤ a → a <ℤ b → int_le z b ≡ true
+    later_in a b z from less = grind (arith, ints)
+
+kept_lie : (p l : Row → Bool) (rows : List Row) → All (λ row. p row ≡ true → l row ≡ true) rows → filter l (filter p rows) ≡ filter p rows
+kept_lie p l [] all = refl
+kept_lie p l (x ∷ rows) all = elim (cases_Bool (p x)) [
+  | inl w ↦ (let here = All-head (λ row. p row ≡ true → l row ≡ true) x rows all w in rw (w, here) (ap (λ rest. x ∷ rest) (kept_lie p l rows (All-tail (λ row. p row ≡ true → l row ≡ true) x rows all))))
+  | inr w ↦ rw w (kept_lie p l rows (All-tail (λ row. p row ≡ true → l row ≡ true) x rows all))
+]
+
+-- the rows that lie in a window are those at its ends that do, and all between them
+pub near_parts : (object : Object) (window : ℤ) (out rows first rest inner last : List Row) → AllPairs HasLesserId rows → All (LiesWhereInner object window) rows →
+    first ≡ filter (λ (row : Row). int_lt row.id ((window *ℤ window_seconds) +ℤ pos 86400)) rows → rest ≡ filter (λ (row : Row). int_le ((window *ℤ window_seconds) +ℤ pos 86400) row.id) rows →
+    inner ≡ filter (λ (row : Row). int_lt row.id (((window +ℤ pos 1) *ℤ window_seconds) -ℤ pos 86400)) rest → last ≡ filter (λ (row : Row). int_le (((window +ℤ pos 1) *ℤ window_seconds) -ℤ pos 86400) row.id) rest →
+    ((out ++ filter (lies_in_window object window) first) ++ inner) ++ filter (lies_in_window object window) last ≡ out ++ filter (lies_in_window object window) rows
+near_parts object window out rows first rest inner last rises lies is_first is_rest is_inner_rows is_last =
+    let from = (window *ℤ window_seconds) +ℤ pos 86400 in
+    let to = ((window +ℤ pos 1) *ℤ window_seconds) -ℤ pos 86400 in
+    let rest_rises : AllPairs HasLesserId rest = subst (AllPairs HasLesserId) (sym is_rest) (AllPairs-filter HasLesserId (λ (row : Row). int_le from row.id) rows rises) in
+    let parts : first ++ rest ≡ rows = rw (is_first, is_rest) (split_by_id from rows rises) in
+    let more : inner ++ last ≡ rest = rw (is_inner_rows, is_last) (split_by_id to rest rest_rises) in
+    let both : inner ≡ filter (is_inner window) rows = is_inner_rows ∙ (ap (filter (λ (row : Row). int_lt row.id to)) is_rest ∙ filter_both (λ (row : Row). int_lt row.id to) (λ (row : Row). int_le from row.id) rows) in
+    let lie : filter (lies_in_window object window) inner ≡ inner = ap (filter (lies_in_window object window)) both ∙ (kept_lie (is_inner window) (lies_in_window object window) rows lies ∙ sym both) in
+    append_assoc (out ++ filter (lies_in_window object window) first) inner (filter (lies_in_window object window) last)
+    ∙ (append_assoc out (filter (lies_in_window object window) first) (inner ++ filter (lies_in_window object window) last)
+    ∙ ap (λ (more : List Row). out ++ more)
+    (ap (λ (xs : List Row). filter (lies_in_window object window) first ++ (xs ++ filter (lies_in_window object window) last)) (sym lie)
+    ∙ (ap (λ (xs : List Row). filter (lies_in_window object window) first ++ xs) (sym (filter-append (lies_in_window object window) inner last))
+    ∙ (ap (λ (xs : List Row). filter (lies_in_window object window) first ++ filter (lies_in_window object window) xs) more
+    ∙ (sym (filter-append (lies_in_window object window) first rest)
+    ∙ ap (filter (lies_in_window object window)) parts)))))
+
+-- rows of the master that start a day or more within a window lie in it, since a start and its digits are less than a day apart
+module _ (object : Object) (window : ℤ) (range : Digits) (short : All HasShortOffsets object.zones) where
+  inner_lies : (n : Numbered) (s : Stamp) (r : ℤ) → StandsAt object false n → own_start n.component ≡ Some s → LiesWhereInner object window (instance_row object.zones s n.component n.number r)
+  inner_lies n s r stands own inside =
+      let l = (reading_of object.zones s).local r in
+      let near = local-near object.zones s r short in
+      let both = both_hold (int_lt r (((window +ℤ pos 1) *ℤ window_seconds) -ℤ pos 86400)) (int_le ((window *ℤ window_seconds) +ℤ pos 86400) r) inside in
+      let to : r <ℤ (((window +ℤ pos 1) *ℤ window_seconds) -ℤ pos 86400) = grind (arith, ints, both.0) in
+      let from : ((window *ℤ window_seconds) +ℤ pos 86400) ≤ℤ r = grind (arith, ints, both.1) in
+      let first = near.0 in
+      let second = near.1 in
+      let holds = window-holds l in
+      let is : window_at l ≡ window = omega (arith, ints, holds, first, second, from, to) in
+      rw (dated_kind s, stands.found, own, is) (same_int-self window)
+
+  inner_of_master : (n : Numbered) → StandsAt object false n → All (LiesWhereInner object window) (rows_of_master object.zones range n)
+  inner_of_master n stands =
+      All-flat_map (LiesWhereInner object window) (λ s. instances_in object.zones s n.component n.number range) (option_to_list (own_start n.component))
+      (All-option (λ s. All (LiesWhereInner object window) (instances_in object.zones s n.component n.number range)) (own_start n.component)
+      (λ s own. let found = filter (λ r. starts_in object.zones s range r) (starts_from every_moment object.zones n.component (own_start n.component)) in
+      All-map (LiesWhereInner object window) (instance_row object.zones s n.component n.number) found
+      (All-everywhere (λ r. LiesWhereInner object window (instance_row object.zones s n.component n.number r)) (λ r. inner_lies n s r stands own) found)))
+
+  pub all_lie_inner : All (LiesWhereInner object window) (flat_map (rows_of_master object.zones range) (masters object))
+  all_lie_inner = All-flat_map (LiesWhereInner object window) (rows_of_master object.zones range) (masters object)
+      (All-weaker (StandsAt object false) (λ n. All (LiesWhereInner object window) (rows_of_master object.zones range n)) inner_of_master (masters object) (masters_stand object))

@@ -10,7 +10,7 @@ use cal_model::Row;
 const DAY: i128 = 86_400;
 
 /// The rows behind those whose id lies before a value.
-fn rows_from(rows: &[Row], low: i128) -> &[Row]
+pub fn rows_from(rows: &[Row], low: i128) -> &[Row]
     requires { AllPairs HasLesserId rows.now }
     ensures { result.now ≡ filter (λ (row : Row). int_le low row.id) rows.now }
 {
@@ -20,7 +20,7 @@ fn rows_from(rows: &[Row], low: i128) -> &[Row]
 }
 
 /// The rows whose id lies before a value.
-fn rows_before(rows: &[Row], high: i128) -> &[Row]
+pub fn rows_before(rows: &[Row], high: i128) -> &[Row]
     requires { AllPairs HasLesserId rows.now }
     ensures { result.now ≡ filter (λ (row : Row). int_lt row.id high) rows.now }
 {

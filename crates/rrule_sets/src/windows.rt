@@ -1,15 +1,17 @@
 //! The rows of several windows.
-ghost use Rattle.std.specs.Prelude.{◌≡◌, ℕ, ◌+◌, ◌≤◌, ◌<◌, ◌^◌, ◌++◌, length, false, Some, All, IfOk, OnOk, flat_map, map, sum, ℤ, ◌≤ℤ◌};
+ghost use Rattle.std.specs.Prelude.{◌≡◌, ℕ, ◌+◌, ◌≤◌, ◌<◌, ◌^◌, ◌++◌, length, false, Some, All, AllPairs, IfOk, OnOk, filter, flat_map, map, sum, ℤ, pos, ◌+ℤ◌, ◌-ℤ◌, ◌*ℤ◌, ◌≤ℤ◌};
 ghost use Rattle.cal_model.specs.Instances.Rows as spec;
+ghost use Rattle.cal_model.specs.Instances.Rows.{window_seconds};
 ghost use Rattle.cal_model.specs.Objects.ObjectFacts.{IsRead};
 ghost use Rattle.cal_model.specs.Ranges.Cost.{cost};
-ghost use Rattle.override_merge.specs.Conversions.{tables_of, HasZone, HasConvertibleRow};
+ghost use Rattle.override_merge.specs.Conversions.{tables_of, HasZone, HasConvertibleRow, HasConvertibleRows, HasRowTimes};
 ghost use Rattle.rrule_sets.specs.ExpandableObjects.{HasRowsToFind};
 ghost use Rattle.rrule_sets.specs.MasterRows.{rows_of_master};
+ghost use Rattle.rrule_sets.specs.NearRows.{HasLesserId, LiesWhereInner};
 ghost use Rattle.rrule_sets.specs.NeededDigits.{HasRange};
 ghost use Rattle.rrule_sets.specs.SeveralWindows.{IsNeeded, looks_of};
 
-use crate::near::near_rows;
+use crate::near::{near_rows, rows_before, rows_from};
 use crate::needed::needed;
 use crate::once::{only_row, row_in_windows};
 use crate::range::Digits;
@@ -117,6 +119,46 @@ fn put_with_overrides(
     out.extend_from_slice(found.as_slice())
 }
 
+/// A day after a window of 64 days begins.
+fn inner_start(window: i32) -> i128
+    ensures { result ≡ window *ℤ window_seconds +ℤ pos 86_400 }
+{
+    window as i128 * 5_529_600 + 86_400
+}
+
+/// A day before a window of 64 days ends.
+fn inner_end(window: i32) -> i128
+    ensures { result ≡ (window +ℤ pos 1) *ℤ window_seconds -ℤ pos 86_400 }
+{
+    (window as i128 + 1) * 5_529_600 - 86_400
+}
+
+/// Puts the rows that lie in a window behind others. Of those that start a day or more within it, by
+/// their ids, none is looked at.
+fn put_near(
+    zones: &[LocalTimes<'_>],
+    object: &Object,
+    window: i32,
+    rows: &[Row],
+    out: &mut List<Row>,
+) -> Result<(), NoMemory>
+    requires object { HasConvertibleRows object.now }
+    requires zones { tables_of zones.now ≡ object.now.zones }
+    requires times { All HasRowTimes rows.now }
+    requires rising { AllPairs HasLesserId rows.now }
+    requires inner { All (LiesWhereInner object.now window) rows.now }
+    ensures { OnOk result (out.new ≡ out.old ++ filter (spec.lies_in_window object.now window) rows.now) }
+{
+    let (from, to) = (inner_start(window), inner_end(window));
+    let first = rows_before(rows, from);
+    let rest = rows_from(rows, from);
+    let inner = rows_before(rest, to);
+    let last = rows_from(rest, to);
+    put_asked_rows(zones, object, first, Part::Window(window), out)?;
+    out.extend_from_slice(inner)?;
+    put_asked_rows(zones, object, last, Part::Window(window), out)
+}
+
 /// Puts the rows of a window behind others, given the rows of the master in a range that has what the
 /// window needs. Without overrides they are those of the master that lie in it, as they stand.
 fn put_window(
@@ -142,7 +184,7 @@ fn put_window(
     }
     let near = near_rows(rows, needed.range);
     out.reserve(near.len())?;
-    put_asked_rows(zones, object, near, Part::Window(needed.window), out)
+    put_near(zones, object, needed.window, near, out)
 }
 
 /// The rows of several windows, given the rows of the master in a range that has what each of them
