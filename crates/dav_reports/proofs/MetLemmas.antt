@@ -1,12 +1,15 @@
 -- Over the hrefs of a multiget as it goes over them: what stands where, what is said of an object once more, and what the objects cost that were not met.
 use Rattle.std.proofs.Common.{◌≡◌, ℕ, ◌+◌, ◌-◌, ◌≤◌, Bool, true, false, cond, List, [], ◌∷◌, ◌++◌, length, take, drop, map, Option, Some, None, refl, sym, ap, ◌∙◌, subst, append-nil, arith, length-append, length-drop}
-use Rattle.std.specs.Prelude.{Err, Ok, OnOk, Result, flat_map, is_some, option_and_then, option_map, option_to_list, sum, unwrap_or}
-use Rattle.std.specs.List.{AllByRecursion}
+use Rattle.std.specs.Prelude.{Err, Ok, OnOk, Result, ◌||◌, filter, flat_map, is_some, option_and_then, option_map, option_to_list, sum, unwrap_or}
+use Rattle.std.specs.List.{AllByRecursion, list_any}
+use Rattle.std.specs.Option.{option_map_or}
 use Rattle.std.specs.Str.{bytes_eq}
+use Rattle.std.proofs.lemmas.Bool.{false≢true}
 use Rattle.std.proofs.lemmas.List.{drop-append-le, take-append-le, take_all}
+use Rattle.std.proofs.lemmas.List.Folds.{list_any-append}
 use Rattle.std.proofs.lemmas.Map.Text.{is_eq-slice_cmp}
 use Rattle.std.proofs.lemmas.Slice.Eq.{bytes_eq-Decides}
-use Rattle.std.proofs.Math.Seq.{drop-append_seam}
+use Rattle.std.proofs.Math.Seq.{append_snoc, drop-append_seam}
 use Rattle.cal_base.specs.Lists.NameMap.{Named, value_at, with_value}
 use Rattle.cal_base.proofs.Lists.NameMapLemmas.{value_at_with}
 use Rattle.cal_model.specs.declared.property.Props.{Props}
@@ -17,11 +20,11 @@ use Rattle.cal_model.specs.declared.zone.ZoneTable.{ZoneTable}
 use Rattle.cal_model.specs.Paths.TargetPaths.{target_path}
 use Rattle.cal_model.specs.Properties.PropertyReplies.{status_response}
 use Rattle.cal_model.specs.Serving.ReportReplies.{Reported, href_response, object_at, object_response, own_object}
-use Rattle.cal_model.specs.State.ServerState.{Calendar, ServerState, calendar_at, octets_at}
+use Rattle.cal_model.specs.State.ServerState.{Calendar, Directory, ServerState, calendar_at, octets_at, user_name}
 use Rattle.rrule_sets.proofs.AskedLemmas.{sum-cons}
 use Rattle.dav_reports.specs.declared.multiget.Place.{Place}
 use Rattle.object_walk.specs.WalkedObjects.{objects_at}
-use Rattle.dav_reports.specs.CalendarObjects.{OriginOf, entry_cost}
+use Rattle.dav_reports.specs.CalendarObjects.{NamesAmong, OriginOf, entry_cost, name_at, names_object}
 use Rattle.dav_reports.specs.MetObjects.{AreResponses, AreWithin, IsWithin, Met, cost_unless_met, named_response, place_behind, response_at, text_at, unmet_cost}
 use Rattle.dav_reports.specs.PieceRows.{Held}
 
@@ -50,6 +53,53 @@ object_among state home calendar name octets found = by (calendar_at state home 
 
 pub object_in : (state : ServerState) (home : ℕ) (calendar name octets : List ℕ) (c : Calendar) → calendar_at state home calendar ≡ Some c → octets_at state home calendar name ≡ Some octets → value_at c.objects name ≡ Some octets
 object_in state home calendar name octets c there found = sym (ap (option_and_then (λ (k : Calendar). value_at k.objects name)) there) ∙ found
+
+-- What hrefs name
+
+abbrev passing : (List ℕ → Bool) → Named (List ℕ) → Named (List ℕ)
+passing passes entries = filter (λ (entry : List ℕ × List ℕ). passes entry.0) entries
+
+-- an object of a name that passes is still there where the others are left out
+kept_value : (passes : List ℕ → Bool) (entries : Named (List ℕ)) (name octets : List ℕ) → passes name ≡ true → value_at entries name ≡ Some octets → value_at (passing passes entries) name ≡ Some octets
+kept_value passes [] name octets keeps none = absurd cc
+kept_value passes (entry ∷ entries) name octets keeps found =
+    by (bytes_eq name entry.0) (passes entry.0) refl refl (kept_value passes entries name octets keeps)
+    (sym (ap (λ b. cond b (Some entry.1) (value_at entries name)) (is_eq-slice_cmp name entry.0)) ∙ found)
+  where
+    by : (b kept : Bool) → bytes_eq name entry.0 ≡ b → passes entry.0 ≡ kept → (value_at entries name ≡ Some octets → value_at (passing passes entries) name ≡ Some octets)
+        → cond b (Some entry.1) (value_at entries name) ≡ Some octets → value_at (cond kept (entry ∷ passing passes entries) (passing passes entries)) name ≡ Some octets
+    by true true same is later e = ap (λ t. cond t (Some entry.1) (value_at (passing passes entries) name)) (is_eq-slice_cmp name entry.0 ∙ same) ∙ e
+    by true false same is later e = absurd (false≢true (sym is ∙ ap passes (sym (same_name name entry.0 same)) ∙ keeps))
+    by false true apart is later e = ap (λ t. cond t (Some entry.1) (value_at (passing passes entries) name)) (is_eq-slice_cmp name entry.0 ∙ apart) ∙ later e
+    by false false apart is later e = later e
+
+or_right : (a b : Bool) → b ≡ true → (a || b) ≡ true
+or_right true b is = refl
+or_right false b is = is
+
+-- one href in the middle settles whether some href names an object
+named_by_one : (owner calendar name href : List ℕ) (front rest : List (List ℕ)) → name_at owner calendar href ≡ Some name → list_any (names_object owner calendar name) (front ++ href ∷ rest) ≡ true
+named_by_one owner calendar name href front rest is =
+    let names : names_object owner calendar name href ≡ true = ap (λ found. option_map_or (bytes_eq name) found false) is ∙ (bytes_eq-Decides name name).1 refl in
+    list_any-append (names_object owner calendar name) front (href ∷ rest)
+    ∙ or_right (list_any (names_object owner calendar name) front) (list_any (names_object owner calendar name) (href ∷ rest)) (ap (λ b. b || list_any (names_object owner calendar name) rest) names)
+
+-- so what hrefs name stands among the objects that some of them names
+module _ (directory : Directory) (state : ServerState) (home : ℕ) (calendar : List ℕ) where
+  abbrev named_by : List (List ℕ) → Named (List ℕ)
+  named_by hrefs = filter (λ (entry : List ℕ × List ℕ). list_any (names_object (user_name directory home) calendar entry.0) hrefs) (objects_at state home calendar)
+
+  named_behind : (front rest : List (List ℕ)) → AllByRecursion (NamesAmong directory state home calendar (named_by (front ++ rest))) rest
+  named_behind front [] = tt
+  named_behind front (href ∷ rest) = (
+    (λ name is octets found.
+        kept_value (λ n. list_any (names_object (user_name directory home) calendar n) (front ++ href ∷ rest)) (objects_at state home calendar) name octets
+        (named_by_one (user_name directory home) calendar name href front rest is) (object_among state home calendar name octets found)),
+    subst (λ hrefs. AllByRecursion (NamesAmong directory state home calendar (named_by hrefs)) rest) (append_snoc front href rest) (named_behind (front ++ href ∷ []) rest),
+  )
+
+  pub all_named : (hrefs : List (List ℕ)) → AllByRecursion (NamesAmong directory state home calendar (named_by hrefs)) hrefs
+  all_named hrefs = named_behind [] hrefs
 
 -- Texts that are written where there is memory
 

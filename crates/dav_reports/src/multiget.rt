@@ -1,6 +1,7 @@
 //! The objects of a calendar at some hrefs (RFC 4791, 7.9).
 ghost use Rattle.std.specs.Prelude.{◌≡◌, ◌<◌, [], ◌++◌, ◌≤◌, ◌+◌, ℕ, List, All, flat_map, IfOk, OnOk, length, None, option_and_then};
-ghost use Rattle.cal_base.specs.Lists.NameMap.{value_at, with_value};
+ghost use Rattle.std.specs.List.{AllByRecursion};
+ghost use Rattle.cal_base.specs.Lists.NameMap.{Named, value_at, with_value};
 ghost use Rattle.cal_model.specs.Paths.TargetPaths.{target_path};
 ghost use Rattle.cal_model.specs.Ranges.Nearness.{HasShortOffsets};
 ghost use Rattle.cal_model.specs.Reports.NamedRanges.{ranges_of_selection as selected_ranges};
@@ -12,8 +13,7 @@ ghost use Rattle.cal_model.specs.TimeZones.TableBounds.{IsTable};
 ghost use Rattle.cal_model.specs.declared.property.Props.TheVariants.{None as NoProps};
 ghost use Rattle.cal_model.specs.declared.report.ReportRequest.TheVariants.{Multiget};
 ghost use Rattle.dav_reports.specs.AskedProperties.{names_asked};
-ghost use Rattle.object_walk.specs.WalkedObjects.{objects_at};
-ghost use Rattle.dav_reports.specs.CalendarObjects.{AreHeldRight, entries_cost};
+ghost use Rattle.dav_reports.specs.CalendarObjects.{AreHeldRight, NamesAmong, StandsAmong, entries_cost, name_at, objects_concerned};
 ghost use Rattle.dav_reports.specs.MetObjects.{AreResponses, AreWithin, IsWithin, multiget_cost, named_response, place_behind, text_at, unmet_cost};
 ghost use Rattle.dav_reports.specs.PieceRows.{AreRowsOf, IsKept, windows_cost};
 ghost use Rattle.dav_reports.specs.SeenCalendars.{IsBody, IsWritten, MayRead, reported_of};
@@ -44,7 +44,8 @@ fn own_name(
     calendar: &[u8],
     href: &[u8],
 ) -> Result<Option<Octets>, NoMemory>
-    ensures { IfOk result (λ name. (reported : Reported) → reported.owner ≡ owner.now → reported.name ≡ calendar.now → name ≡ option_and_then (own_object reported) (target_path href.now)) }
+    ensures own { IfOk result (λ name. (reported : Reported) → reported.owner ≡ owner.now → reported.name ≡ calendar.now → name ≡ option_and_then (own_object reported) (target_path href.now)) }
+    ensures named { IfOk result (λ name. name ≡ name_at owner.now calendar.now href.now) }
 {
     let Some(Path::Object(user, within, name)) = read_path(alloc, href)? else {
         return Ok(None);
@@ -159,8 +160,8 @@ fn push_new<V: View, A: PropAnswers, P: Pieces, L: Ledger>(
     requires not_met { value_at met.old name ≡ None }
     requires within { AreWithin met.old (length out.old) }
     ensures within { OnOk result (AreWithin met.new (length out.new)) }
-    ensures at_most { steps.new ≤ steps.old + unmet_cost (P.held pieces.now) select.now (V.origins seen.now.view.now home calendar.now) met.old (objects_at (V.state seen.now.view.now) home calendar.now) }
-    ensures steps { OnOk result (steps.new + unmet_cost (P.held pieces.now) select.now (V.origins seen.now.view.now home calendar.now) met.new (objects_at (V.state seen.now.view.now) home calendar.now) ≤ steps.old + unmet_cost (P.held pieces.now) select.now (V.origins seen.now.view.now home calendar.now) met.old (objects_at (V.state seen.now.view.now) home calendar.now)) }
+    ensures at_most { (entries : Named (List ℕ)) → StandsAmong (V.state seen.now.view.now) home calendar.now entries name → steps.new ≤ steps.old + unmet_cost (P.held pieces.now) select.now (V.origins seen.now.view.now home calendar.now) met.old entries }
+    ensures steps { (entries : Named (List ℕ)) → StandsAmong (V.state seen.now.view.now) home calendar.now entries name → OnOk result (steps.new + unmet_cost (P.held pieces.now) select.now (V.origins seen.now.view.now home calendar.now) met.new entries ≤ steps.old + unmet_cost (P.held pieces.now) select.now (V.origins seen.now.view.now home calendar.now) met.old entries) }
     ensures response { (c : Calendar) → MayRead (V.directory seen.now.view.now) (V.state seen.now.view.now) seen.now.who home calendar.now c → OnOk result (out.new ≡ out.old ++ named_response (reported_of (V.directory seen.now.view.now) seen.now.who home calendar.now c) select.now zone.now props.now href.now name) }
     ensures said { (c : Calendar) → MayRead (V.directory seen.now.view.now) (V.state seen.now.view.now) seen.now.who home calendar.now c → AreResponses (reported_of (V.directory seen.now.view.now) seen.now.who home calendar.now c) select.now zone.now props.now met.old out.old → OnOk result (AreResponses (reported_of (V.directory seen.now.view.now) seen.now.who home calendar.now c) select.now zone.now props.now met.new out.new) }
 {
@@ -204,8 +205,8 @@ fn push_href<V: View, A: PropAnswers, P: Pieces, L: Ledger>(
     requires short { HasShortOffsets zone.now }
     requires within { AreWithin met.old (length out.old) }
     ensures within { OnOk result (AreWithin met.new (length out.new)) }
-    ensures at_most { steps.new ≤ steps.old + unmet_cost (P.held pieces.now) select.now (V.origins seen.now.view.now home calendar.now) met.old (objects_at (V.state seen.now.view.now) home calendar.now) }
-    ensures steps { OnOk result (steps.new + unmet_cost (P.held pieces.now) select.now (V.origins seen.now.view.now home calendar.now) met.new (objects_at (V.state seen.now.view.now) home calendar.now) ≤ steps.old + unmet_cost (P.held pieces.now) select.now (V.origins seen.now.view.now home calendar.now) met.old (objects_at (V.state seen.now.view.now) home calendar.now)) }
+    ensures at_most { (entries : Named (List ℕ)) → NamesAmong (V.directory seen.now.view.now) (V.state seen.now.view.now) home calendar.now entries href.now → steps.new ≤ steps.old + unmet_cost (P.held pieces.now) select.now (V.origins seen.now.view.now home calendar.now) met.old entries }
+    ensures steps { (entries : Named (List ℕ)) → NamesAmong (V.directory seen.now.view.now) (V.state seen.now.view.now) home calendar.now entries href.now → OnOk result (steps.new + unmet_cost (P.held pieces.now) select.now (V.origins seen.now.view.now home calendar.now) met.new entries ≤ steps.old + unmet_cost (P.held pieces.now) select.now (V.origins seen.now.view.now home calendar.now) met.old entries) }
     ensures response { (c : Calendar) → MayRead (V.directory seen.now.view.now) (V.state seen.now.view.now) seen.now.who home calendar.now c → AreResponses (reported_of (V.directory seen.now.view.now) seen.now.who home calendar.now c) select.now zone.now props.now met.old out.old → OnOk result (out.new ≡ out.old ++ href_response (reported_of (V.directory seen.now.view.now) seen.now.who home calendar.now c) select.now zone.now props.now href.now) }
     ensures said { (c : Calendar) → MayRead (V.directory seen.now.view.now) (V.state seen.now.view.now) seen.now.who home calendar.now c → AreResponses (reported_of (V.directory seen.now.view.now) seen.now.who home calendar.now c) select.now zone.now props.now met.old out.old → OnOk result (AreResponses (reported_of (V.directory seen.now.view.now) seen.now.who home calendar.now c) select.now zone.now props.now met.new out.new) }
 {
@@ -248,7 +249,7 @@ fn push_hrefs<V: View, A: PropAnswers, P: Pieces, L: Ledger>(
     requires names { names.now ≡ names_asked props.now }
     requires zone { IsTable zone.now }
     requires short { HasShortOffsets zone.now }
-    ensures steps { steps.new ≤ steps.old + multiget_cost (P.held pieces.now) select.now (V.origins seen.now.view.now home calendar.now) (objects_at (V.state seen.now.view.now) home calendar.now) }
+    ensures steps { (entries : Named (List ℕ)) → AllByRecursion (NamesAmong (V.directory seen.now.view.now) (V.state seen.now.view.now) home calendar.now entries) hrefs.now → steps.new ≤ steps.old + multiget_cost (P.held pieces.now) select.now (V.origins seen.now.view.now home calendar.now) entries }
     ensures written { IfOk result (λ whole. (c : Calendar) → MayRead (V.directory seen.now.view.now) (V.state seen.now.view.now) seen.now.who home calendar.now c → IsWritten whole out.old out.new (flat_map (href_response (reported_of (V.directory seen.now.view.now) seen.now.who home calendar.now c) select.now zone.now props.now) hrefs.now)) }
 {
     let mut met = NameMap::new(alloc);
@@ -297,7 +298,7 @@ pub(crate) fn multiget<V: View, A: PropAnswers, P: Pieces, L: Ledger>(
     requires right { AreHeldRight (P.held pieces.now) (V.origins seen.now.view.now) (V.state seen.now.view.now) calendar.0 calendar.1.now }
     requires zone { IsTable zone.now }
     requires short { HasShortOffsets zone.now }
-    ensures steps { steps.new ≤ steps.old + entries_cost (P.held pieces.now) (Multiget NoProps asked.entry.1.now []) (V.origins seen.now.view.now calendar.entry.0 calendar.entry.1.now) (objects_at (V.state seen.now.view.now) calendar.entry.0 calendar.entry.1.now) }
+    ensures steps { steps.new ≤ steps.old + entries_cost (P.held pieces.now) (Multiget NoProps asked.entry.1.now []) (V.origins seen.now.view.now calendar.entry.0 calendar.entry.1.now) (objects_concerned (V.directory seen.now.view.now) (V.state seen.now.view.now) calendar.entry.0 calendar.entry.1.now (Multiget NoProps asked.entry.1.now asked.entry.2.now)) }
     ensures body { IfOk result (λ body. (c : Calendar) → MayRead (V.directory seen.now.view.now) (V.state seen.now.view.now) seen.now.who calendar.entry.0 calendar.entry.1.now c → IsBody body (multiget_reply (reported_of (V.directory seen.now.view.now) seen.now.who calendar.entry.0 calendar.entry.1.now c) asked.entry.0.now asked.entry.1.now asked.entry.2.now zone.now).body) }
 {
     let (home, name) = calendar;

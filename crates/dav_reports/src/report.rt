@@ -8,8 +8,7 @@ ghost use Rattle.cal_model.specs.Serving.ReadingReplies.{report_reply};
 ghost use Rattle.cal_model.specs.Sight.Scenes.{held_in};
 ghost use Rattle.cal_model.specs.State.ServerState.{Calendar, calendar_at};
 ghost use Rattle.cal_model.specs.TimeZones.TableBounds.{IsTable};
-ghost use Rattle.object_walk.specs.WalkedObjects.{objects_at};
-ghost use Rattle.dav_reports.specs.CalendarObjects.{AreHeldRight, entries_cost};
+ghost use Rattle.dav_reports.specs.CalendarObjects.{AreHeldRight, entries_cost, objects_concerned};
 ghost use Rattle.dav_reports.specs.ReportOutcomes.{HasServedRange, IsBodyOf, MaySee, answer_body, calendar_scene, privilege_needed, reply_of, reply_to_report, unless_long, unless_outside, zone_given, zone_of_text};
 ghost use Rattle.dav_reports.specs.SeenCalendars.{IsBody};
 
@@ -46,7 +45,7 @@ fn report_body<V: Walks, A: PropAnswers, P: Pieces, L: Ledger>(
     requires range { HasServedRange request.now }
     requires from_1970 { pos 0 ≤ℤ moment }
     requires to_9999 { moment ≤ℤ pos 253_402_300_799 }
-    ensures steps { steps.new ≤ steps.old + entries_cost (P.held pieces.now) request.now (V.origins seen.now.view.now calendar.entry.0 calendar.entry.1.now) (objects_at (V.state seen.now.view.now) calendar.entry.0 calendar.entry.1.now) }
+    ensures steps { steps.new ≤ steps.old + entries_cost (P.held pieces.now) request.now (V.origins seen.now.view.now calendar.entry.0 calendar.entry.1.now) (objects_concerned (V.directory seen.now.view.now) (V.state seen.now.view.now) calendar.entry.0 calendar.entry.1.now request.now) }
     ensures body { IfOk result (λ body. (c : Calendar) → MaySee (V.directory seen.now.view.now) (V.state seen.now.view.now) seen.now.who calendar.entry.0 calendar.entry.1.now (privilege_needed request.now) c → IsBody body (answer_body (V.directory seen.now.view.now) seen.now.who calendar.entry.0 calendar.entry.1.now moment zone.now c request.now)) }
 {
     match request {
@@ -93,7 +92,7 @@ fn body_in_zone<V: Walks, A: PropAnswers, P: Pieces, L: Ledger>(
     requires range { HasServedRange request.now }
     requires from_1970 { pos 0 ≤ℤ moment }
     requires to_9999 { moment ≤ℤ pos 253_402_300_799 }
-    ensures steps { steps.new ≤ steps.old + entries_cost (P.held pieces.now) request.now (V.origins seen.now.view.now calendar.entry.0 calendar.entry.1.now) (objects_at (V.state seen.now.view.now) calendar.entry.0 calendar.entry.1.now) }
+    ensures steps { steps.new ≤ steps.old + entries_cost (P.held pieces.now) request.now (V.origins seen.now.view.now calendar.entry.0 calendar.entry.1.now) (objects_concerned (V.directory seen.now.view.now) (V.state seen.now.view.now) calendar.entry.0 calendar.entry.1.now request.now) }
     ensures body { IfOk result (IsBodyOf request.now (report_reply (calendar_scene (V.directory seen.now.view.now) (V.state seen.now.view.now) seen.now.who calendar.entry.0 calendar.entry.1.now) moment request.now)) }
 {
     let (home, name) = calendar;
@@ -156,7 +155,7 @@ fn answered<V: Walks, A: PropAnswers, P: Pieces, L: Ledger>(
     requires range { HasServedRange request.now }
     requires from_1970 { pos 0 ≤ℤ moment }
     requires to_9999 { moment ≤ℤ pos 253_402_300_799 }
-    ensures steps { steps.new ≤ steps.old + entries_cost (P.held pieces.now) request.now (V.origins seen.now.view.now calendar.entry.0 calendar.entry.1.now) (objects_at (V.state seen.now.view.now) calendar.entry.0 calendar.entry.1.now) }
+    ensures steps { steps.new ≤ steps.old + entries_cost (P.held pieces.now) request.now (V.origins seen.now.view.now calendar.entry.0 calendar.entry.1.now) (objects_concerned (V.directory seen.now.view.now) (V.state seen.now.view.now) calendar.entry.0 calendar.entry.1.now request.now) }
     ensures reply { IfOk result (λ reply. reply ≡ unless_long (report_reply (calendar_scene (V.directory seen.now.view.now) (V.state seen.now.view.now) seen.now.who calendar.entry.0 calendar.entry.1.now) moment request.now)) }
 {
     let body = body_in_zone(
@@ -185,7 +184,7 @@ fn reply_in_zone<V: Walks, A: PropAnswers, P: Pieces, L: Ledger>(
     requires sound { IsTrue (report_is_sound request.now) }
     requires from_1970 { pos 0 ≤ℤ moment }
     requires to_9999 { moment ≤ℤ pos 253_402_300_799 }
-    ensures steps { steps.new ≤ steps.old + entries_cost (P.held pieces.now) request.now (V.origins seen.now.view.now calendar.entry.0 calendar.entry.1.now) (objects_at (V.state seen.now.view.now) calendar.entry.0 calendar.entry.1.now) }
+    ensures steps { steps.new ≤ steps.old + entries_cost (P.held pieces.now) request.now (V.origins seen.now.view.now calendar.entry.0 calendar.entry.1.now) (objects_concerned (V.directory seen.now.view.now) (V.state seen.now.view.now) calendar.entry.0 calendar.entry.1.now request.now) }
     ensures reply { IfOk result (λ reply. reply ≡ unless_outside request.now (unless_long (report_reply (calendar_scene (V.directory seen.now.view.now) (V.state seen.now.view.now) seen.now.who calendar.entry.0 calendar.entry.1.now) moment request.now))) }
 {
     match first_outside(request) {
@@ -199,8 +198,8 @@ fn reply_in_zone<V: Walks, A: PropAnswers, P: Pieces, L: Ledger>(
 /// The reply to a report about a calendar that is there and on which its caller holds what the report
 /// needs (RFC 4791, 7.8 to 7.10): 403 where the text of its time zone is none (`zone` is what that text
 /// gives), where a range leaves the dates that are served, or where the answer is longer than 64 MiB;
-/// or else the answer. Rows come from pieces wherever there is one, and no answer is written that is
-/// too long. `moment`, in seconds since 1970, is when an answer to a query for busy times is given.
+/// or else the answer. Rows come from pieces wherever there is one, are looked for only of objects that
+/// the report is about, and no answer is written that is too long. `moment`, in seconds since 1970, is when an answer to a query for busy times is given.
 pub fn run_report<V: Walks, A: PropAnswers, P: Pieces, L: Ledger>(
     alloc: Global,
     seen: &Seen<'_, V>,
@@ -220,7 +219,7 @@ pub fn run_report<V: Walks, A: PropAnswers, P: Pieces, L: Ledger>(
     requires sound { IsTrue (report_is_sound request.now) }
     requires from_1970 { pos 0 ≤ℤ moment }
     requires to_9999 { moment ≤ℤ pos 253_402_300_799 }
-    ensures steps { steps.new ≤ steps.old + entries_cost (P.held pieces.now) request.now (V.origins seen.now.view.now calendar.entry.0 calendar.entry.1.now) (objects_at (V.state seen.now.view.now) calendar.entry.0 calendar.entry.1.now) }
+    ensures steps { steps.new ≤ steps.old + entries_cost (P.held pieces.now) request.now (V.origins seen.now.view.now calendar.entry.0 calendar.entry.1.now) (objects_concerned (V.directory seen.now.view.now) (V.state seen.now.view.now) calendar.entry.0 calendar.entry.1.now request.now) }
     ensures reply { IfOk result (λ reply. reply ≡ reply_to_report (V.directory seen.now.view.now) (V.state seen.now.view.now) seen.now.who calendar.entry.0 calendar.entry.1.now moment request.now) }
 {
     match zone {

@@ -19,8 +19,7 @@ use Rattle.cal_model.specs.State.ServerState.{Directory, ServerState, calendar_a
 use Rattle.cal_model.specs.State.StoredData.{data_at}
 use Rattle.cal_model.proofs.History.ReplayLaws.{user_name-number}
 use Rattle.dav_props.proofs.SeenLemmas.{some_calendar}
-use Rattle.object_walk.specs.WalkedObjects.{objects_at}
-use Rattle.dav_reports.specs.CalendarObjects.{entries_cost}
+use Rattle.dav_reports.specs.CalendarObjects.{entries_cost, objects_concerned}
 use Rattle.dav_reports.specs.PieceRows.{Held}
 use Rattle.dav_reports.specs.ReportOutcomes.{calendar_scene, privilege_needed}
 use Rattle.cal_book.specs.Answering.ReadingCost.{cost_of, report_in}
@@ -86,7 +85,7 @@ calendar-there directory state shown seen path user name home report is kept at 
       subst IsSome (sym (some_calendar directory state 0 home name p.1.now (sym kept_there)).1) refl
 
 -- what the report costs that is asked for there
-pub cost-run : (held : Held) (origins : Origins) (state : ServerState) (found : Option ℕ) (path : Path) (asked : Content) (home : ℕ) (user name : List ℕ) (report : ReportRequest)
+pub cost-run : (held : Held) (origins : Origins) (directory : Directory) (state : ServerState) (found : Option ℕ) (path : Path) (asked : Content) (home : ℕ) (user name : List ℕ) (report : ReportRequest)
     → found ≡ Some home → path ≡ CalendarPath user name → asked ≡ content.Report report
-    → cost_of held origins state found (calendar_in path) (report_in asked) ≡ entries_cost held report (origins home name) (objects_at state home name)
-cost-run held origins state found path asked home user name report owner at what = λ i. cost_of held origins state (owner i) (calendar_in (at i)) (report_in (what i))
+    → cost_of held origins directory state found (calendar_in path) (report_in asked) ≡ entries_cost held report (origins home name) (objects_concerned directory state home name report)
+cost-run held origins directory state found path asked home user name report owner at what = λ i. cost_of held origins directory state (owner i) (calendar_in (at i)) (report_in (what i))

@@ -6,16 +6,16 @@ use Rattle.cal_model.specs.History.Origins.{Origins}
 use Rattle.cal_model.specs.Sight.Scenes.{calendar_in}
 use Rattle.cal_model.specs.State.ServerState.{Directory, ServerState}
 use Rattle.cal_book.specs.Answering.ReadingCost.{reading_cost, report_in}
-use Rattle.object_walk.specs.WalkedObjects.{objects_at}
+use Rattle.dav_reports.specs.CalendarObjects.{objects_concerned}
 use Rattle.dav_reports.specs.HeldWindows.{AreNeededHeld}
 use Rattle.dav_reports.specs.PieceRows.{Held}
 use Rattle.request_checks.specs.Sightings.{user_seen}
 
--- If an event asks for a report, then in each window that the report needs the rows of each object of its calendar are held.
+-- If an event asks for a report, then in each window that the report needs the rows of each object that it is about are held.
 abbrev pub AreRowsHeld : Held → Origins → Directory → ServerState → Event → Type 0
 AreRowsHeld held origins directory state event = (report : ReportRequest) (home : ℕ) (name : List ℕ)
     → report_in event.request.content ≡ Some report → user_seen directory event.request.path ≡ Some home → calendar_in event.request.path ≡ Some name
-    → AreNeededHeld held report (origins home name) (objects_at state home name)
+    → AreNeededHeld held report (origins home name) (objects_concerned directory state home name report)
 
 -- Such an event costs nothing.
 abbrev pub HeldReadingsAreFree : Type 0

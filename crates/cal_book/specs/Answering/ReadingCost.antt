@@ -1,4 +1,4 @@
--- What a request that only reads costs: the rows that a report needs and of which no piece is held (RFC 4791, 7.8 to 7.10). Any other request costs nothing.
+-- What a request that only reads costs: the rows that a report needs of the objects that it is about, and of which no piece is held (RFC 4791, 7.8 to 7.10). Any other request costs nothing.
 use Rattle.std.specs.Prelude.{ℕ, List, Option, Some, None}
 use Rattle.std.specs.Option.{option_map_or}
 use Rattle.cal_model.specs.declared.report.ReportRequest.{ReportRequest}
@@ -13,8 +13,7 @@ use Rattle.cal_model.specs.Serving.Outcomes.{scene_by}
 use Rattle.cal_model.specs.Sight.Scenes.{Scene, calendar_in}
 use Rattle.cal_model.specs.Sight.Views.{sight_of}
 use Rattle.cal_model.specs.State.ServerState.{Directory, ServerState}
-use Rattle.object_walk.specs.WalkedObjects.{objects_at}
-use Rattle.dav_reports.specs.CalendarObjects.{entries_cost}
+use Rattle.dav_reports.specs.CalendarObjects.{entries_cost, objects_concerned}
 use Rattle.dav_reports.specs.PieceRows.{Held}
 use Rattle.request_checks.specs.Sightings.{user_seen}
 
@@ -28,15 +27,15 @@ abbrev pub report_run : Scene → Request → Option ReportRequest
 report_run scene request = elim (first_there (shared_rows scene request)) [ None ↦ report_in request.content | Some refused ↦ None ]
 
 -- what a report costs about the calendar of a name in a user's home
-abbrev pub report_cost : Held → Origins → ServerState → Option ℕ → Option (List ℕ) → ReportRequest → ℕ
-report_cost held origins state (Some home) (Some name) report = entries_cost held report (origins home name) (objects_at state home name)
-report_cost held origins state user name report = 0
+abbrev pub report_cost : Held → Origins → Directory → ServerState → Option ℕ → Option (List ℕ) → ReportRequest → ℕ
+report_cost held origins directory state (Some home) (Some name) report = entries_cost held report (origins home name) (objects_concerned directory state home name report)
+report_cost held origins directory state user name report = 0
 
 -- what a report costs, if there is one
-abbrev pub cost_of : Held → Origins → ServerState → Option ℕ → Option (List ℕ) → Option ReportRequest → ℕ
-cost_of held origins state user name report = option_map_or (report_cost held origins state user name) report 0
+abbrev pub cost_of : Held → Origins → Directory → ServerState → Option ℕ → Option (List ℕ) → Option ReportRequest → ℕ
+cost_of held origins directory state user name report = option_map_or (report_cost held origins directory state user name) report 0
 
 -- What an event costs that only reads.
 abbrev pub reading_cost : Held → Origins → Directory → ServerState → Event → ℕ
 reading_cost held origins directory state event =
-    cost_of held origins state (user_seen directory event.request.path) (calendar_in event.request.path) (report_run (scene_by sight_of directory state event) event.request)
+    cost_of held origins directory state (user_seen directory event.request.path) (calendar_in event.request.path) (report_run (scene_by sight_of directory state event) event.request)

@@ -94,7 +94,7 @@ fn answer_unrefused<V: Walks, P: Pieces, L: Ledger>(
     requires from_1970 { pos 0 ≤ℤ moment }
     requires to_9999 { moment ≤ℤ pos 253_402_300_799 }
     ensures reply { IfOk result (λ reply. reply ≡ own_reply (scene_seen (V.directory seen.now.view.now) (V.state seen.now.view.now) seen.now.who request.now.path) moment request.now) }
-    ensures steps { steps.new ≤ steps.old + cost_of (P.held pieces.now) (V.origins seen.now.view.now) (V.state seen.now.view.now) (user_seen (V.directory seen.now.view.now) request.now.path) (calendar_in request.now.path) (report_in request.now.content) }
+    ensures steps { steps.new ≤ steps.old + cost_of (P.held pieces.now) (V.origins seen.now.view.now) (V.directory seen.now.view.now) (V.state seen.now.view.now) (user_seen (V.directory seen.now.view.now) request.now.path) (calendar_in request.now.path) (report_in request.now.content) }
     ensures no_steps { report_in request.now.content ≡ None → steps.new ≡ steps.old }
 {
     match request.method {

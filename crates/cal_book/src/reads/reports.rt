@@ -44,7 +44,7 @@ pub(crate) fn answer_report<V: Walks, P: Pieces, L: Ledger>(
     requires allowed { IsTrue (has_method request.now.path request.now.method) }
     requires from_1970 { pos 0 ≤ℤ moment }
     requires to_9999 { moment ≤ℤ pos 253_402_300_799 }
-    ensures steps { steps.new ≤ steps.old + cost_of (P.held pieces.now) (V.origins seen.now.view.now) (V.state seen.now.view.now) (user_seen (V.directory seen.now.view.now) request.now.path) (calendar_in request.now.path) (report_in request.now.content) }
+    ensures steps { steps.new ≤ steps.old + cost_of (P.held pieces.now) (V.origins seen.now.view.now) (V.directory seen.now.view.now) (V.state seen.now.view.now) (user_seen (V.directory seen.now.view.now) request.now.path) (calendar_in request.now.path) (report_in request.now.content) }
     ensures reply { IfOk result (λ reply. reply ≡ own_reply (scene_seen (V.directory seen.now.view.now) (V.state seen.now.view.now) seen.now.who request.now.path) moment request.now) }
 {
     let Path::Calendar(_, name) = &request.path else {

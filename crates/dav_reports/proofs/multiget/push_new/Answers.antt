@@ -46,19 +46,18 @@ push_found-requires-clause-right g c =
     subst (λ (s : Stored). AreRowsOf held c.in-Some.origin s.object) (sym c.deref.ensures) (right c.in-Some.origin stored.object origin_is stored.stored.reading)
 
 pub returns-in_err-push_found-clause-at_most : goal.returns-in_err-push_found-clause-at_most
-returns-in_err-push_found-clause-at_most g c =
+returns-in_err-push_found-clause-at_most g c entries stands =
     let state = g.V.View.state c.args.seen.now.view.now in
     let held = g.P.Pieces.held c.args.pieces.now in
     let origin_of = g.V.View.origins c.args.seen.now.view.now c.args.home c.args.calendar.now in
     let select = c.args.select.now in
-    let objects = objects_at state c.args.home c.args.calendar.now in
     let stored = c.in-Some.stored.now in
     let pair : List ℕ × List ℕ = (c.args.name, stored.octets) in
     let found : octets_at state c.args.home c.args.calendar.now c.args.name ≡ Some stored.octets = ap (octets_at state c.args.home c.args.calendar.now) (sym c.as_slice.ensures) ∙ sym c.in-Some.ensures.octets in
-    let among = object_among state c.args.home c.args.calendar.now c.args.name stored.octets found in
+    let among = stands stored.octets found in
     let origin_is : origin_of c.args.name ≡ Some c.in-Some.origin = ap origin_of (sym c.as_slice.ensures) ∙ sym c.in-Some.ensures.origin in
     let cost = entry_cost-known held (Multiget NoProps select []) origin_of pair c.in-Some.origin stored.object origin_is stored.stored.reading in
-    let one = unmet_one held select origin_of c.args.met.now c.args.name stored.octets objects c.requires.not_met among in
+    let one = unmet_one held select origin_of c.args.met.now c.args.name stored.octets entries c.requires.not_met among in
     let steps = rw c.deref.ensures at c.push_found.ensures.steps in
     omega (arith, cost, one, steps)
 
@@ -72,42 +71,40 @@ returns-clause-within g c =
     c.push_said.ensures.text c.push_said.ensures.met
 
 pub returns-clause-at_most : goal.returns-clause-at_most
-returns-clause-at_most g c =
+returns-clause-at_most g c entries stands =
     let state = g.V.View.state c.args.seen.now.view.now in
     let held = g.P.Pieces.held c.args.pieces.now in
     let origin_of = g.V.View.origins c.args.seen.now.view.now c.args.home c.args.calendar.now in
     let select = c.args.select.now in
-    let objects = objects_at state c.args.home c.args.calendar.now in
     let stored = c.in-Some.stored.now in
     let pair : List ℕ × List ℕ = (c.args.name, stored.octets) in
     let found : octets_at state c.args.home c.args.calendar.now c.args.name ≡ Some stored.octets = ap (octets_at state c.args.home c.args.calendar.now) (sym c.as_slice.ensures) ∙ sym c.in-Some.ensures.octets in
-    let among = object_among state c.args.home c.args.calendar.now c.args.name stored.octets found in
+    let among = stands stored.octets found in
     let origin_is : origin_of c.args.name ≡ Some c.in-Some.origin = ap origin_of (sym c.as_slice.ensures) ∙ sym c.in-Some.ensures.origin in
     let cost = entry_cost-known held (Multiget NoProps select []) origin_of pair c.in-Some.origin stored.object origin_is stored.stored.reading in
-    let one = unmet_one held select origin_of c.args.met.now c.args.name stored.octets objects c.requires.not_met among in
+    let one = unmet_one held select origin_of c.args.met.now c.args.name stored.octets entries c.requires.not_met among in
     let steps = rw c.deref.ensures at c.push_found.ensures.steps in
     omega (arith, cost, one, steps)
 
 pub returns-clause-steps : goal.returns-clause-steps
-returns-clause-steps g c =
+returns-clause-steps g c entries stands =
     let state = g.V.View.state c.args.seen.now.view.now in
     let held = g.P.Pieces.held c.args.pieces.now in
     let origin_of = g.V.View.origins c.args.seen.now.view.now c.args.home c.args.calendar.now in
     let select = c.args.select.now in
-    let objects = objects_at state c.args.home c.args.calendar.now in
     let stored = c.in-Some.stored.now in
     let met = c.args.met.now in
     let place = place_behind c.args.out.now c.as_slice-2.result.now in
     let pair : List ℕ × List ℕ = (c.args.name, stored.octets) in
     let found : octets_at state c.args.home c.args.calendar.now c.args.name ≡ Some stored.octets = ap (octets_at state c.args.home c.args.calendar.now) (sym c.as_slice.ensures) ∙ sym c.in-Some.ensures.octets in
-    let among = object_among state c.args.home c.args.calendar.now c.args.name stored.octets found in
+    let among = stands stored.octets found in
     let origin_is : origin_of c.args.name ≡ Some c.in-Some.origin = ap origin_of (sym c.as_slice.ensures) ∙ sym c.in-Some.ensures.origin in
     let cost = entry_cost-known held (Multiget NoProps select []) origin_of pair c.in-Some.origin stored.object origin_is stored.stored.reading in
-    let all = unmet_with held select origin_of met c.args.name place objects stored.octets c.requires.not_met among in
+    let all = unmet_with held select origin_of met c.args.name place entries stored.octets c.requires.not_met among in
     let steps = rw c.deref.ensures at c.push_found.ensures.steps in
-    let bound : c.push_found.new.steps + unmet_cost held select origin_of (with_value met c.args.name place) objects ≤ c.args.steps.now + unmet_cost held select origin_of met objects = omega (arith, cost, all, steps) in
+    let bound : c.push_found.new.steps + unmet_cost held select origin_of (with_value met c.args.name place) entries ≤ c.args.steps.now + unmet_cost held select origin_of met entries = omega (arith, cost, all, steps) in
     on_ok_weaker c.push_said.result
-    (λ is. subst (λ (m : Met). c.push_found.new.steps + unmet_cost held select origin_of m objects ≤ c.args.steps.now + unmet_cost held select origin_of met objects) (sym is) bound) c.push_said.ensures.met
+    (λ is. subst (λ (m : Met). c.push_found.new.steps + unmet_cost held select origin_of m entries ≤ c.args.steps.now + unmet_cost held select origin_of met entries) (sym is) bound) c.push_said.ensures.met
 
 pub returns-clause-said : goal.returns-clause-said
 returns-clause-said g c k may said =

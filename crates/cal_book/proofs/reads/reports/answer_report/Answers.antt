@@ -63,7 +63,7 @@ returns-clause-steps g c =
     let known = sym (user-seen directory state c.args.seen.now.who path) ∙ sym c.requires.scene.user ∙ c.in-Some.is in
     let at = c.in-Calendar.is ∙ ap (CalendarPath c.in-Calendar.field-0) (sym c.as_slice.ensures) in
     let cost =
-    cost-run held origins state (user_seen directory path) path c.args.request.now.content c.in-Some.home c.in-Calendar.field-0 c.as_slice.result.now c.in-Report.report known at c.in-Report.is in
+    cost-run held origins directory state (user_seen directory path) path c.args.request.now.content c.in-Some.home c.in-Calendar.field-0 c.as_slice.result.now c.in-Report.report known at c.in-Report.is in
     subst (λ n. c.run_report.new.steps ≤ c.args.steps.now + n) (sym cost) c.run_report.ensures.steps
 
 pub returns-clause-reply : goal.returns-clause-reply
