@@ -1,8 +1,11 @@
-//! Runs a script at a book, and asks the book what it would have expanded next.
+//! Runs a script at a book, and asks the book which entries it has and what it would have expanded
+//! next.
 //!
-//! Given: the frames of a script on standard input, with the requests of the user alice. Gives: how
-//! the run ended, and the next two claims of the book behind it. So it shows which pieces the script's
-//! workers published, and that the others are open again, those too that a worker still held.
+//! Given: the frames of a script on standard input, with the requests of the users alice and bob.
+//! Gives: how the run ended, the entries of the book behind it, and its next two claims. So it shows
+//! that an entry has the number of the connection, the user and the moment of its request; which pieces
+//! the script's workers published; and that the others are open again, those too that a worker still
+//! held.
 #![tactic(auto)]
 
 ghost use Rattle.std.specs.Prelude.{◌≡◌, IfSome};
@@ -14,9 +17,9 @@ use privileges::{Users, read_users};
 use std::alloc::Global;
 use std::io;
 
-/// The user alice, with the password `abc`.
+/// The users alice and bob, each with the password `abc`.
 const USERS: &[u8] =
-    b"user alice ba7816bf8f01cfea414140de5dae2223b00361a396177a9cb410ff61f20015ad\n";
+    b"user alice ba7816bf8f01cfea414140de5dae2223b00361a396177a9cb410ff61f20015ad\nuser bob ba7816bf8f01cfea414140de5dae2223b00361a396177a9cb410ff61f20015ad\n";
 
 /// The users, shared.
 fn shared_users(alloc: Global) -> Option<Arc<Users>> {
@@ -34,6 +37,19 @@ fn new_book(alloc: Global, users: &Arc<Users>) -> Option<Book>
         Ok(shared) => Book::start(alloc, shared).ok(),
         Err(_) => None,
     }
+}
+
+/// Prints the entries of a book.
+fn print_entries(rt: &HostRuntime, book: &Book) -> io::Result<()> {
+    for number in 0..book.entries() {
+        if let Some(entry) = book.entry(number) {
+            println!(rt;
+                "entry {number}: session {}, user {}, moment {}, status {}",
+                entry.session, entry.who, entry.moment, entry.status
+            )?;
+        }
+    }
+    Ok(())
 }
 
 /// Prints the next claim of a book.
@@ -64,6 +80,7 @@ fn main(rt: HostRuntime) -> io::Result<()> {
         return println!(rt; "no book");
     };
     run(&rt, &users, &mut book)?;
+    print_entries(&rt, &book)?;
     print_claim(&rt, &mut book)?;
     print_claim(&rt, &mut book)
 }
