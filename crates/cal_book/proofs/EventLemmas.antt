@@ -1,6 +1,6 @@
 -- What an event makes of the journal, by its outcome.
 use Rattle.std.proofs.Common.{◌≡◌, ◌≢◌, ℕ, Bool, true, false, List, [], ◌∷◌, ◌++◌, cond, Option, Some, None, refl, sym, ap, ◌∙◌, subst}
-use Rattle.std.specs.Prelude.{is_some, ◌==◌}
+use Rattle.std.specs.Prelude.{is_some, ◌==◌, ℤ}
 use Rattle.std.specs.List.{AllByRecursion}
 use Rattle.std.proofs.lemmas.Bool.{false≢true, eqb-false}
 use Rattle.std.proofs.lemmas.List.{append-nil}
@@ -62,6 +62,10 @@ stepped-unchanged users event work reply right e =
     ap (λ more. work.journal ++ more) (entries-unchanged users (state_behind users work.journal) event reply e) ∙ append-nil work.journal in
     ap (λ journal. record work { journal = journal; pieces = live_pieces journal work.pieces }) same
     ∙ ap (λ pieces. record work { journal = work.journal; pieces = pieces }) (live_pieces-right work.journal work.pieces right)
+
+-- but for the greatest moment
+pub latest-alone : (old same new : Work) (latest : ℤ) → new ≡ record same { latest = latest } → same ≡ old → new ≡ record old { latest = new.latest }
+latest-alone old same new latest is was = is ∙ ap (λ (w : Work). record w { latest = latest }) was ∙ ap (λ l. record old { latest = l }) (sym (ap (λ (w : Work). w.latest) is))
 
 -- An accepted event enters its change.
 pub stepped-accepted : (users : List User) (event : Event) (work new : Work) (after : ServerState) (status : ℕ) (change : Change) → change_of (directory_of users) event.request ≡ Some change

@@ -19,10 +19,7 @@ use Rattle.cal_model.proofs.Pieces.FoundPieces.{right_if_found}
 use Rattle.object_walk.specs.WalkedObjects.{objects_at}
 use Rattle.dav_reports.specs.CalendarObjects.{IsHeldRight, AreHeldRight}
 use Rattle.dav_reports.proofs.QueryWalks.{AreEntriesOf, entries_found}
-
--- the octets of an object that is still there are those of the state
-abbrev pub HasLiveOctets : List Entry → ServerState → Type 0
-HasLiveOctets journal state = (n : ℕ) (placed : Placed) → live_at journal n ≡ Some placed → octets_at state placed.home placed.calendar placed.object ≡ Some placed.octets
+use Rattle.cal_book.specs.Cores.{HasLiveOctets}
 
 module _ (journal : List Entry) (origins : Origins) (state : ServerState) (pieces : List Piece) (live : AreLive journal origins) (octets : HasLiveOctets journal state)
     (right : AllByRecursion (IsRight journal) pieces) where

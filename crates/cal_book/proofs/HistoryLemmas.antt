@@ -6,7 +6,7 @@ use Rattle.cal_model.specs.State.SoundStates.{IsSound}
 use Rattle.cal_model.specs.Users.UsersFile.{User}
 use Rattle.collections.specs.Kept.{Kept as KeptStore, state_of}
 use Rattle.cal_book.specs.Keeping.KeptHistories.{IsInStep}
-use Rattle.cal_book.proofs.HeldPieces.{HasLiveOctets}
+use Rattle.cal_book.specs.Cores.{HasLiveOctets}
 use Rattle.cal_book.proofs.LiveOctets.{live-octets, replay-sound}
 
 -- the octets of each object that is still there are in the state

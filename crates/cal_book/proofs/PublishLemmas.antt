@@ -18,8 +18,8 @@ use Rattle.cal_model.specs.Pieces.PieceLists.{rows_at, newest_within}
 use Rattle.cal_model.specs.Refusals.Preconditions.{IsServable, has_too_many}
 use Rattle.cal_model.specs.Refusals.RequestLimits.{instances_limit}
 use Rattle.cal_model.proofs.History.ReplayLaws.{some≢none}
-use Rattle.cal_model.proofs.Pieces.FoundPieces.{All-newest_within, All-snoc}
-use Rattle.piece_claims.specs.Boards.{Board, piece_at, published, rows_limit}
+use Rattle.cal_model.proofs.Pieces.FoundPieces.{All-newest_within, All-snoc, found_after_add, right_if_found}
+use Rattle.piece_claims.specs.Boards.{Board, piece_at, pieces_with, published, rows_limit}
 use Rattle.cal_book.specs.ClaimsOut.{IsMadeAt, placed_of}
 use Rattle.cal_book.specs.UpToDate.{IsUpToDate}
 
@@ -89,3 +89,27 @@ published-kept journal piece board right before = record {
   live = before.live;
   right = pieces-right journal piece board.pieces (is_some (rows_at piece.origin piece.window board.pieces)) right before.right;
 }
+
+-- What was published is found
+
+-- right pieces of one object and window have the same rows
+same-rows : (journal : List Entry) (origin : ℕ) (window : ℤ) (one other : List Row) → IsRight journal (piece_at origin window one) → IsRight journal (piece_at origin window other) → one ≡ other
+same-rows journal origin window one other a b =
+    let placed : Some a.placed ≡ Some b.placed = sym a.live ∙ b.live in
+    let octets : a.placed.octets ≡ b.placed.octets = cc in
+    let reading : Ok a.object ≡ Ok b.object = sym a.reading ∙ ap read_object octets ∙ b.reading in
+    let object : a.object ≡ b.object = cc in
+    a.rows ∙ ap (λ (o : Object). rows_in o window) object ∙ sym b.rows
+
+-- the pieces after a publication, by whether there is a piece already
+abbrev kept_with : ℕ → ℤ → List Row → List Piece → Option (List Row) → List Piece
+kept_with origin window found pieces there = cond (is_some there) pieces (newest_within (rows_limit - length found) pieces ++ piece_at origin window found ∷ [])
+
+pub published-found : (journal : List Entry) (origin : ℕ) (window : ℤ) (found : List Row) (pieces : List Piece) → IsRight journal (piece_at origin window found) → AllByRecursion (IsRight journal) pieces
+    → rows_at origin window (pieces_with (piece_at origin window found) pieces) ≡ Some found
+published-found journal origin window found pieces right all = by (rows_at origin window pieces) refl where
+  by : (there : Option (List Row)) → rows_at origin window pieces ≡ there → rows_at origin window (kept_with origin window found pieces (rows_at origin window pieces)) ≡ Some found
+  by None none = ap (λ there. rows_at origin window (kept_with origin window found pieces there)) none ∙ found_after_add (rows_limit - length found) pieces (piece_at origin window found) none
+  by (Some rows) there =
+      ap (λ o. rows_at origin window (kept_with origin window found pieces o)) there ∙ there
+      ∙ ap Some (same-rows journal origin window rows found (right_if_found (λ o w rs. IsRight journal (piece_at o w rs)) origin window rows pieces all there) right)

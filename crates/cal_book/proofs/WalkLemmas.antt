@@ -23,7 +23,7 @@ use Rattle.number_set.specs.Sets.{has}
 use Rattle.piece_claims.specs.Boards.{Board}
 use Rattle.cal_book.specs.EndedObjects.{IsWithout, is_object, is_passed, without_object}
 use Rattle.cal_book.specs.UpToDate.{IsUpToDate}
-use Rattle.cal_book.proofs.HeldPieces.{HasLiveOctets}
+use Rattle.cal_book.specs.Cores.{HasLiveOctets}
 use Rattle.cal_book.proofs.StepLemmas.{IsWithout-none, filter_same, origin-within}
 
 or-false : (b : Bool) → (b || false) ≡ b

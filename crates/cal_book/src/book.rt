@@ -1,5 +1,5 @@
 //! The book.
-ghost use Rattle.std.specs.Prelude.{◌≡◌, ◌≢◌, ◌≤◌, ◌+◌, ◌≤ℤ◌, ℕ, pos, true, false, [], length, slice_get, option_map, Option, IfOk, IfSome, IsOk, OnOk, OnErr};
+ghost use Rattle.std.specs.Prelude.{◌≡◌, ◌≢◌, ◌≤◌, ◌+◌, ◌≤ℤ◌, ℕ, pos, true, false, [], length, slice_get, option_map, Option, Some, IfOk, IfSome, IsOk, OnOk, OnErr};
 ghost use Rattle.std.specs.Option.{option_copied};
 ghost use Rattle.cal_journal.specs.KeptEntries.{kept_entry};
 ghost use Rattle.cal_model.specs.History.Claims.{next_claim};
@@ -7,9 +7,10 @@ ghost use Rattle.cal_model.specs.History.Journal.{IsLegal};
 ghost use Rattle.cal_model.specs.History.Origins.{Origins, AreLive};
 ghost use Rattle.cal_model.specs.Pieces.PieceLists.{rows_at};
 ghost use Rattle.cal_model.specs.Replies.BareReplies.{bare_reply as reply_of_status};
+ghost use Rattle.cal_model.specs.declared.reply.Reply.{Reply as Answer};
 ghost use Rattle.cal_model.specs.Requests.BookableRequests.{IsBookable};
 ghost use Rattle.cal_model.specs.Serving.EventReplies.{reply_to};
-ghost use Rattle.cal_model.specs.Serving.Outcomes.{is_reading as reads};
+ghost use Rattle.cal_model.specs.Serving.Outcomes.{is_reading as reads, outcome, unchanged};
 ghost use Rattle.cal_model.specs.Sight.LookingAlike.{LookAlike};
 ghost use Rattle.cal_model.specs.State.ServerState.{ServerState, directory_of};
 ghost use Rattle.piece_claims.specs.Boards.{gone_for, later, out_after};
@@ -137,7 +138,8 @@ impl Book {
     }
 
     /// Answers a request, and makes the change that it asks for, if that is accepted. Without memory
-    /// the answer is 503, and nothing is changed.
+    /// the answer is 503, and nothing is changed. A request that only reads or is refused leaves the
+    /// journal, the pieces and the claims as they are; its moment may move the horizon of the claims.
     pub fn request<L: Ledger>(
         &mut self,
         alloc: Global,
@@ -151,6 +153,7 @@ impl Book {
         ensures reply { result.status ≢ 503 → result ≡ reply_to (directory_in self.old) (state_in self.old) event.now }
         ensures work { result.status ≢ 503 → self.new.work ≡ work_after self.old.users event.now self.old.work }
         ensures busy { result.status ≡ 503 → (result ≡ reply_of_status 503) × (self.new.work ≡ self.old.work) }
+        ensures as_before { (refused : Answer) → outcome (directory_in self.old) (state_in self.old) event.now ≡ unchanged refused → self.new.work ≡ record self.old.work { latest = self.new.work.latest } }
         ensures alike { reads event.now.request.method ≡ true → result.status ≢ 503 → (other : ServerState) → LookAlike (directory_in self.old) (state_in self.old) other event.now.who → result ≡ reply_to (directory_in self.old) other event.now }
         ensures deletes { event.now.request.method ≡ Method.Delete → 1 ≤ self.old.spare → result.status ≢ 503 }
         ensures legal { IsLegal (directory_in self.old) self.new.work.journal }
@@ -287,6 +290,7 @@ impl Book {
         requires of_book { IsClaimIn self.old.work.journal expanded.claim }
         ensures users { self.new.users ≡ self.old.users }
         ensures work { IsPublished expanded self.old.work self.new.work result }
+        ensures found { result ≡ Publish.Published → rows_at expanded.claim.origin expanded.claim.window self.new.work.pieces ≡ Some expanded.rows }
         ensures spare { self.new.spare ≡ self.old.spare }
         ensures steps { steps.new ≤ steps.old + gone_for (piece_of expanded) self.old.work.pieces }
     {

@@ -1,5 +1,5 @@
 //! What a session and a worker ask of the value under the lock.
-ghost use Rattle.std.specs.Prelude.{◌≡◌, ◌≢◌, ◌≤◌, ◌+◌, ◌≤ℤ◌, ℕ, Bool, List, pos, true, false, refl, length, option_map, IfOk, IfSome, IsOk, OnOk, OnErr};
+ghost use Rattle.std.specs.Prelude.{◌≡◌, ◌≢◌, ◌≤◌, ◌+◌, ◌≤ℤ◌, ℕ, Bool, List, pos, true, false, refl, length, option_map, Some, IfOk, IfSome, IsOk, OnOk, OnErr};
 ghost use Rattle.cal_base.specs.World.Outside.{Rose};
 ghost use Rattle.cal_model.specs.History.Claims.{next_claim};
 ghost use Rattle.cal_model.specs.History.Journal.{Entry as EntryData, IsLegal};
@@ -8,10 +8,11 @@ ghost use Rattle.cal_model.specs.Pieces.PieceLists.{rows_at};
 ghost use Rattle.cal_model.specs.Replies.BareReplies.{bare_reply};
 ghost use Rattle.cal_model.specs.Requests.BookableRequests.{IsBookable};
 ghost use Rattle.cal_model.specs.Serving.EventReplies.{reply_to};
-ghost use Rattle.cal_model.specs.Serving.Outcomes.{is_reading as reads};
+ghost use Rattle.cal_model.specs.Serving.Outcomes.{is_reading as reads, outcome, unchanged};
 ghost use Rattle.cal_model.specs.Sight.LookingAlike.{LookAlike};
 ghost use Rattle.cal_model.specs.State.ServerState.{ServerState, directory_of};
 ghost use Rattle.cal_model.specs.Users.UsersFile.{User};
+ghost use Rattle.cal_model.specs.declared.reply.Reply.{Reply as Answer};
 ghost use Rattle.cal_model.specs.declared.request.Method.{Method};
 ghost use Rattle.piece_claims.specs.Boards.{gone_for, out_after};
 ghost use Rattle.cal_book.specs.Answering.ReadingCost.{reading_cost};
@@ -98,6 +99,7 @@ pub trait Desk: Keeps<Entry = JournalEntry, Base = Users> {
         ensures reply { IfReply result (λ reply. reply.status ≢ 503 → reply ≡ reply_to (directory_in (book self.old)) (state_in (book self.old)) event.now) }
         ensures work { IfReply result (λ reply. reply.status ≢ 503 → (book self.new).work ≡ work_after (book self.old).users event.now (book self.old).work) }
         ensures busy { IfReply result (λ reply. reply.status ≡ 503 → (reply ≡ bare_reply 503) × ((book self.new).work ≡ (book self.old).work)) }
+        ensures as_before { IfReply result (λ reply. (refused : Answer) → outcome (directory_in (book self.old)) (state_in (book self.old)) event.now ≡ unchanged refused → (book self.new).work ≡ record (book self.old).work { latest = (book self.new).work.latest }) }
         ensures alike { IfReply result (λ reply. reads event.now.request.method ≡ true → reply.status ≢ 503 → (other : ServerState) → LookAlike (directory_in (book self.old)) (state_in (book self.old)) other event.now.who → reply ≡ reply_to (directory_in (book self.old)) other event.now) }
         ensures deletes { IfReply result (λ reply. event.now.request.method ≡ Method.Delete → 1 ≤ (book self.old).spare → reply.status ≢ 503) }
         ensures legal { IsLegal (directory_in (book self.old)) (book self.new).work.journal }
@@ -124,6 +126,7 @@ pub trait Desk: Keeps<Entry = JournalEntry, Base = Users> {
         requires of_book { IsClaimIn (book self.old).work.journal expanded.claim }
         ensures users { (book self.new).users ≡ (book self.old).users }
         ensures work { IsPublished expanded (book self.old).work (book self.new).work result }
+        ensures found { result ≡ Publish.Published → rows_at expanded.claim.origin expanded.claim.window (book self.new).work.pieces ≡ Some expanded.rows }
         ensures spare { (book self.new).spare ≡ (book self.old).spare }
         ensures steps { steps.new ≤ steps.old + gone_for (piece_of expanded) (book self.old).work.pieces }
         ensures broken_kept { broken self.new ≡ broken self.old }

@@ -1,5 +1,6 @@
 //! Pieces that are published.
 ghost use Rattle.std.specs.Prelude.{◌≡◌, ◌≢◌, ◌+◌, ◌≤◌, true, false, Some};
+ghost use Rattle.cal_model.specs.Pieces.PieceLists.{rows_at};
 ghost use Rattle.piece_claims.specs.Boards.{gone_for};
 ghost use Rattle.cal_book.specs.Keeping.KeptHistories.{origins_in};
 ghost use Rattle.cal_book.specs.ClaimsOut.{IsMadeAt};
@@ -48,6 +49,7 @@ pub(crate) fn publish<L: Ledger>(
     requires kept { IsUpToDate history.now.journal claims.old }
     requires of_book { IsMadeAt history.now.journal expanded.claim.origin expanded.claim.stored }
     ensures published { IsPublished expanded (work_with history.now.journal claims.old) (work_with history.now.journal claims.new) result }
+    ensures found { result ≡ Publish.Published → rows_at expanded.claim.origin expanded.claim.window claims.new.pieces ≡ Some expanded.rows }
     ensures kept { IsUpToDate history.now.journal claims.new }
     ensures room { claims.new.room ≡ claims.old.room }
     ensures steps { steps.new ≤ steps.old + gone_for (piece_of expanded) claims.old.pieces }

@@ -5,11 +5,12 @@ use Rattle.cal_model.specs.History.Claims.{without_claim}
 use Rattle.cal_model.specs.declared.row.Row.{Row}
 use Rattle.cal_model.specs.declared.stored.Stored.{Stored}
 use Rattle.cal_model.specs.History.Origins.{Origins}
-use Rattle.piece_claims.specs.Boards.{ended, pair_at, piece_at, published}
+use Rattle.cal_model.specs.Pieces.PieceLists.{rows_at}
+use Rattle.piece_claims.specs.Boards.{Board, ended, pair_at, piece_at, published}
 use Rattle.cal_book.specs.Keeping.KeptHistories.{origins_in}
 use Rattle.cal_book.specs.UpToDate.{IsUpToDate, work_with}
 use Rattle.cal_book.proofs.HeldPieces.{AreLive-same}
-use Rattle.cal_book.proofs.PublishLemmas.{live-now, stale-now, piece-right, published-kept, window-limited}
+use Rattle.cal_book.proofs.PublishLemmas.{live-now, stale-now, piece-right, published-found, published-kept, window-limited}
 use Rattle.cal_book.proofs.publishing.publish.Goals as goal
 
 pub returns-then-not-is_origin-clause-published : goal.returns-then-not-is_origin-clause-published
@@ -78,3 +79,16 @@ returns-clause-published g c =
       subst IsSome (sym there) refl,
       ap (work_with history.journal) c.in-Err.ensures.err ∙ ap (λ window. work_with history.journal (ended claim.origin window c.args.claims.now)) same,
     )
+
+pub returns-in-Ok-clause-found : goal.returns-in-Ok-clause-found
+returns-in-Ok-clause-found g c said =
+    let history = c.args.history.now in
+    let claim = c.args.expanded.claim in
+    let live = c.entries-entries.ensures.step.live in
+    let now_is = c.origin_now-now.ensures ∙ ap (λ (s : Stored). origins_in history s.path.home s.path.calendar s.path.object) c.deref.ensures in
+    let right = piece-right history.journal (origins_in history) live claim.origin claim.stored c.requires.of_book (sym now_is ∙ c.is_origin.ensures.held c.if-not-is_origin.false)
+    claim.window c.args.expanded.rows c.args.expanded.of_it in
+    let fits : FitsSigned w32 c.args.expanded.claim.window = search rules in
+    let same = to_z-of_z w32 c.args.expanded.claim.window fits in
+    ap (λ (board : Board). rows_at claim.origin claim.window board.pieces) (c.in-Ok.ensures.ok ∙ ap (λ window. published (piece_at claim.origin window c.args.expanded.rows) c.args.claims.now) same)
+    ∙ published-found history.journal claim.origin claim.window c.args.expanded.rows c.args.claims.now.pieces right c.requires.kept.right
