@@ -572,8 +572,14 @@ def conditions():
             (of("MKCALENDAR", fresh, **field), reply(201)), (of("DELETE", fresh, **field), reply(204)),
         ]
     runs("conditions count on objects alone, and not of OPTIONS", SETTING + steps)
-    own, weak = f'"{etag(E1)}"', f'W/"{etag(E1)}"'
     one = CALENDAR + "one.ics"
+    runs("Depth counts of PROPFIND alone", SETTING + [step for depth in ("2", "infinity", "x") for step in (
+        (of("OPTIONS", CALENDAR, depth=depth), reply(200, allow=OF_CALENDAR)), (of("GET", one, depth=depth), reply(200, E1, TEXT, etag(E1))), (of("PUT", one, depth=depth), stored(E1, 204)),
+        (of("PROPPATCH", CALENDAR, depth=depth), named), (of("REPORT", CALENDAR, depth=depth), reported), (of("ACL", CALENDAR, depth=depth), reply(200)),
+        (of("MKCALENDAR", fresh, depth=depth), reply(201)), (of("DELETE", fresh, depth=depth), reply(204)),
+        (of("PROPFIND", CALENDAR, depth=depth), refused("<D:propfind-finite-depth/>") if depth == "infinity" else reply(400)),
+    )])
+    own, weak = f'"{etag(E1)}"', f'W/"{etag(E1)}"'
     runs("If-Match is compared strongly, If-None-Match weakly", SETTING + [
         *[(of(method, one, if_match=weak), reply(412, head=method == "HEAD")) for method in ("GET", "HEAD", "PUT", "DELETE", "PROPFIND")],
         *[(of(method, one, if_none=tags), reply(304, etag=etag(E1))) for method in ("GET", "HEAD") for tags in (own, weak, f'"0", {weak}', "*")],
