@@ -199,7 +199,8 @@ fn reply_in_zone<V: Walks, A: PropAnswers, P: Pieces, L: Ledger>(
 /// needs (RFC 4791, 7.8 to 7.10): 403 where the text of its time zone is none (`zone` is what that text
 /// gives), where a range leaves the dates that are served, or where the answer is longer than 64 MiB;
 /// or else the answer. Rows come from pieces wherever there is one, are looked for only of objects that
-/// the report is about, and no answer is written that is too long. `moment`, in seconds since 1970, is when an answer to a query for busy times is given.
+/// the report is about, and no answer is written that is too long. `moment`, in seconds since 1970, is
+/// when an answer to a query for busy times is given.
 pub fn run_report<V: Walks, A: PropAnswers, P: Pieces, L: Ledger>(
     alloc: Global,
     seen: &Seen<'_, V>,
