@@ -1,8 +1,14 @@
--- Each reply has a status with a reason phrase, so that its octets can be written.
-use Rattle.std.proofs.Common.{◌≡◌, ℕ, zero, suc, ◌<◌, Bool, true, false, List, [], ◌∷◌, ◌++◌, map, length, Option, Some, None, refl, sym, subst, arith, rules}
+-- Each reply has a status with a reason phrase, so that its octets can be written; and none to a request that can be booked has that of an unknown method.
+use Rattle.std.proofs.Common.{◌≡◌, ◌≢◌, ℕ, zero, suc, ◌<◌, Bool, true, false, not, ◌&&◌, ◌||◌, cond, List, [], ◌∷◌, ◌++◌, map, length, Option, Some, None, refl, sym, ap, ◌∙◌, subst, arith, rules}
 use Rattle.std.specs.List.{AllByRecursion}
-use Rattle.std.specs.Prelude.{◌==◌, is_some, int_lt, codes, if◌then◌else◌, unwrap_or, flat_map, ℤ, option_and_then, option_map, Ok, Err}
+use Rattle.std.specs.Prelude.{◌==◌, is_some, is_none, int_lt, codes, if◌then◌else◌, unwrap_or, flat_map, slice_get, ℤ, option_and_then, option_map, Ok, Err, IsSome, IsTrue}
+use Rattle.std.specs.BTreeMap.{is_at}
+use Rattle.std.specs.List.{enumerate_from}
+use Rattle.std.specs.Option.{option_map_or}
+use Rattle.std.proofs.lemmas.Bool.{false≢true}
+use Rattle.cal_base.specs.Lists.NameMap.{Named, name_order, value_at}
 use Rattle.cal_model.specs.declared.object.Class.{Class}
+use Rattle.cal_model.specs.declared.privilege.Grant.{Grant}
 use Rattle.cal_model.specs.declared.property.PropName.{PropName}
 use Rattle.cal_model.specs.declared.property.PropSet.{PropSet}
 use Rattle.cal_model.specs.declared.reply.Cond.{Cond}
@@ -20,8 +26,9 @@ use Rattle.cal_model.specs.declared.request.Request.{Request}
 use Rattle.cal_model.specs.declared.row.Range.{Range}
 use Rattle.cal_model.specs.Words.Limits.{first_date, last_date}
 use Rattle.cal_model.specs.Objects.ObjectReading.{first_there, not_calendar, not_resource, date_outside, read_object}
-use Rattle.cal_model.specs.State.ServerState.{Directory, ServerState}
-use Rattle.cal_model.specs.Sight.Views.{Contents, Sight, sight_of, whole_sight}
+use Rattle.cal_model.specs.State.ServerState.{Directory, Calendar, Home, ServerState, user_number}
+use Rattle.cal_model.specs.Access.Privileges.{has_all, read, read_free_busy}
+use Rattle.cal_model.specs.Sight.Views.{Contents, Sight, View, contents_of, served_class, only_where, sight_of, whole_sight, visible_calendars, home_by, seen_by, view_by}
 use Rattle.cal_model.specs.State.PropertyTexts.{Texts}
 use Rattle.cal_model.specs.Refusals.RefusalReplies.{refusal_reply, refused_where, when, refuse}
 use Rattle.cal_model.specs.Bodies.Refusals.{caldav_refusal}
@@ -29,16 +36,17 @@ use Rattle.cal_model.specs.Properties.PropertyTable.{Setting, protected, text, z
 use Rattle.cal_model.specs.Properties.Settings.{setting_table, setting_fault, faults_of_value, value_faults, texts_after, faults_of_all, first_fault}
 use Rattle.cal_model.specs.Refusals.ReportRefusals.{report_faults, range_refusal, zone_refusal, zone_text}
 use Rattle.cal_model.specs.Refusals.Preconditions.{Reading, put_table, date_refusal}
-use Rattle.cal_model.specs.State.Changes.{Change}
-use Rattle.cal_model.specs.Sight.Scenes.{Scene}
-use Rattle.cal_model.specs.Refusals.SharedRefusals.{shared_rows, unmet, Need, nothing, held, owned, fault_of, not_modified, is_get}
+use Rattle.cal_model.specs.State.Changes.{Change, change_of, change_at, change_of_object, change_of_calendar}
+use Rattle.cal_model.specs.Sight.Scenes.{Scene, scene_at, at_both, visible_home, held_in, user_in, calendar_in}
+use Rattle.cal_model.specs.Refusals.SharedRefusals.{shared_rows, is_missing, unmet, Need, nothing, held, owned, need, fault_of, not_modified, is_get}
 use Rattle.cal_model.specs.Serving.ReadingReplies.{reading_reply, answer_of, content_reply, report_reply, reply_over_contents, get_reply, report_rows}
 use Rattle.cal_model.specs.Refusals.ChangeRefusals.{own_rows, put_rows, put_faults, make_rows, patch_rows, acl_rows, contents_in}
-use Rattle.cal_model.specs.Serving.Outcomes.{Outcome, accepted, unchanged, outcome, outcome_where, changed, unless_refused, accepted_status, scene_by, is_reading}
+use Rattle.cal_model.specs.Serving.Outcomes.{Outcome, accepted, unchanged, outcome, outcome_where, changed, changing_outcome, unless_refused, accepted_status, scene_by, is_reading}
 use Rattle.cal_model.specs.Serving.EventReplies.{reply_of, reply_to, reply_to_change}
 use Rattle.std.specs.Map.{lookup}
 use Rattle.std.specs.List.{Contains}
 use Rattle.cal_model.specs.declared.path.Path.{Path}
+use Rattle.cal_model.specs.declared.path.Path.TheVariants.{Root, Principal as PrincipalPath, Home as HomePath, Calendar as CalendarPath, Object as ObjectPath}
 use Rattle.cal_model.specs.declared.wire.WireRequest.{WireRequest}
 use Rattle.cal_model.specs.Paths.TargetPaths.{target_path}
 use Rattle.cal_model.specs.Replies.BareReplies.{bare_reply}
@@ -48,11 +56,32 @@ use Rattle.cal_model.specs.Requests.BookableRequests.{Suits, refusals_of, IsBook
 use Rattle.cal_model.specs.Requests.Methods.{has_method, method_of}
 use Rattle.cal_model.specs.Users.Credentials.{authenticated}
 use Rattle.cal_model.specs.Users.UsersFile.{User}
+use Rattle.cal_model.specs.Words.Lists.{is_empty}
+use Rattle.cal_model.proofs.History.ReplayLaws.{no_row}
+use Rattle.dav_reports.specs.ReportOutcomes.{privilege_needed}
+use Rattle.dav_reports.proofs.BusyBodies.{some_there}
+use Rattle.cal_book.specs.Answering.OwnReplies.{IsUnrefused}
 use Rattle.cal_book.specs.ReplyReasons.{HasReason, RepliesHaveReasons}
+use Rattle.cal_book.proofs.Answering.OwnRows.{first-behind, first-before, reading-refused, reading-unrefused, unrefused-good, unrefused-met, need-held}
+use Rattle.cal_book.proofs.Checking.PassedLemmas.{named, not_when}
 
--- a status is another one
+-- a status has a reason phrase
+abbrev pub Known : ℕ → Type 0
+Known status = is_some (lookup (λ known. known == status) reasons) ≡ true
+
+-- and is not that of an unknown method
 abbrev pub Fine : ℕ → Type 0
-Fine status = is_some (lookup (λ known. known == status) reasons) ≡ true
+Fine status = (not (status == 501) && is_some (lookup (λ known. known == status) reasons)) ≡ true
+
+both_hold : (a b : Bool) → (a && b) ≡ true → (a ≡ true) × (b ≡ true)
+both_hold true b e = (refl, e)
+both_hold false b e = absurd (false≢true e)
+
+known : (status : ℕ) → Fine status → Known status
+known status fine = (both_hold _ _ fine).1
+
+other-status : (status : ℕ) → Fine status → status ≢ 501
+other-status status fine is = false≢true (sym (ap (λ n. not (n == 501)) is) ∙ (both_hold _ _ fine).0)
 
 -- of a row, and of a refusal that may be there
 abbrev pub FineRow : Option Reply → Type 0
@@ -149,6 +178,71 @@ shared-fine scene request fine = (
   ),
 )
 
+-- What is seen
+
+-- what is held shows what it is to show
+record ShowsHeld (sight : Sight) : Type 0 where
+  contents : has_all sight.held read ≡ true → IsSome sight.contents
+  busy : has_all sight.held read_free_busy ≡ true → IsSome sight.busy
+
+abbrev ShowsAll : Scene → Type 0
+ShowsAll scene = (sight : Sight) → scene.calendar ≡ Some sight → ShowsHeld sight
+
+abbrev AllShow : Named Sight → Type 0
+AllShow named = AllByRecursion (λ (entry : List ℕ × Sight). ShowsHeld entry.1) named
+
+shown-some : {X : Type 0} (shown : Bool) (x : X) → shown ≡ true → IsSome (only_where shown x)
+shown-some shown x is = subst (λ b. IsSome (only_where b x)) (sym is) refl
+
+calendars-show : (directory : Directory) (owner who : ℕ) (calendars : Named Calendar) → AllShow (map (λ (entry : List ℕ × Calendar). (entry.0, sight_of directory owner who entry.1)) calendars)
+calendars-show directory owner who [] = tt
+calendars-show directory owner who (entry ∷ calendars) =
+    (record { contents = shown-some _ (contents_of entry.1); busy = shown-some _ (served_class entry.1) }, calendars-show directory owner who calendars)
+
+homes-show : (directory : Directory) (who : ℕ) (homes : List (ℕ × Home)) → AllByRecursion AllShow (map (home_by sight_of directory who) homes)
+homes-show directory who [] = tt
+homes-show directory who (home ∷ homes) = (calendars-show directory home.0 who (visible_calendars directory home.0 who home.1), homes-show directory who homes)
+
+home-shows : (view : View) (user : ℕ) (named : Named Sight) → AllByRecursion AllShow view → slice_get view user ≡ Some named → AllShow named
+home-shows [] user named all e = absurd cc
+home-shows (home ∷ homes) zero named all e = let same : home ≡ named = cc in subst AllShow same all.0
+home-shows (home ∷ homes) (suc user) named all e = home-shows homes user named all.1 e
+
+value-shows : (named : Named Sight) (name : List ℕ) (sight : Sight) → AllShow named → value_at named name ≡ Some sight → ShowsHeld sight
+value-shows [] name sight all e = absurd cc
+value-shows (entry ∷ named) name sight all e = by (is_at (name_order name) entry.0) (value-shows named name sight all.1) e where
+  by : (b : Bool) → (value_at named name ≡ Some sight → ShowsHeld sight) → cond b (Some entry.1) (value_at named name) ≡ Some sight → ShowsHeld sight
+  by true later e = let same : entry.1 ≡ sight = cc in subst ShowsHeld same all.0
+  by false later e = later e
+
+abbrev visible_of : ℕ → ℕ → Option (Named Sight) → Option (Named Sight)
+visible_of who user home = option_and_then (λ (calendars : Named Sight). if (user == who) || not (is_empty calendars) then Some calendars else None) home
+
+module _ (directory : Directory) (state : ServerState) (who : ℕ) (path : Path) where
+  abbrev view : View
+  view = seen_by directory state who
+
+  at-shows : (home : Option (Named Sight)) (name : Option (List ℕ)) (sight : Sight) → ((named : Named Sight) → home ≡ Some named → AllShow named) → at_both home name ≡ Some sight → ShowsHeld sight
+  at-shows None name sight all e = absurd cc
+  at-shows (Some named) None sight all e = absurd cc
+  at-shows (Some named) (Some name) sight all e = value-shows named name sight (all named refl) e
+
+  visible-shows : (user : Option ℕ) (named : Named Sight) → option_and_then (visible_home view who) user ≡ Some named → AllShow named
+  visible-shows None named e = absurd cc
+  visible-shows (Some user) named e = by (slice_get view user) refl e where
+    visible : (test : Bool) (found : Named Sight) → AllShow found → (if test then Some found else None) ≡ Some named → AllShow named
+    visible true found all e = let same : found ≡ named = cc in subst AllShow same all
+    visible false found all e = absurd cc
+
+    by : (home : Option (Named Sight)) → slice_get view user ≡ home → visible_of who user home ≡ Some named → AllShow named
+    by None is e = absurd cc
+    by (Some found) is e = visible ((user == who) || not (is_empty found)) found (home-shows view user found (homes-show directory who (enumerate_from 0 state.homes)) is) e
+
+  scene-shows : ShowsAll (scene_at directory view who path)
+  unfolding scene_at
+  scene-shows sight e = at-shows (option_and_then (visible_home view who) (option_and_then (user_number directory) (user_in path))) (calendar_in path) sight
+      (visible-shows (option_and_then (user_number directory) (user_in path))) e
+
 -- Reading
 
 if-fine : (early : Bool) (first : Refusal) (other : Option Refusal) → Fine first.status → FineRefusal other → FineRefusal (if early then Some first else other)
@@ -184,57 +278,95 @@ get-fine : (scene : Scene) (object : Option (List ℕ)) → scene.object ≡ obj
 get-fine scene None e = rw e refl
 get-fine scene (Some octets) e = rw e refl
 
-over-fine : (report : ReportRequest) (scene : Scene) (calendar : Option Sight) → scene.calendar ≡ calendar → Fine (reply_over_contents scene report).status
-over-fine report scene None e = rw e refl
-over-fine report scene (Some sight) e = over-contents report scene sight e sight.contents refl where
-  over-contents : (report : ReportRequest) (scene : Scene) (sight : Sight) → scene.calendar ≡ Some sight → (contents : Option Contents) → sight.contents ≡ contents → Fine (reply_over_contents scene report).status
-  over-contents report scene sight e None c = rw e (rw c refl)
-  over-contents (Query props select filter tz) scene sight e (Some contents) c = rw e (rw c refl)
-  over-contents (Multiget props select hrefs) scene sight e (Some contents) c = rw e (rw c refl)
-  over-contents (FreeBusy range) scene sight e (Some contents) c = rw e (rw c refl)
+over-fine : (report : ReportRequest) (scene : Scene) (sight : Sight) (contents : Contents) → privilege_needed report ≡ read → scene.calendar ≡ Some sight → sight.contents ≡ Some contents
+    → Fine (reply_over_contents scene report).status
+over-fine (Query props select filter tz) scene sight contents needs e c = rw e (rw c refl)
+over-fine (Multiget props select hrefs) scene sight contents needs e c = rw e (rw c refl)
+over-fine (FreeBusy range) scene sight contents needs e c = absurd (omega (arith, needs))
 
-busy-fine : (scene : Scene) (moment : ℤ) (range : Range) (busy : Option (ℤ → Option Class)) → option_and_then (λ (sight : Sight). sight.busy) scene.calendar ≡ busy
+busy-fine : (scene : Scene) (moment : ℤ) (range : Range) (class : ℤ → Option Class) → option_and_then (λ (sight : Sight). sight.busy) scene.calendar ≡ Some class
     → Fine (report_reply scene moment (FreeBusy range)).status
-busy-fine scene moment range None e = rw (e, report_reply) refl
-busy-fine scene moment range (Some class) e = rw (e, report_reply) refl
+busy-fine scene moment range class e = rw (e, report_reply) refl
 
-report-fine : (scene : Scene) (moment : ℤ) (report : ReportRequest) → Fine (report_reply scene moment report).status
-report-fine scene moment (Query props select filter tz) = over-fine (Query props select filter tz) scene scene.calendar refl
-report-fine scene moment (Multiget props select hrefs) = over-fine (Multiget props select hrefs) scene scene.calendar refl
-report-fine scene moment (FreeBusy range) = busy-fine scene moment range _ refl
+abbrev holds_all : ℕ → Option Sight → Bool
+holds_all privilege seen = has_all (option_map_or (λ (sight : Sight). sight.held) seen 0) privilege
 
-content-fine : (scene : Scene) (moment : ℤ) (c : Content) → Fine (content_reply scene moment c).status
-content-fine scene moment content.None = refl
-content-fine scene moment (content.Put media_ok octets) = refl
-content-fine scene moment (content.Find props deep) = refl
-content-fine scene moment (content.Patch sets) = refl
-content-fine scene moment (content.Make sets) = refl
-content-fine scene moment (content.Acl grants) = refl
-content-fine scene moment (content.Report report) = report-fine scene moment report
-content-fine scene moment (content.Bad refusal) = refl
+-- who holds a privilege on what is at a path sees a calendar there
+held-sight : (scene : Scene) (privilege : ℕ) → has_all 0 privilege ≡ false → has_all (held_in scene) privilege ≡ true
+    → (sight : Sight) × ((scene.calendar ≡ Some sight) × (has_all sight.held privilege ≡ true))
+held-sight scene privilege none holds = by scene.calendar refl where
+  by : (seen : Option Sight) → scene.calendar ≡ seen → (sight : Sight) × ((scene.calendar ≡ Some sight) × (has_all sight.held privilege ≡ true))
+  by None e = absurd (false≢true (sym none ∙ sym (ap (holds_all privilege) e) ∙ holds))
+  by (Some sight) e = (sight, (e, sym (ap (holds_all privilege) e) ∙ holds))
 
-answer-fine : (scene : Scene) (moment : ℤ) (request : Request) (how : Method) → Fine (answer_of scene moment request how).status
-answer-fine scene moment request method.Options = refl
-answer-fine scene moment request method.Get = get-fine scene scene.object refl
-answer-fine scene moment request method.Head = get-fine scene scene.object refl
-answer-fine scene moment request method.Put = content-fine scene moment request.content
-answer-fine scene moment request method.Delete = content-fine scene moment request.content
-answer-fine scene moment request method.Propfind = content-fine scene moment request.content
-answer-fine scene moment request method.Proppatch = content-fine scene moment request.content
-answer-fine scene moment request method.Report = content-fine scene moment request.content
-answer-fine scene moment request method.Mkcalendar = content-fine scene moment request.content
-answer-fine scene moment request method.Acl = content-fine scene moment request.content
+report-fine : (scene : Scene) (moment : ℤ) (report : ReportRequest) → ShowsAll scene → has_all (held_in scene) (privilege_needed report) ≡ true → Fine (report_reply scene moment report).status
+report-fine scene moment (Query props select filter tz) shows holds =
+    let seen = held-sight scene read refl holds in
+    let contents = some_there seen.0.contents ((shows seen.0 seen.1.0).contents seen.1.1) in
+    over-fine (Query props select filter tz) scene seen.0 contents.0 refl seen.1.0 contents.1
+report-fine scene moment (Multiget props select hrefs) shows holds =
+    let seen = held-sight scene read refl holds in
+    let contents = some_there seen.0.contents ((shows seen.0 seen.1.0).contents seen.1.1) in
+    over-fine (Multiget props select hrefs) scene seen.0 contents.0 refl seen.1.0 contents.1
+report-fine scene moment (FreeBusy range) shows holds =
+    let seen = held-sight scene read_free_busy refl holds in
+    let class = some_there seen.0.busy ((shows seen.0 seen.1.0).busy seen.1.1) in
+    busy-fine scene moment range class.0 (ap (option_and_then (λ (sight : Sight). sight.busy)) seen.1.0 ∙ class.1)
+
+-- what a method answers whose content suits it
+module _ (scene : Scene) (moment : ℤ) (request : Request) (shows : ShowsAll scene) where
+  abbrev answer_with : Method → Content → Reply
+  answer_with how what = answer_of scene moment (record request { content = what }) how
+
+  find-fine : (what : Content) → Suits method.Propfind what → fault_of what ≡ None → Fine (answer_with method.Propfind what).status
+  find-fine content.None suits good = absurd (false≢true suits)
+  find-fine (content.Put media_ok octets) suits good = absurd cc
+  find-fine (content.Find props deep) suits good = refl
+  find-fine (content.Patch sets) suits good = absurd cc
+  find-fine (content.Make sets) suits good = absurd cc
+  find-fine (content.Acl grants) suits good = let never = suits.0 in absurd cc
+  find-fine (content.Report report) suits good = let never = suits.0 in absurd cc
+  find-fine (content.Bad refusal) suits good = absurd cc
+
+  asked_report-fine : (what : Content) → Suits method.Report what → fault_of what ≡ None → unmet scene (need scene method.Report what) ≡ None → Fine (answer_with method.Report what).status
+  asked_report-fine content.None suits good met = absurd (false≢true suits)
+  asked_report-fine (content.Put media_ok octets) suits good met = absurd cc
+  asked_report-fine (content.Find props deep) suits good met = let never = suits.0 in absurd cc
+  asked_report-fine (content.Patch sets) suits good met = absurd cc
+  asked_report-fine (content.Make sets) suits good met = absurd cc
+  asked_report-fine (content.Acl grants) suits good met = let never = suits.0 in absurd cc
+  asked_report-fine (content.Report report) suits good met = report-fine scene moment report shows (need-held scene report met)
+  asked_report-fine (content.Bad refusal) suits good met = absurd cc
+
+  answer-fine : (how : Method) (what : Content) → is_reading how ≡ true → Suits how what → fault_of what ≡ None → unmet scene (need scene how what) ≡ None → Fine (answer_with how what).status
+  answer-fine method.Options what reads suits good met = refl
+  answer-fine method.Get what reads suits good met = get-fine scene scene.object refl
+  answer-fine method.Head what reads suits good met = get-fine scene scene.object refl
+  answer-fine method.Put what reads suits good met = absurd (false≢true reads)
+  answer-fine method.Delete what reads suits good met = absurd (false≢true reads)
+  answer-fine method.Propfind what reads suits good met = find-fine what suits good
+  answer-fine method.Proppatch what reads suits good met = absurd (false≢true reads)
+  answer-fine method.Report what reads suits good met = asked_report-fine what suits good met
+  answer-fine method.Mkcalendar what reads suits good met = absurd (false≢true reads)
+  answer-fine method.Acl what reads suits good met = absurd (false≢true reads)
 
 or-fine : (row : Option Reply) (other : Reply) → FineRow row → Fine other.status → Fine (unwrap_or row other).status
 or-fine None other fine more = more
 or-fine (Some reply) other fine more = fine
 
-reading-fine : (scene : Scene) (moment : ℤ) (request : Request) → FineContent request.content → Fine (reading_reply scene moment request).status
-unfolding reading_reply
-reading-fine scene moment request fine =
-    or-fine _ (answer_of scene moment request request.method)
-    (first-fine _ (both-fine _ _ (shared-fine scene request fine) (both-fine _ _ (report_rows-fine request.content) (when-fine _ _ refl, tt))))
-    (answer-fine scene moment request request.method)
+-- the reply of the first shared row that refuses
+refused-fine : (scene : Scene) (request : Request) (reply : Reply) → FineContent request.content → first_there (shared_rows scene request) ≡ Some reply → Fine reply.status
+refused-fine scene request reply fine is = subst FineRow is (first-fine (shared_rows scene request) (shared-fine scene request fine))
+
+reading-fine : (scene : Scene) (moment : ℤ) (request : Request) → ShowsAll scene → is_reading request.method ≡ true → Suits request.method request.content → FineContent request.content
+    → Fine (reading_reply scene moment request).status
+reading-fine scene moment request shows reads suits fine = by (first_there (shared_rows scene request)) refl where
+  by : (row : Option Reply) → first_there (shared_rows scene request) ≡ row → Fine (reading_reply scene moment request).status
+  by (Some reply) is = subst (λ (r : Reply). Fine r.status) (sym (reading-refused scene moment request reply is)) (refused-fine scene request reply fine is)
+  by None is =
+      let answered = answer-fine scene moment request shows request.method request.content reads suits (unrefused-good scene request is) (unrefused-met scene request is) in
+      subst (λ (r : Reply). Fine r.status) (sym (reading-unrefused scene moment request is))
+      (or-fine _ (answer_of scene moment request request.method) (first-fine _ (both-fine _ _ (report_rows-fine request.content) (when-fine _ _ refl, tt))) answered)
 
 -- Changing
 
@@ -293,116 +425,166 @@ all-fine : (making : Bool) (sets : List PropSet) (texts : Texts) → AllByRecurs
 all-fine making [] texts = tt
 all-fine making (set ∷ sets) texts = (setting-fine making texts set, all-fine making sets (if is_some (setting_fault making texts set) then texts else texts_after texts set))
 
-put-fine : (state : ServerState) (scene : Scene) (size : ℕ) (c : Content) → AllByRecursion FineRow (put_rows state scene size c)
-put-fine state scene size content.None = (refl, tt)
-put-fine state scene size (content.Put media_ok octets) = both-fine _ _ (refuse_all-fine _ (put_faults-fine scene media_ok octets (contents_in scene))) (when-fine _ _ refl, tt)
-put-fine state scene size (content.Find props deep) = (refl, tt)
-put-fine state scene size (content.Patch sets) = (refl, tt)
-put-fine state scene size (content.Make sets) = (refl, tt)
-put-fine state scene size (content.Acl grants) = (refl, tt)
-put-fine state scene size (content.Report report) = (refl, tt)
-put-fine state scene size (content.Bad refusal) = (refl, tt)
+-- what a method that changes something asks for, whose content suits it and is not at fault
+put-asked : (what : Content) → Suits method.Put what → fault_of what ≡ None → (media_ok : Bool) × ((octets : List ℕ) × (what ≡ content.Put media_ok octets))
+put-asked content.None suits good = absurd (false≢true suits)
+put-asked (content.Put media_ok octets) suits good = (media_ok, (octets, refl))
+put-asked (content.Find props deep) suits good = let never = suits.0 in absurd cc
+put-asked (content.Patch sets) suits good = absurd cc
+put-asked (content.Make sets) suits good = absurd cc
+put-asked (content.Acl grants) suits good = let never = suits.0 in absurd cc
+put-asked (content.Report report) suits good = let never = suits.0 in absurd cc
+put-asked (content.Bad refusal) suits good = absurd cc
 
-make-fine : (state : ServerState) (scene : Scene) (size : ℕ) (c : Content) → AllByRecursion FineRow (make_rows state scene size c)
-make-fine state scene size content.None = (refl, tt)
-make-fine state scene size (content.Put media_ok octets) = (refl, tt)
-make-fine state scene size (content.Find props deep) = (refl, tt)
-make-fine state scene size (content.Patch sets) = (refl, tt)
-make-fine state scene size (content.Make sets) = (when-fine _ _ refl, (refuse-fine (first_fault sets) (first_refusal-fine _ (all-fine true sets [])), (when-fine _ _ refl, tt)))
-make-fine state scene size (content.Acl grants) = (refl, tt)
-make-fine state scene size (content.Report report) = (refl, tt)
-make-fine state scene size (content.Bad refusal) = (refl, tt)
+make-asked : (what : Content) → Suits method.Mkcalendar what → fault_of what ≡ None → (sets : List PropSet) × (what ≡ content.Make sets)
+make-asked content.None suits good = absurd (false≢true suits)
+make-asked (content.Put media_ok octets) suits good = absurd cc
+make-asked (content.Find props deep) suits good = let never = suits.0 in absurd cc
+make-asked (content.Patch sets) suits good = absurd cc
+make-asked (content.Make sets) suits good = (sets, refl)
+make-asked (content.Acl grants) suits good = let never = suits.0 in absurd cc
+make-asked (content.Report report) suits good = let never = suits.0 in absurd cc
+make-asked (content.Bad refusal) suits good = absurd cc
 
-patch-fine : (state : ServerState) (scene : Scene) (size : ℕ) (c : Content) → AllByRecursion FineRow (patch_rows state scene size c)
-patch-fine state scene size content.None = (refl, tt)
-patch-fine state scene size (content.Put media_ok octets) = (refl, tt)
-patch-fine state scene size (content.Find props deep) = (refl, tt)
-patch-fine state scene size (content.Patch sets) = (when-fine _ _ refl, (when-fine _ _ refl, tt))
-patch-fine state scene size (content.Make sets) = (refl, tt)
-patch-fine state scene size (content.Acl grants) = (refl, tt)
-patch-fine state scene size (content.Report report) = (refl, tt)
-patch-fine state scene size (content.Bad refusal) = (refl, tt)
+patch-asked : (what : Content) → Suits method.Proppatch what → fault_of what ≡ None → (sets : List PropSet) × (what ≡ content.Patch sets)
+patch-asked content.None suits good = absurd (false≢true suits)
+patch-asked (content.Put media_ok octets) suits good = absurd cc
+patch-asked (content.Find props deep) suits good = let never = suits.0 in absurd cc
+patch-asked (content.Patch sets) suits good = (sets, refl)
+patch-asked (content.Make sets) suits good = absurd cc
+patch-asked (content.Acl grants) suits good = let never = suits.0 in absurd cc
+patch-asked (content.Report report) suits good = let never = suits.0 in absurd cc
+patch-asked (content.Bad refusal) suits good = absurd cc
 
-acl-fine : (state : ServerState) (scene : Scene) (size : ℕ) (c : Content) → AllByRecursion FineRow (acl_rows state scene size c)
-acl-fine state scene size content.None = (refl, tt)
-acl-fine state scene size (content.Put media_ok octets) = (refl, tt)
-acl-fine state scene size (content.Find props deep) = (refl, tt)
-acl-fine state scene size (content.Patch sets) = (refl, tt)
-acl-fine state scene size (content.Make sets) = (refl, tt)
-acl-fine state scene size (content.Acl grants) = (when-fine _ _ refl, tt)
-acl-fine state scene size (content.Report report) = (refl, tt)
-acl-fine state scene size (content.Bad refusal) = (refl, tt)
+acl-asked : (what : Content) → Suits method.Acl what → fault_of what ≡ None → (grants : List Grant) × (what ≡ content.Acl grants)
+acl-asked content.None suits good = absurd (false≢true suits)
+acl-asked (content.Put media_ok octets) suits good = absurd cc
+acl-asked (content.Find props deep) suits good = let never = suits.0 in absurd cc
+acl-asked (content.Patch sets) suits good = absurd cc
+acl-asked (content.Make sets) suits good = absurd cc
+acl-asked (content.Acl grants) suits good = (grants, refl)
+acl-asked (content.Report report) suits good = let never = suits.0 in absurd cc
+acl-asked (content.Bad refusal) suits good = absurd cc
 
-own-fine : (state : ServerState) (scene : Scene) (request : Request) (how : Method) → AllByRecursion FineRow (own_rows state scene request how)
-own-fine state scene request method.Options = tt
-own-fine state scene request method.Get = tt
-own-fine state scene request method.Head = tt
-own-fine state scene request method.Put = put-fine state scene request.size request.content
-own-fine state scene request method.Delete = tt
-own-fine state scene request method.Propfind = tt
-own-fine state scene request method.Proppatch = patch-fine state scene request.size request.content
-own-fine state scene request method.Report = tt
-own-fine state scene request method.Mkcalendar = make-fine state scene request.size request.content
-own-fine state scene request method.Acl = acl-fine state scene request.size request.content
+-- the rows of a method's own
+put-fine : (state : ServerState) (scene : Scene) (size : ℕ) (what : Content) → Suits method.Put what → fault_of what ≡ None → AllByRecursion FineRow (put_rows state scene size what)
+put-fine state scene size what suits good =
+    let puts = put-asked what suits good in
+    subst (λ c. AllByRecursion FineRow (put_rows state scene size c)) (sym puts.1.1) (both-fine _ _ (refuse_all-fine _ (put_faults-fine scene puts.0 puts.1.0 (contents_in scene))) (when-fine _ _ refl, tt))
 
--- Outcomes
+make-fine : (state : ServerState) (scene : Scene) (size : ℕ) (what : Content) → Suits method.Mkcalendar what → fault_of what ≡ None → AllByRecursion FineRow (make_rows state scene size what)
+make-fine state scene size what suits good =
+    let makes = make-asked what suits good in
+    subst (λ c. AllByRecursion FineRow (make_rows state scene size c)) (sym makes.1)
+    (when-fine _ _ refl, (refuse-fine (first_fault makes.0) (first_refusal-fine _ (all-fine true makes.0 [])), (when-fine _ _ refl, tt)))
 
-accepted-fine : (scene : Scene) (how : Method) → Fine (accepted_status scene how)
-accepted-fine scene method.Options = refl
-accepted-fine scene method.Get = refl
-accepted-fine scene method.Head = refl
-accepted-fine scene method.Put = status-fine (is_some scene.object) where
-  status-fine : (there : Bool) → Fine (if there then 204 else 201)
-  status-fine true = refl
-  status-fine false = refl
-accepted-fine scene method.Delete = refl
-accepted-fine scene method.Propfind = refl
-accepted-fine scene method.Proppatch = refl
-accepted-fine scene method.Report = refl
-accepted-fine scene method.Mkcalendar = refl
-accepted-fine scene method.Acl = refl
+patch-fine : (state : ServerState) (scene : Scene) (size : ℕ) (what : Content) → Suits method.Proppatch what → fault_of what ≡ None → AllByRecursion FineRow (patch_rows state scene size what)
+patch-fine state scene size what suits good =
+    subst (λ c. AllByRecursion FineRow (patch_rows state scene size c)) (sym (patch-asked what suits good).1) (when-fine _ _ refl, (when-fine _ _ refl, tt))
 
-abbrev FineOutcome : Outcome → Type 0
-FineOutcome (accepted status state) = Fine status
-FineOutcome (unchanged reply) = Fine reply.status
+acl-fine : (state : ServerState) (scene : Scene) (size : ℕ) (what : Content) → Suits method.Acl what → fault_of what ≡ None → AllByRecursion FineRow (acl_rows state scene size what)
+acl-fine state scene size what suits good = subst (λ c. AllByRecursion FineRow (acl_rows state scene size c)) (sym (acl-asked what suits good).1) (when-fine _ _ refl, tt)
 
-changed-fine : (state : ServerState) (scene : Scene) (how : Method) (change : Option Change) → FineOutcome (changed state scene how change)
-changed-fine state scene how None = refl
-changed-fine state scene how (Some change) = accepted-fine scene how
+own-fine : (state : ServerState) (scene : Scene) (request : Request) (how : Method) → Suits how request.content → fault_of request.content ≡ None → AllByRecursion FineRow (own_rows state scene request how)
+own-fine state scene request method.Options suits good = tt
+own-fine state scene request method.Get suits good = tt
+own-fine state scene request method.Head suits good = tt
+own-fine state scene request method.Put suits good = put-fine state scene request.size request.content suits good
+own-fine state scene request method.Delete suits good = tt
+own-fine state scene request method.Propfind suits good = tt
+own-fine state scene request method.Proppatch suits good = patch-fine state scene request.size request.content suits good
+own-fine state scene request method.Report suits good = tt
+own-fine state scene request method.Mkcalendar suits good = make-fine state scene request.size request.content suits good
+own-fine state scene request method.Acl suits good = acl-fine state scene request.size request.content suits good
 
-unless-fine : (row : Option Reply) (made : Outcome) → FineRow row → FineOutcome made → FineOutcome (unless_refused row made)
-unless-fine None made fine more = more
-unless-fine (Some reply) made fine more = fine
+-- What is asked for is a change
 
-by_method-fine : (reads : Bool) (directory : Directory) (state : ServerState) (event : Event) → FineContent event.request.content → FineOutcome (outcome_where reads directory state event)
-by_method-fine true directory state event fine = reading-fine (scene_by sight_of directory state event) event.moment event.request fine
-by_method-fine false directory state event fine =
-    let scene = scene_by whole_sight directory state event in
-    unless-fine _ _ (first-fine _ (both-fine _ _ (shared-fine scene event.request fine) (own-fine state scene event.request event.request.method))) (changed-fine state scene event.request.method _)
+some-asked : {X : Type 0} (o : Option X) (x : X) → o ≡ Some x → IsSome o
+some-asked o x is = subst IsSome (sym is) refl
 
-outcome-fine : (directory : Directory) (state : ServerState) (event : Event) → FineContent event.request.content → FineOutcome (outcome directory state event)
-unfolding outcome
-outcome-fine directory state event fine = by_method-fine (is_reading event.request.method) directory state event fine
+at_object-some : (how : Method) (what : Content) (user calendar object : List ℕ) (home : ℕ) → is_reading how ≡ false → IsTrue (has_method (ObjectPath user calendar object) how) → Suits how what → fault_of what ≡ None
+    → IsSome (change_of_object how what home calendar object)
+at_object-some method.Options what user calendar object home changes allowed suits good = absurd (false≢true (sym changes))
+at_object-some method.Get what user calendar object home changes allowed suits good = absurd (false≢true (sym changes))
+at_object-some method.Head what user calendar object home changes allowed suits good = absurd (false≢true (sym changes))
+at_object-some method.Put what user calendar object home changes allowed suits good =
+    let puts = put-asked what suits good in
+    some-asked (change_of_object method.Put what home calendar object) _ (ap (λ c. change_of_object method.Put c home calendar object) puts.1.1)
+at_object-some method.Delete what user calendar object home changes allowed suits good = refl
+at_object-some method.Propfind what user calendar object home changes allowed suits good = absurd (false≢true (sym changes))
+at_object-some method.Proppatch what user calendar object home changes allowed suits good = absurd (false≢true allowed)
+at_object-some method.Report what user calendar object home changes allowed suits good = absurd (false≢true (sym changes))
+at_object-some method.Mkcalendar what user calendar object home changes allowed suits good = absurd (false≢true allowed)
+at_object-some method.Acl what user calendar object home changes allowed suits good = absurd (false≢true allowed)
 
-change-fine : (status : ℕ) (request : Request) (c : Content) → Fine status → FineContent c → Fine (reply_to_change status request c).status
-change-fine status request content.None fine more = fine
-change-fine status request (content.Put media_ok octets) fine more = fine
-change-fine status request (content.Find props deep) fine more = fine
-change-fine status request (content.Patch sets) fine more = refl
-change-fine status request (content.Make sets) fine more = fine
-change-fine status request (content.Acl grants) fine more = fine
-change-fine status request (content.Report report) fine more = fine
-change-fine status request (content.Bad refusal) fine more = fine
+at_calendar-some : (how : Method) (what : Content) (user calendar : List ℕ) (home size : ℕ) → is_reading how ≡ false → IsTrue (has_method (CalendarPath user calendar) how) → Suits how what → fault_of what ≡ None
+    → IsSome (change_of_calendar how what home calendar size)
+at_calendar-some method.Options what user calendar home size changes allowed suits good = absurd (false≢true (sym changes))
+at_calendar-some method.Get what user calendar home size changes allowed suits good = absurd (false≢true (sym changes))
+at_calendar-some method.Head what user calendar home size changes allowed suits good = absurd (false≢true (sym changes))
+at_calendar-some method.Put what user calendar home size changes allowed suits good = absurd (false≢true allowed)
+at_calendar-some method.Delete what user calendar home size changes allowed suits good = refl
+at_calendar-some method.Propfind what user calendar home size changes allowed suits good = absurd (false≢true (sym changes))
+at_calendar-some method.Proppatch what user calendar home size changes allowed suits good =
+    some-asked (change_of_calendar method.Proppatch what home calendar size) _ (ap (λ c. change_of_calendar method.Proppatch c home calendar size) (patch-asked what suits good).1)
+at_calendar-some method.Report what user calendar home size changes allowed suits good = absurd (false≢true (sym changes))
+at_calendar-some method.Mkcalendar what user calendar home size changes allowed suits good =
+    some-asked (change_of_calendar method.Mkcalendar what home calendar size) _ (ap (λ c. change_of_calendar method.Mkcalendar c home calendar size) (make-asked what suits good).1)
+at_calendar-some method.Acl what user calendar home size changes allowed suits good =
+    some-asked (change_of_calendar method.Acl what home calendar size) _ (ap (λ c. change_of_calendar method.Acl c home calendar size) (acl-asked what suits good).1)
 
-reply_of-fine : (request : Request) (o : Outcome) → FineContent request.content → FineOutcome o → Fine (reply_of request o).status
-reply_of-fine request (accepted status state) more fine = change-fine status request request.content fine more
-reply_of-fine request (unchanged reply) more fine = fine
+module _ (directory : Directory) (state : ServerState) (who : ℕ) (request : Request) where
+  abbrev scene_of : Scene
+  scene_of = scene_at directory (view_by whole_sight directory state who) who request.path
 
--- No reply is 503, as long as no fault that was found in reading the request is.
-pub reply_to-status : (directory : Directory) (state : ServerState) (event : Event) → FineContent event.request.content → Fine (reply_to directory state event).status
-reply_to-status directory state event fine = reply_of-fine event.request (outcome directory state event) fine (outcome-fine directory state event fine)
+  missing-none : IsUnrefused scene_of request → is_missing request.method scene_of scene_of.path ≡ false
+  unfolding shared_rows
+  missing-none none = not_when (is_missing request.method scene_of scene_of.path) (bare_reply 404) (no_row (shared_rows scene_of request) none).0
 
--- What is asked for
+  path-is : scene_of.path ≡ request.path
+  unfolding scene_at
+  path-is = refl
+
+  abbrev home_by_user : Option ℕ → Option (Named Sight)
+  home_by_user user = option_and_then (visible_home (view_by whole_sight directory state who) who) user
+
+  home-is : scene_of.home ≡ home_by_user (option_and_then (user_number directory) (user_in request.path))
+  unfolding scene_at
+  home-is = refl
+
+  -- the user of a path is known, where the home is not missing
+  user-known : (name : List ℕ) (missing : Bool) → user_in request.path ≡ Some name → (is_none scene_of.home || missing) ≡ false → IsSome (user_number directory name)
+  user-known name missing is there = by (user_number directory name) refl where
+    home : scene_of.home ≡ home_by_user (user_number directory name)
+    home = home-is ∙ ap (λ o. home_by_user (option_and_then (user_number directory) o)) is
+
+    by : (found : Option ℕ) → user_number directory name ≡ found → IsSome (user_number directory name)
+    by None e = absurd (false≢true (sym there ∙ ap (λ (h : Option (Named Sight)). is_none h || missing) (home ∙ ap home_by_user e)))
+    by (Some n) e = some-asked (user_number directory name) n e
+
+  and_then-some : {X : Type 0} (o : Option ℕ) (f : ℕ → Option X) → IsSome o → ((n : ℕ) → IsSome (f n)) → IsSome (option_and_then f o)
+  and_then-some None f there some = absurd (false≢true there)
+  and_then-some (Some n) f there some = some n
+
+  at-some : (path : Path) → request.path ≡ path → IsTrue (has_method path request.method) → is_reading request.method ≡ false → Suits request.method request.content → fault_of request.content ≡ None
+      → is_missing request.method scene_of path ≡ false → IsSome (change_at directory request path)
+  at-some Root is allowed changes suits good there = absurd (false≢true (named Root request.method allowed changes))
+  at-some (PrincipalPath user) is allowed changes suits good there = absurd (false≢true (named (PrincipalPath user) request.method allowed changes))
+  at-some (HomePath user) is allowed changes suits good there = absurd (false≢true (named (HomePath user) request.method allowed changes))
+  at-some (CalendarPath user calendar) is allowed changes suits good there =
+      and_then-some (user_number directory user) (λ home. change_of_calendar request.method request.content home calendar request.size) (user-known user _ (ap user_in is) there)
+      (λ home. at_calendar-some request.method request.content user calendar home request.size changes allowed suits good)
+  at-some (ObjectPath user calendar object) is allowed changes suits good there =
+      and_then-some (user_number directory user) (λ home. change_of_object request.method request.content home calendar object) (user-known user _ (ap user_in is) there)
+      (λ home. at_object-some request.method request.content user calendar object home changes allowed suits good)
+
+  -- a request that no shared row refuses asks for a change
+  change-some : IsUnrefused scene_of request → IsTrue (has_method request.path request.method) → is_reading request.method ≡ false → Suits request.method request.content → IsSome (change_of directory request)
+  unfolding change_of
+  change-some none allowed changes suits =
+      at-some request.path refl allowed changes suits (unrefused-good scene_of request none) (ap (λ path. is_missing request.method scene_of path) (sym path-is) ∙ missing-none none)
+
+-- What is found wrong
 
 contained-fine : (refusals : List Refusal) (refusal : Refusal) → AllByRecursion (λ (r : Refusal). Fine r.status) refusals → Contains refusals refusal → Fine refusal.status
 contained-fine [] refusal fine (k, within, e) = absurd (omega (arith, within))
@@ -431,6 +613,87 @@ suits-fine how (content.Acl grants) suits = tt
 suits-fine how (content.Report report) suits = tt
 suits-fine how (content.Bad refusal) suits = contained-fine (refusals_of how) refusal (refusals-fine how) suits
 
+-- Outcomes
+
+accepted-fine : (scene : Scene) (how : Method) → Fine (accepted_status scene how)
+accepted-fine scene method.Options = refl
+accepted-fine scene method.Get = refl
+accepted-fine scene method.Head = refl
+accepted-fine scene method.Put = status-fine (is_some scene.object) where
+  status-fine : (there : Bool) → Fine (if there then 204 else 201)
+  status-fine true = refl
+  status-fine false = refl
+accepted-fine scene method.Delete = refl
+accepted-fine scene method.Propfind = refl
+accepted-fine scene method.Proppatch = refl
+accepted-fine scene method.Report = refl
+accepted-fine scene method.Mkcalendar = refl
+accepted-fine scene method.Acl = refl
+
+abbrev FineOutcome : Outcome → Type 0
+FineOutcome (accepted status state) = Fine status
+FineOutcome (unchanged reply) = Fine reply.status
+
+changed-fine : (state : ServerState) (scene : Scene) (how : Method) (change : Option Change) → IsSome change → FineOutcome (changed state scene how change)
+changed-fine state scene how None there = absurd (false≢true there)
+changed-fine state scene how (Some change) there = accepted-fine scene how
+
+unless-fine : (row : Option Reply) (made : Outcome) → FineRow row → FineOutcome made → FineOutcome (unless_refused row made)
+unless-fine None made fine more = more
+unless-fine (Some reply) made fine more = fine
+
+module _ (directory : Directory) (state : ServerState) (event : Event) (suits : Suits event.request.method event.request.content) (allowed : IsTrue (has_method event.request.path event.request.method)) where
+  abbrev seen : Scene
+  seen = scene_by whole_sight directory state event
+
+  abbrev made_by_rows : Option Reply → Outcome
+  made_by_rows row = unless_refused row (changed state seen event.request.method (change_of directory event.request))
+
+  abbrev fine_content : FineContent event.request.content
+  fine_content = suits-fine event.request.method event.request.content suits
+
+  abbrev own : List (Option Reply)
+  own = own_rows state seen event.request event.request.method
+
+  changing-fine : is_reading event.request.method ≡ false → FineOutcome (changing_outcome directory state event)
+  changing-fine changes = by (first_there (shared_rows seen event.request)) refl where
+    by : (row : Option Reply) → first_there (shared_rows seen event.request) ≡ row → FineOutcome (changing_outcome directory state event)
+    by (Some reply) is =
+        subst (λ row. FineOutcome (made_by_rows row)) (sym (first-before reply (shared_rows seen event.request) own is)) (refused-fine seen event.request reply fine_content is)
+    by None is =
+        subst (λ row. FineOutcome (made_by_rows row)) (sym (first-behind (shared_rows seen event.request) own is))
+        (unless-fine (first_there own) _ (first-fine own (own-fine state seen event.request event.request.method suits (unrefused-good seen event.request is)))
+        (changed-fine state seen event.request.method _ (change-some directory state event.who event.request is allowed changes suits)))
+
+  by_method-fine : (reads : Bool) → is_reading event.request.method ≡ reads → FineOutcome (outcome_where reads directory state event)
+  by_method-fine true reads =
+      reading-fine (scene_by sight_of directory state event) event.moment event.request (scene-shows directory state event.who event.request.path) reads suits fine_content
+  by_method-fine false reads = changing-fine reads
+
+  outcome-fine : FineOutcome (outcome directory state event)
+  unfolding outcome
+  outcome-fine = by_method-fine (is_reading event.request.method) refl
+
+change-fine : (status : ℕ) (request : Request) (c : Content) → Fine status → FineContent c → Fine (reply_to_change status request c).status
+change-fine status request content.None fine more = fine
+change-fine status request (content.Put media_ok octets) fine more = fine
+change-fine status request (content.Find props deep) fine more = fine
+change-fine status request (content.Patch sets) fine more = refl
+change-fine status request (content.Make sets) fine more = fine
+change-fine status request (content.Acl grants) fine more = fine
+change-fine status request (content.Report report) fine more = fine
+change-fine status request (content.Bad refusal) fine more = fine
+
+reply_of-fine : (request : Request) (o : Outcome) → FineContent request.content → FineOutcome o → Fine (reply_of request o).status
+reply_of-fine request (accepted status state) more fine = change-fine status request request.content fine more
+reply_of-fine request (unchanged reply) more fine = fine
+
+-- Each reply to a request that can be booked has a status with a phrase, and not that of an unknown method.
+pub reply_to-status : (directory : Directory) (state : ServerState) (event : Event) → Suits event.request.method event.request.content → IsTrue (has_method event.request.path event.request.method)
+    → Fine (reply_to directory state event).status
+reply_to-status directory state event suits allowed =
+    reply_of-fine event.request (outcome directory state event) (suits-fine event.request.method event.request.content suits) (outcome-fine directory state event suits allowed)
+
 -- Reasons
 
 first-reason : (here : Bool) (phrase : List ℕ) (later : Option (List ℕ)) → 0 < length phrase → (is_some later ≡ true → 0 < length (unwrap_or later []))
@@ -445,46 +708,52 @@ found-reason (entry ∷ known) test long e = first-reason (test entry.0) entry.1
 reasons-some : AllByRecursion (λ (entry : ℕ × List ℕ). 0 < length entry.1) reasons
 reasons-some = search rules
 
-pub known-reason : (status : ℕ) → Fine status → 0 < length (reason status)
+pub known-reason : (status : ℕ) → Known status → 0 < length (reason status)
 unfolding reason
-known-reason status fine = found-reason reasons (λ known. known == status) reasons-some fine
+known-reason status is = found-reason reasons (λ known. known == status) reasons-some is
 
--- the reply to a request that can be booked has a reason
-reply-reason : (users : List User) (directory : Directory) (state : ServerState) (event : Event) → IsBookable users event.who event.request → HasReason (reply_to directory state event)
-reply-reason users directory state event bookable =
-    known-reason _ (reply_to-status directory state event (suits-fine event.request.method event.request.content bookable.suits))
+-- the reply to a request that can be booked
+module _ (users : List User) (directory : Directory) (state : ServerState) (event : Event) (bookable : IsBookable users event.who event.request) where
+  booked-fine : Fine (reply_to directory state event).status
+  booked-fine = reply_to-status directory state event bookable.suits bookable.allowed
+
+  reply-reason : HasReason (reply_to directory state event)
+  reply-reason = known-reason (reply_to directory state event).status (known (reply_to directory state event).status booked-fine)
+
+  pub reply-known : (reply_to directory state event).status ≢ 501
+  reply-known = other-status (reply_to directory state event).status booked-fine
 
 busy-reason : 0 < length (reason 503)
 busy-reason = known-reason 503 refl
 
 -- and so has one that is refused before any state is looked at
-abbrev RefusedFine : Asked → Type 0
-RefusedFine (refused reply) = Fine reply.status
-RefusedFine (asked who request) = Unit {0}
+abbrev RefusedKnown : Asked → Type 0
+RefusedKnown (refused reply) = Known reply.status
+RefusedKnown (asked who request) = Unit {0}
 
-has-fine : (has : Bool) (who : ℕ) (request : Request) (path : Path) → RefusedFine (if has then asked who request else refused (not_allowed path))
+has-fine : (has : Bool) (who : ℕ) (request : Request) (path : Path) → RefusedKnown (if has then asked who request else refused (not_allowed path))
 has-fine true who request path = tt
 has-fine false who request path = refl
 
 path-fine : (users : List User) (wire : WireRequest) (who : ℕ) (how : Method) (found : Option Path)
-    → RefusedFine (elim found [ None ↦ refused (bare_reply 404) | Some path ↦ if has_method path how then asked who (request_at users wire how path) else refused (not_allowed path) ])
+    → RefusedKnown (elim found [ None ↦ refused (bare_reply 404) | Some path ↦ if has_method path how then asked who (request_at users wire how path) else refused (not_allowed path) ])
 path-fine users wire who how None = refl
 path-fine users wire who how (Some path) = has-fine (has_method path how) who (request_at users wire how path) path
 
-method-fine : (users : List User) (wire : WireRequest) (who : ℕ) (found : Option Method) → RefusedFine (elim found [ None ↦ refused (bare_reply 501) | Some how ↦ asked_by users wire who how ])
+method-fine : (users : List User) (wire : WireRequest) (who : ℕ) (found : Option Method) → RefusedKnown (elim found [ None ↦ refused (bare_reply 501) | Some how ↦ asked_by users wire who how ])
 method-fine users wire who None = refl
 method-fine users wire who (Some how) = path-fine users wire who how (target_path wire.target)
 
-user-fine : (users : List User) (wire : WireRequest) (found : Option ℕ) → RefusedFine (elim found [ None ↦ refused (bare_reply 401) | Some user ↦ asked_with users wire user ])
+user-fine : (users : List User) (wire : WireRequest) (found : Option ℕ) → RefusedKnown (elim found [ None ↦ refused (bare_reply 401) | Some user ↦ asked_with users wire user ])
 user-fine users wire None = refl
 user-fine users wire (Some user) = method-fine users wire user (method_of wire.method)
 
-asked-fine : (users : List User) (wire : WireRequest) → RefusedFine (asked_of users wire)
+asked-fine : (users : List User) (wire : WireRequest) → RefusedKnown (asked_of users wire)
 unfolding asked_of
 asked-fine users wire = user-fine users wire (authenticated users wire.authorization)
 
 refused-reason : (users : List User) (wire : WireRequest) (reply : Reply) → asked_of users wire ≡ refused reply → HasReason reply
-refused-reason users wire reply e = known-reason reply.status (subst RefusedFine e (asked-fine users wire))
+refused-reason users wire reply e = known-reason reply.status (subst RefusedKnown e (asked-fine users wire))
 
 pub replies_have_reasons : RepliesHaveReasons
-replies_have_reasons = record { answered = reply-reason; refused_before = refused-reason; busy = busy-reason }
+replies_have_reasons = record { answered = reply-reason; known = reply-known; refused_before = refused-reason; busy = busy-reason }

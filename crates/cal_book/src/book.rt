@@ -153,6 +153,7 @@ impl Book {
         ensures reply { result.status ≢ 503 → result ≡ reply_to (directory_in self.old) (state_in self.old) event.now }
         ensures work { result.status ≢ 503 → self.new.work ≡ work_after self.old.users event.now self.old.work }
         ensures busy { result.status ≡ 503 → (result ≡ reply_of_status 503) × (self.new.work ≡ self.old.work) }
+        ensures known { result.status ≢ 501 }
         ensures as_before { (refused : Answer) → outcome (directory_in self.old) (state_in self.old) event.now ≡ unchanged refused → self.new.work ≡ record self.old.work { latest = self.new.work.latest } }
         ensures alike { reads event.now.request.method ≡ true → result.status ≢ 503 → (other : ServerState) → LookAlike (directory_in self.old) (state_in self.old) other event.now.who → result ≡ reply_to (directory_in self.old) other event.now }
         ensures deletes { event.now.request.method ≡ Method.Delete → 1 ≤ self.old.spare → result.status ≢ 503 }

@@ -99,6 +99,7 @@ pub trait Desk: Keeps<Entry = JournalEntry, Base = Users> {
         ensures reply { IfReply result (λ reply. reply.status ≢ 503 → reply ≡ reply_to (directory_in (book self.old)) (state_in (book self.old)) event.now) }
         ensures work { IfReply result (λ reply. reply.status ≢ 503 → (book self.new).work ≡ work_after (book self.old).users event.now (book self.old).work) }
         ensures busy { IfReply result (λ reply. reply.status ≡ 503 → (reply ≡ bare_reply 503) × ((book self.new).work ≡ (book self.old).work)) }
+        ensures known { IfReply result (λ reply. reply.status ≢ 501) }
         ensures as_before { IfReply result (λ reply. (refused : Answer) → outcome (directory_in (book self.old)) (state_in (book self.old)) event.now ≡ unchanged refused → (book self.new).work ≡ record (book self.old).work { latest = (book self.new).work.latest }) }
         ensures alike { IfReply result (λ reply. reads event.now.request.method ≡ true → reply.status ≢ 503 → (other : ServerState) → LookAlike (directory_in (book self.old)) (state_in (book self.old)) other event.now.who → reply ≡ reply_to (directory_in (book self.old)) other event.now) }
         ensures deletes { IfReply result (λ reply. event.now.request.method ≡ Method.Delete → 1 ≤ (book self.old).spare → reply.status ≢ 503) }

@@ -23,7 +23,8 @@ pub fn journals_are_told()
     ensures { LegalIsTold }
 {}
 
-/// Each reply has a status with a reason phrase, so that its octets can be written.
+/// Each reply has a status with a reason phrase, so that its octets can be written; and no request that
+/// a book can be asked is answered 501 in any state.
 pub fn replies_have_reasons()
     ensures { RepliesHaveReasons }
 {}

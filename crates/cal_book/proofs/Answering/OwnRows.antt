@@ -18,12 +18,12 @@ use Rattle.dav_reports.specs.ReportOutcomes.{privilege_needed}
 use Rattle.cal_book.specs.Answering.OwnReplies.{IsUnrefused, own_reply}
 
 -- the first of some rows stands before others
-first-behind : {X : Type 0} (rows more : List (Option X)) → first_there rows ≡ None → first_there (rows ++ more) ≡ first_there more
+pub first-behind : {X : Type 0} (rows more : List (Option X)) → first_there rows ≡ None → first_there (rows ++ more) ≡ first_there more
 first-behind [] more none = refl
 first-behind (None ∷ rows) more none = first-behind rows more none
 first-behind (Some x ∷ rows) more none = absurd cc
 
-first-before : {X : Type 0} (x : X) (rows more : List (Option X)) → first_there rows ≡ Some x → first_there (rows ++ more) ≡ Some x
+pub first-before : {X : Type 0} (x : X) (rows more : List (Option X)) → first_there rows ≡ Some x → first_there (rows ++ more) ≡ Some x
 first-before x [] more is = absurd cc
 first-before x (None ∷ rows) more is = first-before x rows more is
 first-before x (Some y ∷ rows) more is = is
@@ -52,7 +52,7 @@ unfolding shared_rows
 unrefused-good scene request none = (no_row (shared_rows scene request) none).1.1.1.0
 
 -- and what it needs is met
-unrefused-met : (scene : Scene) (request : Request) → IsUnrefused scene request → unmet scene (need scene request.method request.content) ≡ None
+pub unrefused-met : (scene : Scene) (request : Request) → IsUnrefused scene request → unmet scene (need scene request.method request.content) ≡ None
 unfolding shared_rows
 unrefused-met scene request none = (no_row (shared_rows scene request) none).1.0
 
@@ -63,7 +63,7 @@ met-held scene privileges none = by (has_all (held_in scene) privileges) (refusa
   by false reply none = absurd cc
 
 -- what a report needs
-need-held : (scene : Scene) (report : ReportRequest) → unmet scene (need scene Report (content.Report report)) ≡ None → has_all (held_in scene) (privilege_needed report) ≡ true
+pub need-held : (scene : Scene) (report : ReportRequest) → unmet scene (need scene Report (content.Report report)) ≡ None → has_all (held_in scene) (privilege_needed report) ≡ true
 need-held scene (Query props select filter timezone) none = met-held scene read none
 need-held scene (Multiget props select hrefs) none = met-held scene read none
 need-held scene (FreeBusy range) none = met-held scene read_free_busy none
