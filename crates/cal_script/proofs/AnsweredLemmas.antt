@@ -132,7 +132,7 @@ pub answered_start : (users : List User) (octets : List ℕ) (before : Standing)
 answered_start users octets before script written stands = record { within = omega arith; whole = whole_none users before script written stands }
 
 -- the frame at a place was answered
-behind_place : (at : ℕ) (octets here rest : List ℕ) (frame : Frame) → here ≡ drop at octets → at ≤ length octets → IsFrameThen here frame rest
+pub behind_place : (at : ℕ) (octets here rest : List ℕ) (frame : Frame) → here ≡ drop at octets → at ≤ length octets → IsFrameThen here frame rest
     → (length octets - length rest ≡ at + length (frame_text frame)) × (take (length octets - length rest) octets ≡ take at octets ++ frame_text frame)
 behind_place at octets here rest frame is_here within found =
     let text : List ℕ = frame_text frame in

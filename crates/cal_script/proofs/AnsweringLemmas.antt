@@ -4,11 +4,9 @@ use Rattle.std.specs.Prelude.{pos}
 use Rattle.std.proofs.lemmas.Bool.Decides.{leb_tells}
 use Rattle.std.proofs.lemmas.List.{append-nil, take-append-drop}
 use Rattle.cal_base.specs.World.Outside.{Rose, Adds}
-use Rattle.cal_book.specs.Cores.{Core}
 use Rattle.cal_base.proofs.World.Taking.{Adds-more}
 use Rattle.cal_model.specs.declared.wire.WireFault.{WireFault}
 use Rattle.cal_model.specs.declared.wire.WireRequest.{WireRequest}
-use Rattle.cal_model.specs.History.Journal.{Entry}
 use Rattle.cal_model.specs.Replies.WireReplies.{answer_octets, fault_octets}
 use Rattle.cal_model.specs.Requests.AskedRequests.{asked_of}
 use Rattle.cal_model.specs.State.ServerState.{ServerState}
@@ -17,27 +15,13 @@ use Rattle.cal_model.specs.Transcripts.ScriptFrames.{reply_frame}
 use Rattle.cal_model.specs.Transcripts.Transcript.{Answer, answer_to, without_memory, IsAnswer, Prints}
 use Rattle.cal_model.specs.Users.UsersFile.{User}
 use Rattle.cal_script.specs.declared.connections.Connection.{Connection}
-use Rattle.cal_script.specs.Answering.{Grows, GoesOn, answer_frame, IsAnswered, WroteAnswer, WroteAnswerInPart, WroteAll, WroteInPart, WroteBefore, StopsBy, IsStoppedBy}
+use Rattle.cal_script.specs.Answering.{answer_frame, IsAnswered, WroteAnswer, WroteAnswerInPart, WroteAll, WroteInPart, WroteBefore, StopsBy, IsStoppedBy}
 use Rattle.cal_script.specs.declared.answering.Stop.{Stop}
 use Rattle.cal_script.specs.declared.answering.Stop.TheVariants.{Unwritten as Stopped, Broken}
 use Rattle.cal_script.specs.declared.answering.Unwritten.{Unwritten}
 use Rattle.cal_script.specs.Readings.{IsReading, Rests}
 use Rattle.cal_model.proofs.Transcripts.ConnectionAnswerLaws.{streams_complete, completions_stay}
 use Rattle.cal_script.proofs.ReadingLemmas.{more_to_come}
-
--- Journals and books that go on
-
-pub grows_none : (journal : List Entry) → Grows journal journal
-grows_none journal = ([], sym (append-nil journal))
-
-pub grows_on : (a b c : List Entry) → Grows a b → Grows b c → Grows a c
-grows_on a b c (more, e) (rest, f) = (more ++ rest, f ∙ (ap (λ xs. xs ++ rest) e ∙ append_assoc a more rest))
-
-pub goes_on_none : (book : Core) → GoesOn book book
-goes_on_none book = record { out = refl; grows = grows_none book.work.journal }
-
-pub goes_on : (a b c : Core) → GoesOn a b → GoesOn b c → GoesOn a c
-goes_on a b c h k = record { out = k.out ∙ h.out; grows = grows_on _ _ _ h.grows k.grows }
 
 -- Output
 

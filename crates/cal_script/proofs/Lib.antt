@@ -5,9 +5,11 @@ pub mod ConnectionLemmas
 pub mod ReadingLemmas
 pub mod ReadersLaws
 pub mod AnsweringLemmas
+pub mod EnteringLemmas
 pub mod ReplyingLemmas
 pub mod SlotLemmas
 pub mod OutputLemmas
 pub mod AnsweredLemmas
 pub mod RunLemmas
 pub mod ScriptLemmas
+pub mod EnteredLemmas

@@ -1,10 +1,9 @@
 -- What the book's reply to a request answers, and what is left of it.
-use Rattle.std.proofs.Common.{◌≡◌, ◌≢◌, ℕ, ◌<◌, ◌≤◌, Bool, true, false, List, [], length, refl, sym, ap, ap₂, subst, ◌∙◌, inl, inr}
+use Rattle.std.proofs.Common.{◌≡◌, ◌≢◌, ℕ, ◌<◌, ◌≤◌, Bool, true, false, List, [], ◌∷◌, length, refl, sym, ap, ap₂, subst, ◌∙◌, inl, inr}
 use Rattle.std.specs.Prelude.{ℤ, pos}
 use Rattle.std.proofs.lemmas.Bool.{false≢true}
 use Rattle.std.proofs.lemmas.Bool.Decides.{eqb_tells}
 use Rattle.cal_base.specs.World.Outside.{Rose}
-use Rattle.std.proofs.lemmas.List.{append-nil}
 use Rattle.cal_model.specs.declared.reply.Reply.{Reply as ReplyData}
 use Rattle.cal_model.specs.declared.request.Event.{Event}
 use Rattle.cal_model.specs.declared.request.Request.{Request}
@@ -13,19 +12,20 @@ use Rattle.cal_model.specs.History.Claims.{Work}
 use Rattle.cal_model.specs.History.Journal.{replay, IsLegal}
 use Rattle.cal_model.specs.Replies.BareReplies.{bare_reply}
 use Rattle.cal_model.specs.Replies.Statuses.{reason}
-use Rattle.cal_model.specs.Requests.AskedRequests.{asked, asked_of}
+use Rattle.cal_model.specs.Requests.AskedRequests.{Asked, asked, asked_of}
 use Rattle.cal_model.specs.Requests.BookableRequests.{IsBookable}
 use Rattle.cal_model.specs.Serving.EventReplies.{reply_to}
 use Rattle.cal_model.specs.State.ServerState.{ServerState, directory_of}
 use Rattle.cal_model.specs.Transcripts.Transcript.{Answer, event_of, answer_to, IsAnswer}
 use Rattle.cal_model.specs.Users.UsersFile.{User}
 use Rattle.cal_book.specs.Cores.{Core, state_in}
-use Rattle.cal_book.specs.EventSteps.{entries_made, work_after, JournalsFollow}
+use Rattle.cal_book.specs.EventSteps.{journal_after, work_after, JournalsFollow}
 use Rattle.cal_book.specs.ReplyReasons.{RepliesHaveReasons}
 use Rattle.cal_book.specs.Desks.{IfReply, WhereBroken, TellsBroken, IsLeftBroken}
 use Rattle.cal_book.specs.declared.desk.Told.{Told}
 use Rattle.cal_book.specs.declared.desk.Told.TheVariants.{Reply, Broken}
-use Rattle.cal_script.specs.Answering.{Grows, GoesOn, IsBookOf, IsToldBy}
+use Rattle.cal_script.specs.Answering.{GoesOn, IsBookOf, IsToldBy}
+use Rattle.cal_script.specs.EnteredRequests.{events_by, EntersSome}
 use Rattle.cal_script.proofs.AnsweringLemmas.{rose_since}
 
 -- what the book says of a reply, and of itself after it
@@ -56,14 +56,20 @@ booked_answer users work connection who moment wire request reply new follow leg
       ∙ sym (ap (answer_to users (replay (directory_of users) work.journal) connection moment) asks))
 ]
 
-pub booked_goes_on : (users : List User) (work : Work) (connection who moment : ℕ) (request : Request) (reply : ReplyData) (new : Core)
-    → IsBooked users work connection who moment request reply new → (new.work.out ≡ work.out) × Grows work.journal new.work.journal
-booked_goes_on users work connection who moment request reply new h = elim (eqb_tells reply.status 503) [
-  | inl same ↦ (ap (λ (w : Work). w.out) (h.kept same.1), ([], ap (λ (w : Work). w.journal) (h.kept same.1) ∙ sym (append-nil work.journal)))
-  | inr other ↦ (
-    ap (λ (w : Work). w.out) (h.worked other.1),
-    (entries_made users (replay (directory_of users) work.journal) (event_of connection who moment request), ap (λ (w : Work). w.journal) (h.worked other.1)),
-  )
+-- the book goes on by an event: it is as it was, or as the event leaves it
+went_nowhere : (users : List User) (event : Event) (old new : Core) → new.work ≡ old.work → GoesOn users (event ∷ []) old new
+went_nowhere users event old new same =
+    record { out = ap (λ (w : Work). w.out) same; enters = (old.work.journal, inl refl, ap (λ (w : Work). w.journal) same) }
+
+went_on : (users : List User) (event : Event) (old new : Core) → new.work ≡ work_after users event old.work → GoesOn users (event ∷ []) old new
+went_on users event old new made =
+    record { out = ap (λ (w : Work). w.out) made; enters = (journal_after users event old.work.journal, inr refl, ap (λ (w : Work). w.journal) made) }
+
+booked_goes_on : (users : List User) (old : Core) (connection who moment : ℕ) (request : Request) (reply : ReplyData) (new : Core)
+    → IsBooked users old.work connection who moment request reply new → GoesOn users (event_of connection who moment request ∷ []) old new
+booked_goes_on users old connection who moment request reply new h = elim (eqb_tells reply.status 503) [
+  | inl same ↦ went_nowhere users (event_of connection who moment request) old new (h.kept same.1)
+  | inr other ↦ went_on users (event_of connection who moment request) old new (h.worked other.1)
 ]
 
 pub booked_reason : (users : List User) (work : Work) (connection who moment : ℕ) (request : Request) (reply : ReplyData) (new : Core)
@@ -123,26 +129,35 @@ pub told_reason : {X : Type 0} (told : Told X) (users : List User) (work : Work)
 told_reason (Reply reply) users work connection who moment request new reasons bookable h = booked_reason users work connection who moment request reply new reasons bookable h
 told_reason (Broken fault) users work connection who moment request new reasons bookable h = tt
 
--- The book goes on
-
 -- as an accepted change leaves it, or as it was
-left_on : (old new : Core) (event : Event) → IsLeftBroken old event new → GoesOn old new
-left_on old new event (inl same) = record { out = ap (λ (w : Work). w.out) same; grows = ([], ap (λ (w : Work). w.journal) same ∙ sym (append-nil old.work.journal)) }
-left_on old new event (inr made) = record { out = ap (λ (w : Work). w.out) made.0; grows = (entries_made old.users (state_in old) event, ap (λ (w : Work). w.journal) made.0) }
+left_on : (old new : Core) (event : Event) → IsLeftBroken old event new → GoesOn old.users (event ∷ []) old new
+left_on old new event (inl same) = went_nowhere old.users event old new same
+left_on old new event (inr made) = went_on old.users event old new made.0
 
-on_from : (old mid new : Core) → mid.work ≡ old.work → GoesOn mid new → GoesOn old new
-on_from old mid new e h =
-    record { out = h.out ∙ ap (λ (w : Work). w.out) e; grows = subst (λ (w : Work). Grows w.journal new.work.journal) e h.grows }
+on_from : (users : List User) (events : List Event) (old mid new : Core) → mid.work ≡ old.work → GoesOn users events mid new → GoesOn users events old new
+on_from users events old mid new e h = record {
+  out = h.out ∙ ap (λ (w : Work). w.out) e;
+  enters = subst (λ (w : Work). EntersSome users events w.journal new.work.journal) e h.enters;
+}
 
-pub told_on : {X : Type 0} (told : Told X) (users : List User) (old mid new : Core) (connection who moment : ℕ) (event : Event) (request : Request) (rose : Type 0) (broken : Bool)
-    → mid.work ≡ old.work → IfReply told (λ reply. IsBooked users old.work connection who moment request reply new)
-    → WhereBroken told (broken ≡ false → rose × IsLeftBroken mid event new) → (broken ≡ true → new ≡ mid) → GoesOn old new
-told_on (Reply reply) users old mid new connection who moment event request rose broken e booked breaks stays =
-    let on = booked_goes_on users old.work connection who moment request reply new booked in
-    record { out = on.0; grows = on.1 }
-told_on (Broken fault) users old mid new connection who moment event request rose true e booked breaks stays =
-    on_from old mid new e (left_on mid new event (inl (ap (λ (core : Core). core.work) (stays refl))))
-told_on (Broken fault) users old mid new connection who moment event request rose false e booked breaks stays = on_from old mid new e (left_on mid new event (breaks refl).1)
+-- the desk is broken: its book was left by the event, if it was not broken before
+left_by : (users : List User) (old mid new : Core) (event : Event) (rose : Type 0) (broken : Bool) → mid.users ≡ users → mid.work ≡ old.work
+    → (broken ≡ false → rose × IsLeftBroken mid event new) → (broken ≡ true → new ≡ mid) → GoesOn users (event ∷ []) old new
+left_by users old mid new event rose true e same breaks stays =
+    on_from users (event ∷ []) old mid new same (went_nowhere users event mid new (ap (λ (core : Core). core.work) (stays refl)))
+left_by users old mid new event rose false e same breaks stays =
+    on_from users (event ∷ []) old mid new same (subst (λ (known : List User). GoesOn known (event ∷ []) mid new) e (left_on mid new event (breaks refl).1))
+
+pub told_on : {X : Type 0} (told : Told X) (users : List User) (old mid new : Core) (connection who moment : ℕ) (time : ℤ) (asks : Asked) (request : Request) (rose : Type 0) (broken : Bool) → time ≡ pos moment
+    → asks ≡ asked who request → mid.users ≡ users → mid.work ≡ old.work → IfReply told (λ reply. IsBooked users old.work connection who moment request reply new)
+    → WhereBroken told (broken ≡ false → rose × IsLeftBroken mid (record { session = connection; who = who; moment = time; request = request }) new) → (broken ≡ true → new ≡ mid)
+    → GoesOn users (events_by connection moment asks) old new
+told_on (Reply reply) users old mid new connection who moment time asks request rose broken e asks_are known same booked breaks stays =
+    subst (λ a. GoesOn users (events_by connection moment a) old new) (sym asks_are) (booked_goes_on users old connection who moment request reply new booked)
+told_on (Broken fault) users old mid new connection who moment time asks request rose broken e asks_are known same booked breaks stays =
+    subst (λ a. GoesOn users (events_by connection moment a) old new) (sym asks_are)
+    (subst (λ (t : ℤ). GoesOn users (record { session = connection; who = who; moment = t; request = request } ∷ []) old new) e
+    (left_by users old mid new (record { session = connection; who = who; moment = time; request = request }) rose broken known same breaks stays))
 
 -- whether the desk is broken is what it told
 pub told_by : {X : Type 0} (told : Told X) (left : Type 0) (before mid after : Bool) (count counted counted_now : ℕ) → mid ≡ before → count ≤ counted → counted ≤ counted_now

@@ -46,7 +46,7 @@ no_frame_in_none frame more bounds e = omega (arith, ap length e, length-append 
 pub start_of_none : IsFrameStart []
 start_of_none = inl (record { lacks = All-nil (λ (c : ℕ). c ≢ 10); short = omega arith })
 
-takes_none : (left : Option (List ℕ)) → Takes left [] left
+pub takes_none : (left : Option (List ℕ)) → Takes left [] left
 takes_none None = tt
 takes_none (Some xs) = (xs, refl, refl)
 
@@ -180,7 +180,7 @@ stopped_reading users before left written place kept script left_now written_now
 }
 
 -- an input begins with what was taken from it
-input_of : (left left_now : Option (List ℕ)) (octets front behind : List ℕ) → Takes left octets left_now → octets ≡ front ++ behind
+pub input_of : (left left_now : Option (List ℕ)) (octets front behind : List ℕ) → Takes left octets left_now → octets ≡ front ++ behind
     → (input : List ℕ) × IfSome left (λ all. all ≡ input) × ((rest : List ℕ) × (input ≡ front ++ rest))
 input_of None left_now octets front behind took e = (front, tt, ([], sym (append-nil front)))
 input_of (Some xs) left_now octets front behind took e =

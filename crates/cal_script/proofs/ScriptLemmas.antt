@@ -20,8 +20,9 @@ use Rattle.cal_model.specs.Transcripts.Transcript.{Standing, stream_of, fed, Pri
 use Rattle.cal_model.specs.Users.UsersFile.{User}
 use Rattle.cal_book.specs.Publishing.{IsClaimIn, pair_of_claim}
 use Rattle.cal_book.specs.Cores.{Core, state_in}
-use Rattle.cal_script.specs.Answering.{Grows, GoesOn, IsBookOf, PrintsBefore, WroteAll, WroteInPart, WroteBefore}
+use Rattle.cal_script.specs.Answering.{GoesOnBy, IsBookOf, PrintsBefore, WroteAll, WroteInPart, WroteBefore}
 use Rattle.cal_script.specs.AnsweredFrames.{TookTurn, TookTurnInPart, BrokeInTurn}
+use Rattle.cal_script.specs.EnteredRequests.{FrameEnters}
 use Rattle.cal_script.specs.FrameHeads.{step_of}
 use Rattle.cal_script.specs.Readings.{Rests}
 use Rattle.cal_script.specs.SlotTurns.{IsSlotIn, IsHeld, IsKeptOrHeld, pair_in, out_without, SlotTurn, EndsClaim}
@@ -32,6 +33,7 @@ use Rattle.cal_script.specs.declared.head.Action.TheVariants as action
 use Rattle.cal_script.specs.declared.slots.Slot.{Slot}
 use Rattle.cal_script.specs.declared.slots.Slot.TheVariants.{Empty, Claimed, Expanded}
 use Rattle.cal_script.proofs.AnsweringLemmas.{adds_none}
+use Rattle.cal_script.proofs.EnteringLemmas.{Grows, enters_grows}
 
 -- Lists side by side
 
@@ -77,7 +79,7 @@ slots_stay : (before after : List Entry) (slots : List Slot) → Grows before af
 slots_stay before after slots (more, e) h k d within = subst (λ journal. IsSlotIn journal (get_or slots k d)) (sym e) (slot_stays before more (get_or slots k d) (h k d within))
 
 -- what a turn leaves: the journal as it was
-turn_journal : (what : Action) (before : Slot) (work : Work) (after : Slot) (now : Work) → SlotTurn what before work after now → now.journal ≡ work.journal
+pub turn_journal : (what : Action) (before : Slot) (work : Work) (after : Slot) (now : Work) → SlotTurn what before work after now → now.journal ≡ work.journal
 turn_journal action.Claim Empty work after now (inl h) = ap (λ (w : Work). w.journal) h.work_is
 turn_journal action.Claim Empty work after now (inr h) = ap (λ (w : Work). w.journal) h.1
 turn_journal action.Claim (Claimed claim) work after now h = ap (λ (w : Work). w.journal) h.1
@@ -251,19 +253,31 @@ all_kept kept out held i d within = by (held i d within) where
 
 -- The turn of octets that come
 
-pub sound_answered : (users : List User) (kept : List Pair) (script next : Running) (k : ℕ) (connection : Connection) → IsSound users kept script → IsBookOf users next.book → GoesOn script.book next.book
-    → next.connections ≡ slice_set script.connections k connection → next.slots ≡ script.slots → IsSound users kept next
-sound_answered users kept script next k connection sound book on connections slots = record {
-  book_of = book;
-  connections = ap length connections ∙ (length-set script.connections k connection ∙ sound.connections);
-  slots = ap length slots ∙ sound.slots;
-  claims = subst (λ xs. All (IsSlotIn next.book.work.journal) xs) (sym slots) (slots_stay script.book.work.journal next.book.work.journal script.slots on.grows sound.claims);
-  held = subst (λ xs. All (IsKeptOrHeld kept xs) next.book.work.out) (sym slots) (subst (λ pairs. All (IsKeptOrHeld kept script.slots) pairs) (sym on.out) sound.held);
-}
-
 stream_at : (standing : Standing) (script : Running) (k : ℕ) (d : Connection) → StandsAt standing script → k < length script.connections → Rests (stream_of standing k) (get_or script.connections k d)
 stream_at standing script k d stands h =
     subst (λ stream. Rests stream (get_or script.connections k d)) (sym (unwrap_or-slice_get standing.streams k [])) (side_at standing.streams script.connections k [] d stands.streams h)
+
+pub sound_answered : (users : List User) (kept : List Pair) (script next : Running) (k moment : ℕ) (payload : List ℕ) (connection d : Connection) → IsSound users kept script → (standing : Standing) × StandsAt standing script
+    → k < length script.connections → IsBookOf users next.book → ((stream : List ℕ) → Rests stream (get_or script.connections k d) → GoesOnBy users k moment stream payload script.book next.book)
+    → next.connections ≡ slice_set script.connections k connection → next.slots ≡ script.slots → IsSound users kept next
+sound_answered users kept script next k moment payload connection d sound (standing, stands) h book goes connections slots =
+    let on = goes (stream_of standing k) (stream_at standing script k d stands h) in
+    let grown = enters_grows users on.0 script.book.work.journal next.book.work.journal on.2.enters in
+    record {
+      book_of = book;
+      connections = ap length connections ∙ (length-set script.connections k connection ∙ sound.connections);
+      slots = ap length slots ∙ sound.slots;
+      claims = subst (λ xs. All (IsSlotIn next.book.work.journal) xs) (sym slots) (slots_stay script.book.work.journal next.book.work.journal script.slots grown sound.claims);
+      held = subst (λ xs. All (IsKeptOrHeld kept xs) next.book.work.out) (sym slots) (subst (λ pairs. All (IsKeptOrHeld kept script.slots) pairs) (sym on.2.out) sound.held);
+    }
+
+-- what the octets ask was entered, wherever the script stood
+pub bytes_entered : (users : List User) (standing : Standing) (script : Running) (now : Core) (k moment : ℕ) (payload : List ℕ) (d : Connection)
+    → StandsAt standing script → k < length script.connections → ((stream : List ℕ) → Rests stream (get_or script.connections k d) → GoesOnBy users k moment stream payload script.book now)
+    → FrameEnters users standing.streams (bytes k moment payload) script.book.work.journal now.work.journal
+bytes_entered users standing script now k moment payload d stands h goes =
+    let on = goes (stream_of standing k) (stream_at standing script k d stands h) in
+    (on.0, on.1, on.2.enters)
 
 pub took_bytes : (users : List User) (standing : Standing) (script next : Running) (k moment : ℕ) (payload : List ℕ) (connection d : Connection) (written now : Option (List ℕ))
     → StandsAt standing script → k < length script.connections → next.connections ≡ slice_set script.connections k connection
@@ -369,6 +383,9 @@ stands_turned standing script next what before after stands turn book_users conn
 pub took_worker : (users : List User) (standing : Standing) (next : Running) (what : Action) (k : ℕ) (written : Option (List ℕ))
     → StandsAt standing next → TookTurn users (worker (step_of what) k) standing next written written
 took_worker users standing next what k written stands = record { printed = []; after = standing; turn = (refl, refl); added = adds_none written; stands = stands }
+
+pub worker_entered : (users : List User) (streams : List (List ℕ)) (what : Action) (k : ℕ) (before after : List Entry) → after ≡ before → FrameEnters users streams (worker (step_of what) k) before after
+worker_entered users streams what k before after same = ([], refl, same)
 
 -- The start
 

@@ -1,12 +1,15 @@
 -- How far the frames of some octets were answered, and what was written of their replies.
 -- Given: the users, and where the script stood.
-use Rattle.std.specs.Prelude.{◌≡◌, ℕ, ◌≤◌, Bool, true, false, List, ◌++◌, length, take, drop, All, Option}
+use Rattle.std.specs.Prelude.{◌≡◌, ℕ, ◌≤◌, Bool, true, false, List, [], ◌∷◌, ◌++◌, length, take, drop, All, Option}
 use Rattle.cal_base.specs.World.Outside.{Rose, Adds}
+use Rattle.cal_model.specs.declared.request.Event.{Event}
+use Rattle.cal_model.specs.History.Journal.{Entry}
 use Rattle.cal_model.specs.Transcripts.ScriptFrames.{Frame, bytes, frame_text, frames_text, IsFrame}
 use Rattle.cal_model.specs.Transcripts.Transcript.{Standing, Turn, stream_of}
 use Rattle.cal_model.specs.Transcripts.TranscriptLaws.{Leads}
 use Rattle.cal_model.specs.Users.UsersFile.{User}
 use Rattle.cal_script.specs.Answering.{PrintsBefore}
+use Rattle.cal_script.specs.EnteredRequests.{EntersSome, FramesAsk, FrontEnters, streams_after}
 use Rattle.cal_script.specs.FirstFrames.{NeverBeginsFrame}
 use Rattle.cal_script.specs.FrameHeads.{IsFrameStart}
 use Rattle.cal_script.specs.Standings.{Running, StandsAt}
@@ -42,6 +45,11 @@ pub record BrokeInTurn (users : List User) (frame : Frame) (before : Standing) (
   pub added : Adds written printed now
 
 -- Frames
+
+-- what came on each connection once frames came too
+abbrev pub streams_behind : List (List ℕ) → List Frame → List (List ℕ)
+streams_behind streams [] = streams
+streams_behind streams (frame ∷ frames) = streams_behind (streams_after streams frame) frames
 
 -- the octets are whole frames; what they print was written, and the script stands where they leave it
 pub record AnsweredWhole (users : List User) (octets : List ℕ) (before : Standing) (script : Running) (written now : Option (List ℕ)) : Type 0 where
@@ -81,6 +89,18 @@ pub record BrokeAmong (users : List User) (octets : List ℕ) (before : Standing
   pub added : Adds written printed middle
   pub last : BrokeInTurn users frame there middle now
 
+-- the octets are whole frames, some of whose events were entered, and the script stands behind them
+pub record EnteredWhole (users : List User) (octets : List ℕ) (streams : List (List ℕ)) (journal : List Entry) (script : Running) : Type 0 where
+  pub frames : List Frame
+  pub bounds : All IsFrame frames
+  pub spelled : octets ≡ frames_text frames
+  pub events : List Event
+  pub ask : FramesAsk users streams frames events
+  pub enters : EntersSome users events journal script.book.work.journal
+  pub there : Standing
+  pub came : there.streams ≡ streams_behind streams frames
+  pub stands : StandsAt there script
+
 -- so many octets in front are whole frames that were answered
 pub record AnsweredTo (users : List User) (len : ℕ) (octets : List ℕ) (before : Standing) (script : Running) (written now : Option (List ℕ)) : Type 0 where
   pub within : len ≤ length octets
@@ -93,6 +113,11 @@ HasAnswered users (Bad len) octets before script written now = AnsweredTo users 
 HasAnswered users OutputFault octets before script written now = AnsweredInPart users octets before written now
 HasAnswered users NoMemory octets before script written now = AnsweredInPart users octets before written now
 HasAnswered users (Broken fault) octets before script written now = BrokeAmong users octets before written now
+
+-- what is said of an end of answering is so of the journal: of the frames in front alone where answering goes on behind them
+abbrev pub HasEntered : {X : Type 0} → List User → Answering X → List ℕ → List (List ℕ) → List Entry → Running → Type 0
+HasEntered users (Cut len) octets streams journal script = EnteredWhole users (take len octets) streams journal script
+HasEntered users other octets streams journal script = FrontEnters users streams octets journal script.book.work.journal
 
 -- whether the desk is broken, as `IsBrokenBy` says it of one turn
 abbrev pub IsLeftBy : {X : Type 0} → Answering X → Bool → ℕ → Bool → ℕ → Type 0

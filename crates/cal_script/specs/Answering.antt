@@ -2,8 +2,9 @@
 -- Given: the users, the number of a connection and a moment.
 use Rattle.std.specs.Prelude.{◌≡◌, ℕ, Bool, true, false, List, ◌∷◌, ◌++◌, take, pos, Option, Result, Ok, Err}
 use Rattle.cal_base.specs.World.Outside.{Rose, Adds}
+use Rattle.cal_model.specs.declared.request.Event.{Event}
 use Rattle.cal_model.specs.declared.wire.WireRequest.{WireRequest}
-use Rattle.cal_model.specs.History.Journal.{Entry, IsLegal}
+use Rattle.cal_model.specs.History.Journal.{IsLegal}
 use Rattle.cal_model.specs.Replies.WireReplies.{answer_octets}
 use Rattle.cal_model.specs.State.ServerState.{ServerState, directory_of}
 use Rattle.cal_model.specs.Transcripts.ConnectionAnswers.{Completed, whole, Completes}
@@ -13,22 +14,23 @@ use Rattle.cal_model.specs.Users.UsersFile.{User}
 use Rattle.cal_book.specs.Cores.{Core}
 use Rattle.cal_book.specs.declared.desk.Told.{Told}
 use Rattle.cal_book.specs.declared.desk.Told.TheVariants.{Reply, Broken as ToldBroken}
+use Rattle.cal_script.specs.EnteredRequests.{ArrivalAsks, EntersSome}
 use Rattle.cal_script.specs.declared.answering.Stop.{Stop}
 use Rattle.cal_script.specs.declared.answering.Stop.TheVariants.{Unwritten, Broken}
-
--- a journal has grown
-abbrev pub Grows : List Entry → List Entry → Type 0
-Grows before after = (more : List Entry) × (after ≡ before ++ more)
 
 -- the book is of these users, and legal
 pub record IsBookOf (users : List User) (book : Core) : Type 0 where
   pub users_are : book.users ≡ users
   pub legal : IsLegal (directory_of users) book.work.journal
 
--- answering changes nothing of the claims that are out; the journal grows
-pub record GoesOn (before after : Core) : Type 0 where
+-- answering changes nothing of the claims that are out; of these events, some were entered
+pub record GoesOn (users : List User) (events : List Event) (before after : Core) : Type 0 where
   pub out : after.work.out ≡ before.work.out
-  pub grows : Grows before.work.journal after.work.journal
+  pub enters : EntersSome users events before.work.journal after.work.journal
+
+-- so it went on with the events of what octets complete on a connection
+abbrev pub GoesOnBy : List User → ℕ → ℕ → List ℕ → List ℕ → Core → Core → Type 0
+GoesOnBy users number moment stream payload before after = (events : List Event) × ArrivalAsks users number moment stream payload events × GoesOn users events before after
 
 -- the answer to a request
 abbrev pub answer_frame : ℕ → ℕ → ℕ → WireRequest → Answer → List ℕ

@@ -2,6 +2,7 @@ pub mod FrameHeads
 pub mod FirstFrames
 pub mod UsersTaken
 pub mod Readings
+pub mod EnteredRequests
 pub mod Answering
 pub mod SlotTurns
 pub mod Standings

@@ -2,11 +2,13 @@
 ghost use Rattle.std.specs.Prelude.{◌≡◌, ◌≤◌, ◌<◌, ◌++◌, ℕ, List, length, OnOk, IsErrOf, pos, take};
 ghost use Rattle.cal_base.specs.World.Outside.{Rose, Adds};
 ghost use Rattle.cal_book.specs.Cores.{state_in};
+ghost use Rattle.cal_model.specs.Requests.AskedRequests.{asked_of};
 ghost use Rattle.cal_model.specs.Streams.WireLimits.{body_limit, request_limit};
 ghost use Rattle.cal_model.specs.Transcripts.ScriptFrames.{reply_frame};
 ghost use Rattle.cal_model.specs.Replies.WireReplies as spec;
 ghost use Rattle.cal_model.specs.Words.Limits.{last_moment};
-ghost use Rattle.cal_script.specs.Answering.{IsBookOf, GoesOn, WroteAnswer, WroteAnswerInPart, WroteAll, WroteInPart, WroteBefore, StopsSo, IsBrokenBy};
+ghost use Rattle.cal_script.specs.Answering.{IsBookOf, GoesOn, GoesOnBy, WroteAnswer, WroteAnswerInPart, WroteAll, WroteInPart, WroteBefore, StopsSo, IsBrokenBy};
+ghost use Rattle.cal_script.specs.EnteredRequests.{events_by};
 ghost use Rattle.cal_script.specs.Readings.{Rests};
 
 use crate::connections::{Connection, Due};
@@ -55,7 +57,7 @@ pub(crate) fn answer_arrival<B: Desk, O: Sink, L: Ledger>(
     ensures stopped { StopsSo result ((stream : List ℕ) → Rests stream connection.old → WroteInPart users.now arrival.entry.connection arrival.entry.moment stream arrival.entry.payload.now (state_in (B.book desk.old)) (O.written output.old) (O.written output.new)) ((stream : List ℕ) → Rests stream connection.old → WroteBefore users.now arrival.entry.connection arrival.entry.moment stream arrival.entry.payload.now (state_in (B.book desk.old)) (O.written output.old) (O.written output.new)) }
     ensures rests { OnOk result ((stream : List ℕ) → Rests stream connection.old → Rests (stream ++ arrival.entry.payload.now) connection.new) }
     ensures book { IsBookOf users.now (B.book desk.new) }
-    ensures goes_on { GoesOn (B.book desk.old) (B.book desk.new) }
+    ensures goes_on { (stream : List ℕ) → Rests stream connection.old → GoesOnBy users.now arrival.entry.connection arrival.entry.moment stream arrival.entry.payload.now (B.book desk.old) (B.book desk.new) }
     ensures broken { IsBrokenBy result (B.broken desk.old) (B.faults desk.old) (B.broken desk.new) (B.faults desk.new) }
     ensures desk_never_falls { B.faults desk.old ≤ B.faults desk.new }
     ensures fault { IsErrOf result (Stop.Unwritten Unwritten.Output) → Rose (O.faults output.old) (O.faults output.new) }
@@ -100,7 +102,7 @@ fn answer_request<B: Desk, O: Sink, L: Ledger>(
     ensures whole { OnOk result (WroteAnswer users.now arrival.entry.connection arrival.entry.moment before wire.now (state_in (B.book desk.old)) (state_in (B.book desk.new)) (O.written output.old) (O.written output.new)) }
     ensures stopped { StopsSo result (WroteAnswerInPart users.now arrival.entry.connection arrival.entry.moment before wire.now (state_in (B.book desk.old)) (O.written output.old) (O.written output.new)) (O.written output.new ≡ O.written output.old) }
     ensures book { IsBookOf users.now (B.book desk.new) }
-    ensures goes_on { GoesOn (B.book desk.old) (B.book desk.new) }
+    ensures goes_on { GoesOn users.now (events_by arrival.entry.connection arrival.entry.moment (asked_of users.now wire.now)) (B.book desk.old) (B.book desk.new) }
     ensures broken { IsBrokenBy result (B.broken desk.old) (B.faults desk.old) (B.broken desk.new) (B.faults desk.new) }
     ensures desk_never_falls { B.faults desk.old ≤ B.faults desk.new }
     ensures fault { IsErrOf result (Stop.Unwritten Unwritten.Output) → Rose (O.faults output.old) (O.faults output.new) }

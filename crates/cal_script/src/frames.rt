@@ -3,7 +3,7 @@ ghost use Rattle.std.specs.Prelude.{◌≡◌, ◌≤◌, List};
 ghost use Rattle.cal_base.specs.World.Outside.{Rose};
 ghost use Rattle.cal_model.specs.History.Claims.{Pair};
 ghost use Rattle.cal_model.specs.Transcripts.Transcript.{Standing};
-ghost use Rattle.cal_script.specs.AnsweredFrames.{HasAnswered, IsLeftBy};
+ghost use Rattle.cal_script.specs.AnsweredFrames.{HasAnswered, HasEntered, IsLeftBy};
 ghost use Rattle.cal_script.specs.Standings.{IsSound, StandsAt, running};
 
 use crate::answering::{Stop, Unwritten};
@@ -44,6 +44,7 @@ pub(crate) fn answer_frames<B: Desk, O: Sink, L: Ledger>(
     requires sound { (kept : List Pair) × IsSound users.now kept (running (B.book desk.old) script.old) }
     requires stands { (standing : Standing) × StandsAt standing (running (B.book desk.old) script.old) }
     ensures answered { (standing : Standing) → StandsAt standing (running (B.book desk.old) script.old) → HasAnswered users.now result octets.now standing (running (B.book desk.new) script.new) (O.written output.old) (O.written output.new) }
+    ensures entered { (standing : Standing) → StandsAt standing (running (B.book desk.old) script.old) → HasEntered users.now result octets.now standing.streams (B.book desk.old).work.journal (running (B.book desk.new) script.new) }
     ensures sound { (kept : List Pair) → IsSound users.now kept (running (B.book desk.old) script.old) → IsSound users.now kept (running (B.book desk.new) script.new) }
     ensures broken { IsLeftBy result (B.broken desk.old) (B.faults desk.old) (B.broken desk.new) (B.faults desk.new) }
     ensures desk_never_falls { B.faults desk.old ≤ B.faults desk.new }

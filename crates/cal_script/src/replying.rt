@@ -4,10 +4,12 @@ ghost use Rattle.cal_base.specs.World.Outside.{IsMoment};
 ghost use Rattle.cal_book.specs.Cores.{state_in};
 ghost use Rattle.cal_book.specs.Desks.{IfReply};
 ghost use Rattle.cal_model.specs.Replies.Statuses.{reason};
+ghost use Rattle.cal_model.specs.Requests.AskedRequests.{asked_of};
 ghost use Rattle.cal_model.specs.Streams.WireLimits.{body_limit, request_limit};
 ghost use Rattle.cal_model.specs.Transcripts.Transcript.{IsAnswer};
 ghost use Rattle.cal_model.specs.Words.Limits.{last_moment};
 ghost use Rattle.cal_script.specs.Answering.{IsBookOf, GoesOn, IsAnswered, IsBrokenBy, IsToldBy};
+ghost use Rattle.cal_script.specs.EnteredRequests.{events_by};
 
 use crate::answering::{Stop, Unwritten};
 use crate::frame::Arrival;
@@ -39,7 +41,7 @@ fn reply_to<B: Desk, L: Ledger>(
     ensures answer { IfReply result (λ reply. IsAnswer users.now (state_in (B.book desk.old)) arrival.entry.connection arrival.entry.moment wire.now (record { reply = reply; server = state_in (B.book desk.new) })) }
     ensures known { IfReply result (λ reply. 0 < length (reason reply.status)) }
     ensures book { IsBookOf users.now (B.book desk.new) }
-    ensures goes_on { GoesOn (B.book desk.old) (B.book desk.new) }
+    ensures goes_on { GoesOn users.now (events_by arrival.entry.connection arrival.entry.moment (asked_of users.now wire.now)) (B.book desk.old) (B.book desk.new) }
     ensures broken { IsToldBy result (B.broken desk.old) (B.faults desk.old) (B.broken desk.new) (B.faults desk.new) }
     ensures never_falls { B.faults desk.old ≤ B.faults desk.new }
 {
@@ -78,7 +80,7 @@ pub(crate) fn answer<B: Desk, L: Ledger>(
     requires body { length wire.now.body ≤ body_limit }
     ensures answered { IfOk result (IsAnswered users.now arrival.entry.connection arrival.entry.moment before wire.now (state_in (B.book desk.old)) (state_in (B.book desk.new))) }
     ensures book { IsBookOf users.now (B.book desk.new) }
-    ensures goes_on { GoesOn (B.book desk.old) (B.book desk.new) }
+    ensures goes_on { GoesOn users.now (events_by arrival.entry.connection arrival.entry.moment (asked_of users.now wire.now)) (B.book desk.old) (B.book desk.new) }
     ensures broken { IsBrokenBy result (B.broken desk.old) (B.faults desk.old) (B.broken desk.new) (B.faults desk.new) }
     ensures desk_never_falls { B.faults desk.old ≤ B.faults desk.new }
 {

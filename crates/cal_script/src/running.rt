@@ -7,6 +7,7 @@ ghost use Rattle.cal_model.specs.History.Claims.{Pair};
 ghost use Rattle.cal_model.specs.History.Journal.{IsLegal};
 ghost use Rattle.cal_model.specs.State.ServerState.{directory_of};
 ghost use Rattle.cal_model.specs.Transcripts.Transcript.{IsPrinted, IsPrintedInPart};
+ghost use Rattle.cal_script.specs.EnteredRequests.{IsEnteredBy};
 ghost use Rattle.cal_script.specs.ScriptEnds.{HasEnded, HasEndedOn, IsLeft};
 ghost use Rattle.cal_script.specs.Standings.{IsSound, StandsAt, running, standing_in};
 
@@ -92,6 +93,9 @@ pub fn run_frames<I: Source, O: Sink>(
 /// Where a request is asked and the desk tells that it is broken, the run ends with the desk's fault:
 /// the replies to the requests before it were written, and no part of another. A request that is
 /// refused as it stands is answered by a broken desk too.
+///
+/// However the run ends, the desk's journal goes on by entries of requests that frames at the front
+/// of the input complete, in their order, each once at most, and each with its connection as session.
 pub fn frames_on<B: Desk, I: Source, O: Sink>(
     alloc: Global,
     desk: &mut B,
@@ -101,6 +105,7 @@ pub fn frames_on<B: Desk, I: Source, O: Sink>(
 ) -> FramesOn<B::Fault>
     requires users { (B.book desk.old).users ≡ users.now }
     ensures ended { HasEndedOn users.now (state_in (B.book desk.old)) (state_in (B.book desk.new)) result (I.left input.old) (I.left input.new) (O.written output.old) (O.written output.new) }
+    ensures entered { IsEnteredBy users.now (I.left input.old) (B.book desk.old).work.journal (B.book desk.new).work.journal }
     ensures input_fault { result ≡ FramesOn.End FrameEnd.Input → Rose (I.faults input.old) (I.faults input.new) }
     ensures output_fault { result ≡ FramesOn.End FrameEnd.Output → Rose (O.faults output.old) (O.faults output.new) }
     ensures broken { IsLeft result (B.broken desk.old) (B.faults desk.old) (B.broken desk.new) (B.faults desk.new) }
@@ -146,6 +151,7 @@ fn run_under<B: Desk, I: Source, O: Sink, L: Ledger>(
     requires sound { (kept : List Pair) × IsSound users.now kept (running (B.book desk.old) script.old) }
     requires stands { StandsAt (standing_in (state_in (B.book desk.old))) (running (B.book desk.old) script.old) }
     ensures ended { HasEndedOn users.now (state_in (B.book desk.old)) (state_in (B.book desk.new)) result (I.left input.old) (I.left input.new) (O.written output.old) (O.written output.new) }
+    ensures entered { IsEnteredBy users.now (I.left input.old) (B.book desk.old).work.journal (B.book desk.new).work.journal }
     ensures sound { (kept : List Pair) → IsSound users.now kept (running (B.book desk.old) script.old) → IsSound users.now kept (running (B.book desk.new) script.new) }
     ensures input_fault { result ≡ FramesOn.End FrameEnd.Input → Rose (I.faults input.old) (I.faults input.new) }
     ensures output_fault { result ≡ FramesOn.End FrameEnd.Output → Rose (O.faults output.old) (O.faults output.new) }
@@ -171,6 +177,7 @@ fn run_counted<B: Desk, I: Source, O: Sink, L: Ledger>(
     requires sound { (kept : List Pair) × IsSound users.now kept (running (B.book desk.old) script.old) }
     requires stands { StandsAt (standing_in (state_in (B.book desk.old))) (running (B.book desk.old) script.old) }
     ensures ended { HasEndedOn users.now (state_in (B.book desk.old)) (state_in (B.book desk.new)) result (I.left input.old) (I.left input.new) (O.written output.old) (O.written output.new) }
+    ensures entered { IsEnteredBy users.now (I.left input.old) (B.book desk.old).work.journal (B.book desk.new).work.journal }
     ensures sound { (kept : List Pair) → IsSound users.now kept (running (B.book desk.old) script.old) → IsSound users.now kept (running (B.book desk.new) script.new) }
     ensures input_fault { result ≡ FramesOn.End FrameEnd.Input → Rose (I.faults input.old) (I.faults input.new) }
     ensures output_fault { result ≡ FramesOn.End FrameEnd.Output → Rose (O.faults output.old) (O.faults output.new) }

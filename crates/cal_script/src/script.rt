@@ -7,6 +7,7 @@ ghost use Rattle.cal_model.specs.Transcripts.ScriptFrames.{AreInBounds, IsFrame,
 ghost use Rattle.cal_model.specs.Transcripts.Transcript.{Standing};
 ghost use Rattle.cal_script.specs.AnsweredFrames.{TookTurn, TookTurnInPart, BrokeInTurn};
 ghost use Rattle.cal_script.specs.Answering.{StopsSo, IsBrokenBy};
+ghost use Rattle.cal_script.specs.EnteredRequests.{FrameEnters};
 ghost use Rattle.cal_script.specs.FirstFrames.{frame_of};
 ghost use Rattle.cal_script.specs.Readings.{Rests};
 ghost use Rattle.cal_script.specs.Standings.{IsSound, StandsAt, running};
@@ -83,6 +84,7 @@ pub(crate) fn take_turn<B: Desk, O: Sink, L: Ledger>(
     requires frame { IsFrame (frame_of frame) }
     ensures turn { OnOk result ((standing : Standing) → StandsAt standing (running (B.book desk.old) script.old) → TookTurn users.now (frame_of frame.entry) standing (running (B.book desk.new) script.new) (O.written output.old) (O.written output.new)) }
     ensures stopped { StopsSo result ((standing : Standing) → StandsAt standing (running (B.book desk.old) script.old) → TookTurnInPart users.now (frame_of frame.entry) standing (O.written output.old) (O.written output.new)) ((standing : Standing) → StandsAt standing (running (B.book desk.old) script.old) → BrokeInTurn users.now (frame_of frame.entry) standing (O.written output.old) (O.written output.new)) }
+    ensures entered { (standing : Standing) → StandsAt standing (running (B.book desk.old) script.old) → FrameEnters users.now standing.streams (frame_of frame.entry) (B.book desk.old).work.journal (B.book desk.new).work.journal }
     ensures sound { (kept : ListOf Pair) → IsSound users.now kept (running (B.book desk.old) script.old) → IsSound users.now kept (running (B.book desk.new) script.new) }
     ensures broken { IsBrokenBy result (B.broken desk.old) (B.faults desk.old) (B.broken desk.new) (B.faults desk.new) }
     ensures desk_never_falls { B.faults desk.old ≤ B.faults desk.new }
@@ -113,6 +115,7 @@ fn take_bytes<B: Desk, O: Sink, L: Ledger>(
     requires bounds { AreInBounds arrival.connection arrival.moment arrival.payload.now }
     ensures turn { OnOk result ((standing : Standing) → StandsAt standing (running (B.book desk.old) script.old) → TookTurn users.now (bytes arrival.entry.connection arrival.entry.moment arrival.entry.payload.now) standing (running (B.book desk.new) script.new) (O.written output.old) (O.written output.new)) }
     ensures stopped { StopsSo result ((standing : Standing) → StandsAt standing (running (B.book desk.old) script.old) → TookTurnInPart users.now (bytes arrival.entry.connection arrival.entry.moment arrival.entry.payload.now) standing (O.written output.old) (O.written output.new)) ((standing : Standing) → StandsAt standing (running (B.book desk.old) script.old) → BrokeInTurn users.now (bytes arrival.entry.connection arrival.entry.moment arrival.entry.payload.now) standing (O.written output.old) (O.written output.new)) }
+    ensures entered { (standing : Standing) → StandsAt standing (running (B.book desk.old) script.old) → FrameEnters users.now standing.streams (bytes arrival.entry.connection arrival.entry.moment arrival.entry.payload.now) (B.book desk.old).work.journal (B.book desk.new).work.journal }
     ensures sound { (kept : ListOf Pair) → IsSound users.now kept (running (B.book desk.old) script.old) → IsSound users.now kept (running (B.book desk.new) script.new) }
     ensures broken { IsBrokenBy result (B.broken desk.old) (B.faults desk.old) (B.broken desk.new) (B.faults desk.new) }
     ensures desk_never_falls { B.faults desk.old ≤ B.faults desk.new }
@@ -139,6 +142,7 @@ fn take_action<B: Desk, L: Ledger>(
     requires sound { (kept : ListOf Pair) × IsSound users.now kept (running (B.book desk.old) script.old) }
     requires bounds { slot ≤ last_slot }
     ensures stands { (standing : Standing) → StandsAt standing (running (B.book desk.old) script.old) → StandsAt standing (running (B.book desk.new) script.new) }
+    ensures journal { (B.book desk.new).work.journal ≡ (B.book desk.old).work.journal }
     ensures sound { (kept : ListOf Pair) → IsSound users.now kept (running (B.book desk.old) script.old) → IsSound users.now kept (running (B.book desk.new) script.new) }
     ensures broken { B.broken desk.new ≡ B.broken desk.old }
     ensures desk_never_falls { B.faults desk.old ≤ B.faults desk.new }

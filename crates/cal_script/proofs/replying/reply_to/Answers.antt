@@ -4,7 +4,7 @@ use mir.Val.{to_z, of_z}
 use Rattle.cal_model.specs.History.Journal.{IsLegal}
 use Rattle.cal_model.specs.State.ServerState.{directory_of}
 use Rattle.cal_model.specs.Users.UsersFile.{User}
-use Rattle.cal_script.proofs.AnsweringLemmas.{goes_on_none}
+use Rattle.cal_script.proofs.EnteringLemmas.{goes_on_none}
 use Rattle.cal_script.proofs.ReplyingLemmas.{told_booked, told_answer, told_reason, told_on, told_by}
 use Rattle.cal_script.proofs.replying.reply_to.Goals as goal
 
@@ -30,7 +30,8 @@ returns-in-Request-clause-book g c =
 pub returns-in-Request-clause-goes_on : goal.returns-in-Request-clause-goes_on
 returns-in-Request-clause-goes_on g c =
     let fits : FitsSigned w64 c.seconds.result = search (rules, c.seconds.type_inv) in
-    told_on c.ask.result c.args.users.now (g.B.Desk.book c.args.desk.now) (g.B.Desk.book c.reserve.new.self) (g.B.Desk.book c.ask.new.self) _ _ c.args.arrival.moment _ _ _ _ c.reserve.ensures.work
+    told_on c.ask.result c.args.users.now (g.B.Desk.book c.args.desk.now) (g.B.Desk.book c.reserve.new.self) (g.B.Desk.book c.ask.new.self) _ _ c.args.arrival.moment (to_z w64 (of_z w64 c.seconds.result)) _ _ _ _
+    (to_z-of_z w64 c.seconds.result fits ∙ c.seconds.ensures.value) c.in-Request.ensures.asked (c.reserve.ensures.users ∙ c.requires.book.users_are) c.reserve.ensures.work
     (told_booked c.ask.result c.args.users.now (g.B.Desk.book c.args.desk.now) (g.B.Desk.book c.reserve.new.self) (g.B.Desk.book c.ask.new.self) _ _ c.args.arrival.moment (to_z w64 (of_z w64 c.seconds.result)) _ (to_z-of_z w64 c.seconds.result fits ∙ c.seconds.ensures.value)
     c.requires.book.users_are c.reserve.ensures.users c.reserve.ensures.work c.ask.ensures.users c.ask.ensures.reply c.ask.ensures.work c.ask.ensures.busy)
     c.ask.ensures.breaks (λ broken. (c.ask.ensures.stays_broken broken).1)
@@ -44,10 +45,10 @@ pub returns-in-Refused-clause-known : goal.returns-in-Refused-clause-known
 returns-in-Refused-clause-known g c = c.replies_have_reasons.ensures.refused_before _ _ _ c.in-Refused.ensures.asked
 
 pub returns-in-Refused-clause-goes_on : goal.returns-in-Refused-clause-goes_on
-returns-in-Refused-clause-goes_on g c = goes_on_none _
+returns-in-Refused-clause-goes_on g c = goes_on_none _ _ _
 
 pub returns-in-NoMemory-clause-known : goal.returns-in-NoMemory-clause-known
 returns-in-NoMemory-clause-known g c = rw c.bare_reply.ensures c.replies_have_reasons.ensures.busy
 
 pub returns-in-NoMemory-clause-goes_on : goal.returns-in-NoMemory-clause-goes_on
-returns-in-NoMemory-clause-goes_on g c = goes_on_none _
+returns-in-NoMemory-clause-goes_on g c = goes_on_none _ _ _

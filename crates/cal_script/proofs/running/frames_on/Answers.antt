@@ -4,13 +4,18 @@ use Rattle.cal_model.specs.History.Journal.{IsLegal}
 use Rattle.cal_model.specs.State.ServerState.{directory_of}
 use Rattle.cal_book.specs.Cores.{state_in}
 use Rattle.cal_script.specs.Answering.{IsBookOf}
+use Rattle.cal_script.specs.EnteredRequests.{IsEnteredBy}
 use Rattle.cal_script.specs.Standings.{running, IsSound}
+use Rattle.cal_script.proofs.EnteredLemmas.{run_entered_none}
 use Rattle.cal_script.proofs.RunLemmas.{wrote_none, same_state, ended_later, left_later, told_book}
 use Rattle.cal_script.proofs.ScriptLemmas.{sound_start, stands_start}
 use Rattle.cal_script.proofs.running.frames_on.Goals as goal
 
 pub returns-in_default-clause-ended : goal.returns-in_default-clause-ended
 returns-in_default-clause-ended g c = wrote_none _ _ _ _
+
+pub returns-in_default-clause-entered : goal.returns-in_default-clause-entered
+returns-in_default-clause-entered g c = run_entered_none _ _ _
 
 pub returns-in_default-clause-claims : goal.returns-in_default-clause-claims
 returns-in_default-clause-claims g c = All-contains_itself _
@@ -36,6 +41,10 @@ pub returns-clause-ended : goal.returns-clause-ended
 returns-clause-ended g c =
     ended_later c.args.users.now _ (state_in (g.B.Desk.book c.run_under-end.new.desk)) (state_in (g.B.Desk.book c.give_up_all.new.desk)) c.run_under-end.result _ _ _ _
     (same_state (g.B.Desk.book c.run_under-end.new.desk) (g.B.Desk.book c.give_up_all.new.desk) c.give_up_all.ensures.users c.give_up_all.ensures.journal) c.run_under-end.ensures.ended
+
+pub returns-clause-entered : goal.returns-clause-entered
+returns-clause-entered g c =
+    subst (IsEnteredBy c.args.users.now (g.I.Source.left c.args.input.now) (g.B.Desk.book c.args.desk.now).work.journal) (sym c.give_up_all.ensures.journal) c.run_under-end.ensures.entered
 
 pub returns-clause-broken : goal.returns-clause-broken
 returns-clause-broken g c = left_later c.run_under-end.result _ _ _ _ _ _ c.give_up_all.ensures.broken c.give_up_all.ensures.never_falls c.run_under-end.ensures.broken

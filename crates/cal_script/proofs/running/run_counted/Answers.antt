@@ -1,16 +1,22 @@
 use Rattle.std.proofs.Common.{arith, subst, sym, ap, ◌∙◌, refl, length, length-drop, Err}
 use Rattle.std.proofs.lemmas.Grind.{common_steps}
+use Rattle.cal_book.specs.Cores.{state_in}
 use Rattle.cal_script.specs.FrameHeads.{IsFrameStart}
 use Rattle.cal_script.proofs.AnsweringLemmas.{rose_since}
+use Rattle.cal_script.proofs.EnteredLemmas.{run_enters_none, run_enters_more, run_enters_on, run_entered, run_entered_last, run_entered_none}
 use Rattle.cal_script.proofs.RunLemmas.{come_start, come_more, come_cut, bounded_next, start_of_none, at_end, bad_behind, stopped_reading, wrote_cut, wrote_before, wrote_none, broke_here}
 use Rattle.cal_script.proofs.running.run_counted.Goals as goal
 
 pub returns-in_default-clause-ended : goal.returns-in_default-clause-ended
 returns-in_default-clause-ended g c = wrote_none _ _ _ _
 
+pub returns-in_default-clause-entered : goal.returns-in_default-clause-entered
+returns-in_default-clause-entered g c = run_entered_none _ _ _
+
 pub reading-init : goal.reading-init
 reading-init g c = record {
   come = come_start _ _ _ _ _ _ c.new-kept.ensures c.requires.stands;
+  entered = run_enters_none _ (state_in (g.B.Desk.book c.args.desk.now)) _ _ _ c.new-kept.ensures c.requires.stands;
   sound = λ kept sound. sound;
   start = subst IsFrameStart (sym c.new-kept.ensures) start_of_none;
   bounded = λ some. absurd (omega (arith, some, ap length c.new-kept.ensures));
@@ -40,12 +46,23 @@ returns-in-Err-Input-clause-ended g c =
 pub returns-in-Err-NoMemory-clause-ended : goal.returns-in-Err-NoMemory-clause-ended
 returns-in-Err-NoMemory-clause-ended g c = wrote_before _ _ _ _ _ _ _ _ _ c.reading.invariant.come
 
+pub returns-in-Ok-eq0-clause-entered : goal.returns-in-Ok-eq0-clause-entered
+returns-in-Ok-eq0-clause-entered g c = run_entered _ _ _ _ _ _ c.reading.invariant.entered
+
+pub returns-in-Err-Input-clause-entered : goal.returns-in-Err-Input-clause-entered
+returns-in-Err-Input-clause-entered g c = run_entered _ _ _ _ _ _ c.reading.invariant.entered
+
+pub returns-in-Err-NoMemory-clause-entered : goal.returns-in-Err-NoMemory-clause-entered
+returns-in-Err-NoMemory-clause-entered g c = run_entered _ _ _ _ _ _ c.reading.invariant.entered
+
 pub reading-preserved : goal.reading-preserved
 reading-preserved g c =
     let more = come_more _ _ _ _ _ _ _ _ _ _ _ c.reading.invariant.come c.in-Ok-take_piece.ensures.goes in
     let cut = come_cut _ _ c.in-Cut.len _ _ _ _ _ _ _ _ _ _ _ c.as_slice.ensures c.behind_front-kept.ensures more c.in-Cut.ensures.answered in
     record {
       come = cut.0;
+      entered = run_enters_on _ c.in-Cut.len _ _ _ _ _ _ _ _ c.as_slice.ensures c.behind_front-kept.ensures
+          (run_enters_more _ _ _ _ _ _ _ _ c.reading.invariant.entered c.in-Ok-take_piece.ensures.goes) c.in-Cut.ensures.entered;
       sound = λ kept sound. c.in-Cut.ensures.sound kept (c.reading.invariant.sound kept sound);
       start = cut.1;
       bounded = bounded_next c.reading.place c.in-Cut.len _ _ _ _ _ _ c.reading.invariant.bounded c.in-Ok-take_piece.ensures.longer c.in-Ok-take_piece.ensures.allowed
@@ -73,6 +90,26 @@ returns-in-NoMemory-clause-ended g c =
 pub returns-in-Broken-clause-ended : goal.returns-in-Broken-clause-ended
 returns-in-Broken-clause-ended g c =
     broke_here _ _ _ _ _ _ _ _ _ _ _ c.as_slice.ensures (come_more _ _ _ _ _ _ _ _ _ _ _ c.reading.invariant.come c.in-Ok-take_piece.ensures.goes) c.in-Broken.ensures.answered
+
+pub returns-in-Bad-clause-entered : goal.returns-in-Bad-clause-entered
+returns-in-Bad-clause-entered g c =
+    run_entered_last _ _ _ _ _ _ _ _ c.as_slice.ensures
+    (run_enters_more _ _ _ _ _ _ _ _ c.reading.invariant.entered c.in-Ok-take_piece.ensures.goes) c.in-Bad.ensures.entered
+
+pub returns-in-OutputFault-clause-entered : goal.returns-in-OutputFault-clause-entered
+returns-in-OutputFault-clause-entered g c =
+    run_entered_last _ _ _ _ _ _ _ _ c.as_slice.ensures
+    (run_enters_more _ _ _ _ _ _ _ _ c.reading.invariant.entered c.in-Ok-take_piece.ensures.goes) c.in-OutputFault.ensures.entered
+
+pub returns-in-NoMemory-clause-entered : goal.returns-in-NoMemory-clause-entered
+returns-in-NoMemory-clause-entered g c =
+    run_entered_last _ _ _ _ _ _ _ _ c.as_slice.ensures
+    (run_enters_more _ _ _ _ _ _ _ _ c.reading.invariant.entered c.in-Ok-take_piece.ensures.goes) c.in-NoMemory.ensures.entered
+
+pub returns-in-Broken-clause-entered : goal.returns-in-Broken-clause-entered
+returns-in-Broken-clause-entered g c =
+    run_entered_last _ _ _ _ _ _ _ _ c.as_slice.ensures
+    (run_enters_more _ _ _ _ _ _ _ _ c.reading.invariant.entered c.in-Ok-take_piece.ensures.goes) c.in-Broken.ensures.entered
 
 pub returns-in-Bad-clause-sound : goal.returns-in-Bad-clause-sound
 returns-in-Bad-clause-sound g c = λ kept sound. c.in-Bad.ensures.sound kept (c.reading.invariant.sound kept sound)

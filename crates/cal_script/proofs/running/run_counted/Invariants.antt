@@ -3,13 +3,15 @@ use Rattle.cal_book.specs.Cores.{state_in}
 use Rattle.cal_model.specs.History.Claims.{Pair}
 use Rattle.cal_script.specs.FrameHeads.{IsFrameStart}
 use Rattle.cal_script.specs.Standings.{IsSound, running, standing_in}
+use Rattle.cal_script.proofs.EnteredLemmas.{HasEnteredSoFar}
 use Rattle.cal_script.proofs.RunLemmas.{HasCome}
 use Rattle.cal_script.proofs.running.run_counted.Given as goal
 
--- how far the run has come; what is kept is the start of a frame; the octets are at most all that a source may give; the desk is as broken as it was, and no count fell
+-- how far the run has come, and what it has entered; what is kept is the start of a frame; the octets are at most all that a source may give; the desk is as broken as it was, and no count fell
 abbrev pub invariant-reading : goal.invariant-reading
 invariant-reading g l = record {
   come : HasCome l.users (standing_in (state_in (g.B.Desk.book l.fn.desk))) (g.I.Source.left l.fn.input) (g.O.Sink.written l.fn.output) l.place l.kept (running (g.B.Desk.book l.desk) l.script) (g.I.Source.left l.input) (g.O.Sink.written l.output);
+  entered : HasEnteredSoFar l.users (g.I.Source.left l.fn.input) (g.B.Desk.book l.fn.desk).work.journal l.kept (running (g.B.Desk.book l.desk) l.script) (g.I.Source.left l.input);
   sound : (kept : List Pair) → IsSound l.users kept (running (g.B.Desk.book l.fn.desk) l.fn.script) → IsSound l.users kept (running (g.B.Desk.book l.desk) l.script);
   start : IsFrameStart l.kept;
   bounded : 0 < l.place + length l.kept → l.place + length l.kept + g.I.Source.allowance l.input ≤ 2 ^ 62;
