@@ -15,8 +15,20 @@ Commands:
   script  reads a script of requests from standard input and prints the replies
 
 Options:
-  --help     prints help, also behind the name of serve or load
+  --help     prints help, also behind the name of a command
   --version  prints the version
+";
+
+/// The help of the command `script`.
+pub(crate) const SCRIPT_HELP: &str =
+    "Reads a script of requests from standard input, and prints the replies
+
+Usage: caldav_server script --users <FILE>
+
+Options:
+      --users <FILE>  Who may come in: a line `user NAME SHA256` for each, the SHA-256 of the password in hexadecimal digits
+  -h, --help          Print help
+  -V, --version       Print version
 ";
 
 /// The help or the version of a command, where its words ask for it.

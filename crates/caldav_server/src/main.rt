@@ -16,7 +16,7 @@ mod serve_words;
 mod sessions;
 mod telling_door;
 
-use crate::help::{HELP, asked_text};
+use crate::help::{HELP, SCRIPT_HELP, asked_text};
 use crate::load::run_load;
 use crate::load_words::load_command;
 use crate::options::VERSION;
@@ -36,12 +36,12 @@ fn main(rt: HostRuntime) -> ExitCode {
     if is_answered(&rt, &words) {
         return ExitCode::SUCCESS;
     }
-    if first_word(&words) == "serve" {
+    if word_at(&words, 0) == "serve" {
         let mut door = TellingDoor::new(&rt, TcpDoor::new(&rt));
         let end = run_serve(&rt, rt.alloc(), &words, &mut StdFiles::new(&rt), &mut door);
         return ended(&rt, "serve", end);
     }
-    if first_word(&words) == "load" {
+    if word_at(&words, 0) == "load" {
         let end = run_load(&rt, rt.alloc(), &words, &mut StdSink::new(&rt));
         return ended(&rt, "load", end);
     }
@@ -80,9 +80,9 @@ fn words(rt: &HostRuntime) -> Result<List<Word>, NoMemory> {
     Ok(words)
 }
 
-/// The first word, if there is one.
-fn first_word(words: &List<Word>) -> &str {
-    match words.get(0) {
+/// The word at a place, if there is one.
+fn word_at(words: &List<Word>, place: usize) -> &str {
+    match words.get(place) {
         Some(word) => word.as_str(),
         None => "",
     }
@@ -90,14 +90,9 @@ fn first_word(words: &List<Word>) -> &str {
 
 /// Prints help or the version where the words ask for it, and says whether they do.
 fn is_answered(rt: &HostRuntime, words: &List<Word>) -> bool {
-    let first = first_word(words);
-    if first == "--help" || first == "-h" {
-        let _ = print!(rt; "{HELP}");
-        return true;
-    }
-    if first == "--version" || first == "-V" {
-        let _ = println!(rt; "caldav_server {VERSION}");
-        return true;
+    let first = word_at(words, 0);
+    if first == "script" {
+        return is_told(rt, word_at(words, 1), SCRIPT_HELP);
     }
     if first == "serve" {
         if let Some(text) = asked_text(serve_command(rt.alloc()), words.as_slice()) {
@@ -110,6 +105,19 @@ fn is_answered(rt: &HostRuntime, words: &List<Word>) -> bool {
             let _ = text.print(rt);
             return true;
         }
+    }
+    is_told(rt, first, HELP)
+}
+
+/// Prints this help, or the version, where the word asks for it, and says whether it does.
+fn is_told(rt: &HostRuntime, word: &str, help: &str) -> bool {
+    if word == "--help" || word == "-h" {
+        let _ = print!(rt; "{help}");
+        return true;
+    }
+    if word == "--version" || word == "-V" {
+        let _ = println!(rt; "caldav_server {VERSION}");
+        return true;
     }
     false
 }
