@@ -234,14 +234,14 @@ def tests(picked):
     found = []
     for name in BELOW:
         if "#[test]" in "".join(text for _, text in all_sources(name)):
-            found.append((name if name.endswith("_tests") else f"{name}-tests", name, True))
+            found.append((name if name.startswith("tests_") else f"{name}-tests", name, True))
         if os.path.exists(os.path.join(TOP, "crates", name, "stdout")) and not name.endswith("_bench"):
             found.append((name, name, False))
     found.append(("workers.py", "caldav_server", None))
     if picked:
         by_label = {one[0]: one for one in found}
         return [by_label[label] for label in picked.split(",")]
-    first, slow = ["base_tests", "script_cases", "session_cases", "caldav_server-tests"], ["recurrence_tests", "workers.py"]
+    first, slow = ["tests_base", "script_cases", "session_cases", "caldav_server-tests"], ["tests_recurrence", "workers.py"]
     order = {label: place for place, label in enumerate(first + [None] + slow)}
     return sorted(found, key=lambda one: (order.get(one[0], len(first)), len(BELOW[one[1]])))
 

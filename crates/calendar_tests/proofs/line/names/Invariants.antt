@@ -1,6 +1,0 @@
-use Rattle.std.proofs.Common.{◌≡◌, length}
-use Rattle.calendar_tests.proofs.line.names.Given as goal
-
--- a name for each text so far
-abbrev pub invariant-loop-text : goal.invariant-loop-text
-invariant-loop-text l = length l.list ≡ l.text-index

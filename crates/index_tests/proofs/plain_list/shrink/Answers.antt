@@ -1,7 +1,0 @@
-use Rattle.std.proofs.Common.{◌∙◌, sym, arith}
-use Rattle.cal_model.proofs.Pieces.PieceListLaws.{within_done}
-use Rattle.index_tests.proofs.plain_list.shrink.Goals as goal
-
-pub returns-clause-pieces : goal.returns-clause-pieces
-returns-clause-pieces c =
-    sym (within_done c.args.room c.loop-left.pieces.items (omega arith)) ∙ c.loop-left.invariant.same

@@ -1,6 +1,0 @@
-use Rattle.range_tests.proofs.ZoneTables.{RisesBelow}
-use Rattle.range_tests.proofs.zones.restless.Given as goal
-
--- the onsets so far make a table, and lie before the next second
-abbrev pub invariant-loop-k : goal.invariant-loop-k
-invariant-loop-k l = RisesBelow l.onsets l.k

@@ -1,8 +1,0 @@
-use Rattle.std.proofs.Common.{◌<◌}
-use Rattle.std.specs.Prelude.{All}
-use Rattle.std.specs.Int.{IsInRange}
-use Rattle.recurrence_tests.proofs.rule_cases.numbers.Given as goal
-
--- what was kept so far
-abbrev pub invariant-loop-number : goal.invariant-loop-number
-invariant-loop-number l = All (IsInRange l.low l.high) l.list

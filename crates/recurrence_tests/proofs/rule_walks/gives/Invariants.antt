@@ -1,6 +1,0 @@
-use Rattle.cal_model.specs.Recurrence.NextPassing.{IsWritten}
-use Rattle.recurrence_tests.proofs.rule_walks.gives.Given as goal
-
--- the next moment to ask from is a written one
-abbrev pub invariant-days : goal.invariant-days
-invariant-days g l = IsWritten l.from

@@ -1,4 +1,0 @@
-use Rattle.shown_tests.proofs.showing.rows.Given as goal
-
-abbrev pub ghosts-rows_counted : goal.ghosts-rows_counted
-ghosts-rows_counted a = record { name = a.blank.name; parts = a.blank.parts }

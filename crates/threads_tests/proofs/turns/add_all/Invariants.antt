@@ -1,5 +1,0 @@
-use Rattle.std.proofs.Common.{◌≡◌, false}
-use Rattle.threads_tests.proofs.turns.add_all.Given as goal
-
-abbrev pub invariant-loop-item : goal.invariant-loop-item
-invariant-loop-item g l = record { same : l.pass.lock ≡ l.lock; free : l.pass.holds_turn ≡ false }
