@@ -1,6 +1,7 @@
 //! How long a connection is read and written, over a connection of the machine to itself and a clock
 //! that the test sets.
 
+use crate::tcp::connection;
 use cal_base::{Failed, Link, TcpLink};
 use std::io;
 use std::io::Write;
@@ -52,25 +53,38 @@ fn answers(
     }
 }
 
+/// Whether calls one after another answer so.
+fn all_answer(
+    link: &mut TcpLink<StandingClock<'_>>,
+    twin: &TcpStream,
+    second: &AtomicU64,
+    calls: &[Call],
+) -> io::Result<bool> {
+    for call in calls {
+        if !answers(link, twin, second, call)? {
+            return Ok(false);
+        }
+    }
+    Ok(true)
+}
+
+/// Sends ten octets at once, and gives a second handle of the other side.
+fn twin_behind_octets(client: &mut TcpStream, stream: &TcpStream) -> io::Result<TcpStream> {
+    client.write_all(b"0123456789")?;
+    stream.try_clone()
+}
+
 /// Whether calls of a connection that is made at second 1000 answer so. Ten octets come at once.
 fn calls_answer<R: Net<Listener = TcpListener, Stream = TcpStream>>(
     rt: &R,
     calls: &[Call],
 ) -> io::Result<bool> {
+    let (mut client, stream) = connection(rt)?;
+    let twin = twin_behind_octets(&mut client, &stream)?;
     let second = AtomicU64::new(1000);
     let clock = StandingClock { second: &second };
-    let listener = TcpListener::bind(rt, "127.0.0.1:0")?;
-    let mut client = TcpStream::connect(rt, listener.local_addr()?)?;
-    let (stream, _) = listener.accept()?;
-    let twin = stream.try_clone()?;
     let mut link = TcpLink::new(&clock, stream);
-    client.write_all(b"0123456789")?;
-    for call in calls {
-        if !answers(&mut link, &twin, &second, call)? {
-            return Ok(false);
-        }
-    }
-    Ok(true)
+    all_answer(&mut link, &twin, &second, calls)
 }
 
 /// A read may wait ten seconds, or what is left of thirty from the first octet on.

@@ -52,11 +52,21 @@ fn four_reads(
 ) -> Result<([Option<usize>; 4], Octets), NoMemory> {
     let mut source = source(alloc, b"abcdef", failing, allowance)?;
     let mut kept = Octets::new(alloc);
-    let first = read_some(&mut source, sizes[0], &mut kept)?;
-    let second = read_some(&mut source, sizes[1], &mut kept)?;
-    let third = read_some(&mut source, sizes[2], &mut kept)?;
-    let fourth = read_some(&mut source, sizes[3], &mut kept)?;
-    Ok(([first, second, third, fourth], kept))
+    let counts = read_four(&mut source, sizes, &mut kept)?;
+    Ok((counts, kept))
+}
+
+/// Four reads of a source, whose octets are kept.
+fn read_four(
+    source: &mut MemorySource,
+    sizes: [usize; 4],
+    kept: &mut Octets,
+) -> Result<[Option<usize>; 4], NoMemory> {
+    let first = read_some(source, sizes[0], kept)?;
+    let second = read_some(source, sizes[1], kept)?;
+    let third = read_some(source, sizes[2], kept)?;
+    let fourth = read_some(source, sizes[3], kept)?;
+    Ok([first, second, third, fourth])
 }
 
 /// Whether four reads of these sizes give these counts, and these octets in all.
@@ -201,20 +211,31 @@ fn length_read(
     Ok(octets.len())
 }
 
+/// Paths of these files and limits, each with how many octets are read, or why none.
+const FILES: [(&str, u64, Result<usize, FileFault>); 7] = [
+    ("users", 4, Ok(4)),
+    ("users", 3, Err(FileFault::TooLong)),
+    ("users", 5, Ok(4)),
+    ("empty", 0, Ok(0)),
+    ("absent", 9, Err(FileFault::Failed)),
+    ("users", 9, Err(FileFault::Failed)),
+    ("users", 0, Err(FileFault::TooLong)),
+];
+
+/// Whether the files of the table are read so, one after another.
+fn are_whole_or_refused(alloc: Global, files: &mut MemoryFiles) -> bool {
+    for (path, limit, want) in FILES {
+        if length_read(alloc, files, path, limit) != want {
+            return false;
+        }
+    }
+    true
+}
+
 #[test]
 fn memory_files_are_whole_or_refused(rt: HostRuntime) -> Result<(), Fail> {
     let mut files = three_files(rt.alloc())?;
-    for (path, limit, want) in [
-        ("users", 4, Ok(4)),
-        ("users", 3, Err(FileFault::TooLong)),
-        ("users", 5, Ok(4)),
-        ("empty", 0, Ok(0)),
-        ("absent", 9, Err(FileFault::Failed)),
-        ("users", 9, Err(FileFault::Failed)),
-        ("users", 0, Err(FileFault::TooLong)),
-    ] {
-        assert!(rt; length_read(rt.alloc(), &mut files, path, limit) == want);
-    }
+    assert!(rt; are_whole_or_refused(rt.alloc(), &mut files));
     Ok(())
 }
 
@@ -234,14 +255,22 @@ fn accepted(rt: &impl Wait, door: &mut MemoryDoor) -> Option<usize> {
     }
 }
 
+/// Whether a door opens at the second call, and gives links with so many octets, or none.
+fn gives_links(rt: &impl Wait, door: &mut MemoryDoor, wanted: [Option<usize>; 4]) -> bool {
+    let first = door.open("anywhere");
+    let second = door.open("anywhere");
+    for want in wanted {
+        if accepted(rt, door) != want {
+            return false;
+        }
+    }
+    first == Err(Failed) && second == Ok(())
+}
+
 #[test]
 fn memory_door_gives_its_links_in_order(rt: HostRuntime) -> Result<(), Fail> {
     let mut door = two_links(rt.alloc(), &[0, 3])?;
-    assert!(rt; door.open("anywhere") == Err(Failed));
-    assert!(rt; door.open("anywhere") == Ok(()));
-    for want in [Some(5), None, Some(7), None] {
-        assert!(rt; accepted(&rt, &mut door) == want);
-    }
+    assert!(rt; gives_links(&rt, &mut door, [Some(5), None, Some(7), None]));
     Ok(())
 }
 
@@ -253,13 +282,18 @@ fn has_another(rt: &impl Wait, alloc: Global, door: &mut MemoryDoor) -> bool {
     }
 }
 
+/// Whether another door is made at the second call, and the clock of the first one stands after a rest.
+fn makes_another(rt: &impl Wait, alloc: Global, door: &mut MemoryDoor) -> bool {
+    let first = has_another(rt, alloc, door);
+    let second = has_another(rt, alloc, door);
+    door.rest(rt);
+    !first && second && door.clock().now() == 1741600000
+}
+
 #[test]
 fn memory_door_makes_another(rt: HostRuntime) -> Result<(), Fail> {
     let mut door = two_links(rt.alloc(), &[0])?;
-    assert!(rt; !has_another(&rt, rt.alloc(), &mut door));
-    assert!(rt; has_another(&rt, rt.alloc(), &mut door));
-    door.rest(&rt);
-    assert!(rt; door.clock().now() == 1741600000);
+    assert!(rt; makes_another(&rt, rt.alloc(), &mut door));
     OpenGate::new().pass(&rt, 7);
     Ok(())
 }
@@ -276,15 +310,30 @@ fn clocks_give_a_moment(rt: HostRuntime) {
     assert!(rt; 1735689600 < now && now < 253402300799);
 }
 
-/// How many octets a source gives in all, and how many the next read gives.
-fn length_and_rest(
+/// Whether a source gives so many octets up to a limit, and so many to the next read.
+fn is_read_so(
     alloc: Global,
     source: &mut MemorySource,
     limit: u64,
-) -> Result<(Result<usize, ReadEnd>, Option<usize>), NoMemory> {
+    want: Result<usize, ReadEnd>,
+    then: Option<usize>,
+) -> Result<bool, NoMemory> {
     let got = read_up_to(alloc, source, limit).map(|octets| octets.len());
     let rest = read_some(source, 8, &mut Octets::new(alloc))?;
-    Ok((got, rest))
+    Ok(got == want && rest == then)
+}
+
+/// The same of a source of six octets, one of whose calls fails.
+fn six_are_read_so(
+    alloc: Global,
+    failing: u64,
+    allowance: u64,
+    limit: u64,
+    want: Result<usize, ReadEnd>,
+    then: Option<usize>,
+) -> Result<bool, NoMemory> {
+    let mut source = source(alloc, b"abcdef", failing, allowance)?;
+    is_read_so(alloc, &mut source, limit, want, then)
 }
 
 #[test]
@@ -299,8 +348,7 @@ fn reading_stops_at_the_limit(rt: HostRuntime) -> Result<(), Fail> {
         (0, 100, 6, Err(ReadEnd::Failed), Some(6)),
         (1, 100, 6, Err(ReadEnd::Failed), Some(0)),
     ] {
-        let mut source = source(rt.alloc(), b"abcdef", failing, allowance)?;
-        assert!(rt; length_and_rest(rt.alloc(), &mut source, limit)? == (want, then));
+        assert!(rt; six_are_read_so(rt.alloc(), failing, allowance, limit, want, then)?);
     }
     Ok(())
 }

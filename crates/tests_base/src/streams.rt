@@ -173,15 +173,24 @@ fn length_read<F: Files>(
     Ok(octets.len())
 }
 
+/// Whether a file of four octets is whole up to those limits, and refused at a lower one.
+fn is_whole_or_refused<F: Files>(alloc: Global, files: &mut F, path: &str) -> bool {
+    for (limit, want) in [(5, Ok(4)), (4, Ok(4)), (3, Err(FileFault::TooLong))] {
+        if length_read(alloc, files, path, limit) != want {
+            return false;
+        }
+    }
+    true
+}
+
 #[test]
 fn files_of_the_system_are_whole_or_refused(rt: HostRuntime) -> Result<(), Fail> {
-    let path = format!(in rt.alloc(); "/tmp/base_tests-{}", std::process::id(rt.process()))?;
-    fs::write(&rt, path.as_str(), "abcd")?;
+    let path = format!(in rt.alloc(); "/tmp/tests_base-{}", std::process::id(rt.process()))?;
     let mut files = StdFiles::new(&rt);
-    for (limit, want) in [(5, Ok(4)), (4, Ok(4)), (3, Err(FileFault::TooLong))] {
-        assert!(rt; length_read(rt.alloc(), &mut files, path.as_str(), limit) == want);
-    }
+    fs::write(&rt, path.as_str(), "abcd")?;
+    let is_read = is_whole_or_refused(rt.alloc(), &mut files, path.as_str());
     fs::remove_file(&rt, path.as_str())?;
-    assert!(rt; length_read(rt.alloc(), &mut files, path.as_str(), 5) == Err(FileFault::Failed));
+    let gone = length_read(rt.alloc(), &mut files, path.as_str(), 5);
+    assert!(rt; is_read && gone == Err(FileFault::Failed));
     Ok(())
 }

@@ -6,6 +6,7 @@ use std::alloc::Global;
 use std::io;
 use std::io::{Read, Write};
 use std::net::{Net, Shutdown, SocketAddr, TcpListener, TcpStream};
+use std::sync::Wait;
 use std::test::Fail;
 use std::time::Duration;
 
@@ -62,19 +63,68 @@ fn a_door_that_is_not_open_fails(rt: HostRuntime) {
     assert!(rt; 0 < door.clock().now());
 }
 
+/// Whether a client's question comes over a link, and the reply to it back.
+fn is_heard<L: Link>(alloc: Global, client: &mut TcpStream, link: &mut L) -> Result<bool, Fail> {
+    asks(client)?;
+    let is_answered = is_answered(alloc, link, b"hello")?;
+    Ok(is_answered && hears(client)?)
+}
+
+/// Whether a door accepts the connection of a client, and serves it to its end.
+fn accepts<D: Door, R: Wait>(
+    rt: &R,
+    alloc: Global,
+    door: &mut D,
+    client: &mut TcpStream,
+) -> Result<bool, Fail> {
+    match door.accept(rt) {
+        Ok(mut link) => is_heard(alloc, client, &mut link),
+        Err(_) => Ok(false),
+    }
+}
+
+/// Whether another door than the one that was opened serves a client at an address.
+fn another_serves<D: Door, R: Net<Listener = TcpListener, Stream = TcpStream> + Wait>(
+    rt: &R,
+    alloc: Global,
+    door: &mut D,
+    address: SocketAddr,
+) -> Result<bool, Fail> {
+    let mut client = TcpStream::connect(rt, address)?;
+    match door.another(alloc) {
+        Ok(mut other) => accepts(rt, alloc, &mut other, &mut client),
+        Err(_) => Ok(false),
+    }
+}
+
 #[test]
 fn a_connection_is_accepted_and_closes(rt: HostRuntime) -> Result<(), Fail> {
     let address = free_address(&rt)?;
     let text = format!(in rt.alloc(); "{address}")?;
     let mut door = TcpDoor::new(&rt);
-    assert!(rt; door.open(text.as_str()) == Ok(()));
-    let mut other = door.another(rt.alloc()).ok().ok_or("another door")?;
-    let mut client = TcpStream::connect(&rt, address)?;
-    let mut link = other.accept(&rt).ok().ok_or("a link")?;
-    asks(&mut client)?;
-    assert!(rt; is_answered(rt.alloc(), &mut link, b"hello")?);
-    assert!(rt; hears(&mut client)?);
+    let is_open = door.open(text.as_str()) == Ok(());
+    assert!(rt; is_open && another_serves(&rt, rt.alloc(), &mut door, address)?);
     Ok(())
+}
+
+/// The client's side of a connection to a listener of the machine, and the other side.
+fn connected<R: Net<Listener = TcpListener, Stream = TcpStream>>(
+    rt: &R,
+    listener: &TcpListener,
+) -> io::Result<(TcpStream, TcpStream)> {
+    let client = TcpStream::connect(rt, listener.local_addr()?)?;
+    match listener.accept() {
+        Ok((stream, _)) => Ok((client, stream)),
+        Err(error) => Err(error),
+    }
+}
+
+/// The two sides of a connection of the machine to itself.
+pub fn connection<R: Net<Listener = TcpListener, Stream = TcpStream>>(
+    rt: &R,
+) -> io::Result<(TcpStream, TcpStream)> {
+    let listener = TcpListener::bind(rt, "127.0.0.1:0")?;
+    connected(rt, &listener)
 }
 
 /// Whether a connection waits so long for the other side, and holds no small write back.
@@ -82,16 +132,18 @@ fn has_options(stream: &TcpStream, time: Option<Duration>) -> io::Result<bool> {
     Ok(stream.nodelay()? && stream.read_timeout()? == time && stream.write_timeout()? == time)
 }
 
-/// A second handle of the connection sees the options of the one that is in the link.
+/// Whether a link sets the options of its connection, as a second handle of it shows.
+fn sets_options<C: std::rt::Clock + Copy + Drop>(clock: &C, stream: TcpStream, twin: &TcpStream) -> bool {
+    let time = Some(Duration::from_secs(LINK_TIMEOUT_SECONDS));
+    let before = has_options(twin, time).ok();
+    let _link = TcpLink::new(clock, stream);
+    before == Some(false) && has_options(twin, time).ok() == Some(true)
+}
+
 #[test]
 fn a_link_sets_its_time_out(rt: HostRuntime) -> Result<(), Fail> {
-    let listener = TcpListener::bind(&rt, "127.0.0.1:0")?;
-    let _client = TcpStream::connect(&rt, listener.local_addr()?)?;
-    let (stream, _) = listener.accept()?;
+    let (_client, stream) = connection(&rt)?;
     let twin = stream.try_clone()?;
-    let time = Some(Duration::from_secs(LINK_TIMEOUT_SECONDS));
-    assert!(rt; !has_options(&twin, time)?);
-    let _link = TcpLink::new(&rt, stream);
-    assert!(rt; has_options(&twin, time)?);
+    assert!(rt; sets_options(&rt, stream, &twin));
     Ok(())
 }

@@ -38,13 +38,18 @@ fn ends_are_taken(list: &mut List<u32>) -> bool {
     last == Some(9) && first == Some(5) && list.as_slice() == [7].as_slice()
 }
 
+/// Whether a list and a copy of it are the four numbers, and each is its own.
+fn are_apart(list: &mut List<u32>, copy: &List<u32>) -> bool {
+    let are_same = are_four_numbers(list) && copy == list;
+    let is_copied = sum_of(copy) == 29 && copy.iter().rev().next().copied() == Some(9);
+    are_same && is_copied && ends_are_taken(list) && copy != list
+}
+
 #[test]
 fn lists(rt: HostRuntime) -> Result<(), Fail> {
     let mut list = four_numbers(rt.alloc())?;
     let copy = list.clone()?;
-    assert!(rt; are_four_numbers(&list) && copy == list);
-    assert!(rt; sum_of(&copy) == 29 && copy.iter().rev().next().copied() == Some(9));
-    assert!(rt; ends_are_taken(&mut list) && copy != list);
+    assert!(rt; are_apart(&mut list, &copy));
     assert!(rt; List::from_vec(copy.into_vec()).len() == 4);
     Ok(())
 }
@@ -97,15 +102,23 @@ fn shared_values(rt: HostRuntime) -> Result<(), Fail> {
     Ok(())
 }
 
+/// Whether a second owner of an empty list finds nothing in it.
+fn none_is_shared() -> Result<bool, NoMemory> {
+    let none = SharedList::try_clone(&SharedList::<u8>::new())?;
+    Ok(none.len() == 0)
+}
+
+/// A second owner of a list of three octets, whose first owner is gone.
+fn second_owner(alloc: Global) -> Result<SharedList<u8>, NoMemory> {
+    let first = SharedList::of(alloc, Octets::of(alloc, b"one")?)?;
+    SharedList::try_clone(&first)
+}
+
 #[test]
 fn a_shared_list_outlives_its_first_owner(rt: HostRuntime) -> Result<(), Fail> {
-    let first = SharedList::of(rt.alloc(), Octets::of(rt.alloc(), b"one")?)?;
-    let second = SharedList::try_clone(&first)?;
-    let none = SharedList::try_clone(&SharedList::<u8>::new())?;
-    drop(first);
-    assert!(rt; second.as_slice() == b"one".as_slice());
-    assert_eq!(rt; second.len(), 3);
-    assert_eq!(rt; none.len(), 0);
+    assert!(rt; none_is_shared()?);
+    let second = second_owner(rt.alloc())?;
+    assert!(rt; second.as_slice() == b"one".as_slice() && second.len() == 3);
     Ok(())
 }
 
