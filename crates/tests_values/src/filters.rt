@@ -1,10 +1,14 @@
 //! Filters over one event, with the answers worked out by hand from RFC 4791, 9.7 and 9.9: each row
 //! of a table is a filter and whether the event matches it.
+ghost use Rattle.std.specs.Prelude.{◌≡◌, [], All};
+ghost use Rattle.cal_model.specs.TimeZones.TableBounds.{IsTable};
+ghost use Rattle.overlap_rules.specs.Bounds.{IsNearRow};
 
 use crate::event::{MIDNIGHT, object, rows, utc};
 use cal_base::{List, Name, NoMemory, Octets};
 use cal_model::{
-    Collation, CompFilter, Filter, ParamFilter, ParamTest, PropFilter, PropTest, Range, TextMatch,
+    Collation, CompFilter, Filter, Object, ParamFilter, ParamTest, PropFilter, PropTest, Range,
+    Row, TextMatch, ZoneTable,
 };
 use cal_moment::Utc;
 use filter_eval::{Prepared, matches};
@@ -68,14 +72,47 @@ pub fn text(
     })
 }
 
-/// Whether the event matches, by the call for one object and by a filter made ready.
-fn answers(alloc: Global, filter: &Filter) -> Result<(bool, bool), NoMemory> {
-    let object = object(alloc)?;
-    let rows = rows(alloc)?;
-    let zone = utc(alloc);
-    let alone = matches(alloc, filter, &object, &rows, &zone)?;
+/// Whether an object matches a filter that is made ready.
+fn matches_ready(
+    alloc: Global,
+    filter: &Filter,
+    object: &Object,
+    rows: &List<Row>,
+    zone: &ZoneTable,
+) -> Result<bool, NoMemory>
+    requires zones { object.now.zones ≡ [] }
+    requires rows { All IsNearRow rows.now }
+    requires zone { IsTable zone.now }
+{
     let prepared = Prepared::of(alloc, filter)?;
-    Ok((alone, prepared.matches(alloc, &object, &rows, &zone)?))
+    prepared.matches(alloc, object, rows, zone)
+}
+
+/// Whether an object matches a filter or not, as it is said, by the call for one object and by a
+/// filter made ready.
+fn answer_so(
+    alloc: Global,
+    filter: &Filter,
+    object: &Object,
+    rows: &List<Row>,
+    expected: bool,
+) -> Result<bool, NoMemory>
+    requires zones { object.now.zones ≡ [] }
+    requires rows { All IsNearRow rows.now }
+{
+    let zone = utc(alloc);
+    let alone = matches(alloc, filter, object, rows, &zone)?;
+    let ready = matches_ready(alloc, filter, object, rows, &zone)?;
+    Ok(alone == expected && ready == expected)
+}
+
+/// The same of the event, which is not looked at again.
+fn answers(alloc: Global, filter: Filter, expected: bool) -> Result<bool, NoMemory> {
+    let rows = rows(alloc)?;
+    match object(alloc) {
+        Ok(object) => answer_so(alloc, &filter, &object, &rows, expected),
+        Err(NoMemory) => Err(NoMemory),
+    }
 }
 
 /// Components in ranges: the name, whether it is not to be there, the range, the answer.
@@ -95,7 +132,7 @@ fn component_in_range(rt: HostRuntime) -> Result<(), Fail> {
     for (name, absent, range, expected) in RANGES {
         let time = range.map(|range| minutes(range.0, range.1));
         let filter = calendar(alloc, comp(alloc, name, absent, time)?)?;
-        assert_eq!(rt; answers(alloc, &filter)?, (expected, expected));
+        assert!(rt; answers(alloc, filter, expected)?);
     }
     Ok(())
 }
@@ -111,15 +148,21 @@ const ALARMS: [((u16, u16), (u16, u16), bool); 6] = [
     ((480, 540), (525, 526), false),
 ];
 
+/// A filter of the events of a range that have an alarm in another.
+fn alarm(alloc: Global, outer: Range, inner: Range) -> Result<Filter, NoMemory> {
+    let mut event = comp(alloc, b"VEVENT", false, Some(outer))?;
+    event
+        .comps
+        .push(comp(alloc, b"VALARM", false, Some(inner))?)?;
+    calendar(alloc, event)
+}
+
 #[test]
 fn alarm_in_range(rt: HostRuntime) -> Result<(), Fail> {
     let alloc = rt.alloc();
     for (outer, inner, expected) in ALARMS {
-        let alarm = comp(alloc, b"VALARM", false, Some(minutes(inner.0, inner.1)))?;
-        let mut event = comp(alloc, b"VEVENT", false, Some(minutes(outer.0, outer.1)))?;
-        event.comps.push(alarm)?;
-        let filter = calendar(alloc, event)?;
-        assert_eq!(rt; answers(alloc, &filter)?, (expected, expected));
+        let filter = alarm(alloc, minutes(outer.0, outer.1), minutes(inner.0, inner.1))?;
+        assert!(rt; answers(alloc, filter, expected)?);
     }
     Ok(())
 }
@@ -162,7 +205,7 @@ fn text_of_property(rt: HostRuntime) -> Result<(), Fail> {
     for (name, wanted, collation, negate, expected) in TEXTS {
         let test = PropTest::Text(text(alloc, wanted, collation, negate)?);
         let filter = property(alloc, name, test, List::new(alloc))?;
-        assert_eq!(rt; answers(alloc, &filter)?, (expected, expected));
+        assert!(rt; answers(alloc, filter, expected)?);
     }
     Ok(())
 }
@@ -182,7 +225,7 @@ fn date_in_range(rt: HostRuntime) -> Result<(), Fail> {
     for (name, range, expected) in DATES {
         let test = PropTest::Time(minutes(range.0, range.1));
         let filter = property(alloc, name, test, List::new(alloc))?;
-        assert_eq!(rt; answers(alloc, &filter)?, (expected, expected));
+        assert!(rt; answers(alloc, filter, expected)?);
     }
     Ok(())
 }
@@ -202,11 +245,11 @@ fn ben(alloc: Global, test: ParamTest) -> Result<Filter, NoMemory> {
 fn parameter_of_the_same_line(rt: HostRuntime) -> Result<(), Fail> {
     let alloc = rt.alloc();
     let defined = ben(alloc, ParamTest::Defined)?;
-    assert_eq!(rt; answers(alloc, &defined)?, (false, false));
+    assert!(rt; answers(alloc, defined, false)?);
     let absent = ben(alloc, ParamTest::Absent)?;
-    assert_eq!(rt; answers(alloc, &absent)?, (true, true));
+    assert!(rt; answers(alloc, absent, true)?);
     let test = text(alloc, b"declined", Collation::AsciiCasemap, true)?;
     let negated = ben(alloc, ParamTest::Text(test))?;
-    assert_eq!(rt; answers(alloc, &negated)?, (false, false));
+    assert!(rt; answers(alloc, negated, false)?);
     Ok(())
 }

@@ -19,36 +19,64 @@ fn moments(alloc: Global, count: usize) -> Result<Octets, NoMemory> {
     Ok(value)
 }
 
+/// The zones of a calendar that has none.
+fn no_zones(alloc: Global) -> Result<ZoneNames, NoMemory> {
+    ZoneNames::of(alloc, &names(alloc, &[])?)
+}
+
+/// Whether there are so many stamps, each of that moment.
+fn are_moments(stamps: &[Stamp], count: usize) -> bool {
+    for stamp in stamps {
+        if *stamp != Stamp::Utc(Utc(868_887_000)) {
+            return false;
+        }
+    }
+    stamps.len() == count
+}
+
+/// Whether a value is read as so many of those moments, or has its first bad octet there.
+fn is_read_so(alloc: Global, value: &[u8], wanted: Result<usize, u64>) -> Result<bool, NoMemory> {
+    let rdate = line(alloc, b"RDATE", &[], value)?;
+    match (read_stamps(alloc, &rdate, &no_zones(alloc)?), wanted) {
+        (Ok(stamps), Ok(count)) => Ok(are_moments(stamps.as_slice(), count)),
+        (Err(ValueFault::Bad { place }), Err(at)) => Ok(place == at),
+        _ => Ok(false),
+    }
+}
+
 #[test]
 fn a_list_of_262_144_octets_is_read(rt: HostRuntime) -> Result<(), Fail> {
-    let zones = ZoneNames::of(rt.alloc(), &names(rt.alloc(), &[])?)?;
     let mut value = moments(rt.alloc(), 15_420)?;
-    assert_eq!(rt; value.len(), 262_139);
-    let rdate = line(rt.alloc(), b"RDATE", &[], value.as_slice())?;
-    let stamps = read_stamps(rt.alloc(), &rdate, &zones)
-        .ok()
-        .ok_or("no stamps")?;
-    assert_eq!(rt; stamps.len(), 15_420);
-    for stamp in &stamps {
-        assert_eq!(rt; *stamp, Stamp::Utc(Utc(868_887_000)));
-    }
+    assert!(rt; value.len() == 262_139);
+    assert!(rt; is_read_so(rt.alloc(), value.as_slice(), Ok(15_420))?);
     value.extend_from_slice(b",1997")?;
-    let rdate = line(rt.alloc(), b"RDATE", &[], value.as_slice())?;
-    let fault = read_stamps(rt.alloc(), &rdate, &zones).err();
-    assert!(rt; fault == Some(ValueFault::Bad { place: 262_144 }));
+    assert!(rt; is_read_so(rt.alloc(), value.as_slice(), Err(262_144))?);
     Ok(())
+}
+
+/// A line feed as it is escaped, so many times.
+fn escaped_lines(alloc: Global, count: usize) -> Result<Octets, NoMemory> {
+    let mut text = Octets::new(alloc);
+    for _ in 0..count {
+        text.extend_from_slice(b"\\n")?;
+    }
+    Ok(text)
+}
+
+/// Whether a text is so many line feeds.
+fn are_lines(text: &[u8], count: usize) -> bool {
+    for octet in text {
+        if *octet != b'\n' {
+            return false;
+        }
+    }
+    text.len() == count
 }
 
 #[test]
 fn a_text_of_262_144_octets_loses_its_escapes(rt: HostRuntime) -> Result<(), Fail> {
-    let mut text = Octets::new(rt.alloc());
-    for _ in 0..131_072 {
-        text.extend_from_slice(b"\\n")?;
-    }
+    let text = escaped_lines(rt.alloc(), 131_072)?;
     let plain = unescape(rt.alloc(), text.as_slice())?;
-    assert_eq!(rt; plain.len(), 131_072);
-    for octet in &plain {
-        assert_eq!(rt; *octet, b'\n');
-    }
+    assert!(rt; are_lines(plain.as_slice(), 131_072));
     Ok(())
 }

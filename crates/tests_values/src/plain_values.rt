@@ -51,71 +51,116 @@ const INTEGERS: [(&[u8], Option<i32>); 14] = [
     (b"12a", None),
 ];
 
+/// Texts of REPEAT, and their numbers.
+const REPEATS: [(&[u8], Option<u32>); 4] = [
+    (b"4", Some(4)),
+    (b"-0", Some(0)),
+    (b"-1", None),
+    (b"x", None),
+];
+
 #[test]
-fn integers_are_read(rt: HostRuntime) -> Result<(), Fail> {
+fn integers_are_read(rt: HostRuntime) {
     for (text, number) in INTEGERS {
-        assert_eq!(rt; read_integer(text), number);
+        assert!(rt; read_integer(text) == number);
     }
-    assert_eq!(rt; read_repeat(b"4"), Some(4));
-    assert_eq!(rt; read_repeat(b"-0"), Some(0));
-    assert_eq!(rt; read_repeat(b"-1"), None);
-    assert_eq!(rt; read_repeat(b"x"), None);
-    Ok(())
+    for (text, number) in REPEATS {
+        assert!(rt; read_repeat(text) == number);
+    }
 }
 
-fn bad<T>(place: u64) -> Result<T, Bad> {
-    Err(Bad { place })
-}
-
-fn length<E>(days: i64, seconds: i64) -> Result<Length, E> {
-    Ok(Length { days, seconds })
-}
-
-#[test]
-fn durations_are_read(rt: HostRuntime) -> Result<(), Fail> {
-    assert_eq!(rt; read_duration(b"P15DT5H0M20S"), length(15, 18_020));
-    assert_eq!(rt; read_duration(b"P7W"), length(49, 0));
-    assert_eq!(rt; read_duration(b"-PT15M"), length(0, -900));
-    assert_eq!(rt; read_duration(b"+PT0S"), length(0, 0));
-    assert_eq!(rt; read_duration(b""), bad(0));
-    assert_eq!(rt; read_duration(b"PT"), bad(2));
-    assert_eq!(rt; read_duration(b"P15D5H"), bad(4));
-    assert_eq!(rt; read_duration(b"P1WT1H"), bad(3));
-    assert_eq!(rt; read_duration(b"PT1H1H"), bad(5));
-    assert_eq!(rt; read_duration(b"P1234567890D"), bad(10));
-    Ok(())
-}
-
-#[test]
-fn offsets_are_read(rt: HostRuntime) -> Result<(), Fail> {
-    assert_eq!(rt; read_utc_offset(b"-0500"), Ok(-18_000));
-    assert_eq!(rt; read_utc_offset(b"+0100"), Ok(3_600));
-    assert_eq!(rt; read_utc_offset(b"+053028"), Ok(19_828));
-    assert_eq!(rt; read_utc_offset(b"0100"), bad(0));
-    assert_eq!(rt; read_utc_offset(b"+2400"), bad(2));
-    assert_eq!(rt; read_utc_offset(b"+0160"), bad(3));
-    assert_eq!(rt; read_utc_offset(b"+01000"), bad(6));
-    Ok(())
-}
-
-#[test]
-fn moments_are_read(rt: HostRuntime) -> Result<(), Fail> {
-    assert_eq!(rt; read_moment(b"19980119T070000Z"), Ok(Utc(885_193_200)));
-    assert_eq!(rt; read_moment(b"19980119T070000"), Ok(Utc(885_193_200)));
-    // A leap second is the second before it.
-    assert_eq!(rt; read_moment(b"19970630T235960Z"), Ok(Utc(867_715_199)));
-    assert_eq!(rt; read_moment(b"19980119"), bad(8));
-    assert_eq!(rt; read_moment(b"19980119T230000-0800"), bad(15));
-    assert_eq!(rt; read_moment(b"19980229T000000Z"), bad(7));
-    Ok(())
-}
+/// Texts of lengths, and their days and seconds or the bad place.
+const DURATIONS: [(&[u8], Result<Length, Bad>); 10] = [
+    (
+        b"P15DT5H0M20S",
+        Ok(Length {
+            days: 15,
+            seconds: 18_020,
+        }),
+    ),
+    (
+        b"P7W",
+        Ok(Length {
+            days: 49,
+            seconds: 0,
+        }),
+    ),
+    (
+        b"-PT15M",
+        Ok(Length {
+            days: 0,
+            seconds: -900,
+        }),
+    ),
+    (
+        b"+PT0S",
+        Ok(Length {
+            days: 0,
+            seconds: 0,
+        }),
+    ),
+    (b"", Err(Bad { place: 0 })),
+    (b"PT", Err(Bad { place: 2 })),
+    (b"P15D5H", Err(Bad { place: 4 })),
+    (b"P1WT1H", Err(Bad { place: 3 })),
+    (b"PT1H1H", Err(Bad { place: 5 })),
+    (b"P1234567890D", Err(Bad { place: 10 })),
+];
 
 #[test]
-fn words_have_no_case(rt: HostRuntime) -> Result<(), Fail> {
-    assert!(rt; is_word(b"cancelled", b"CANCELLED"));
-    assert!(rt; is_word(b"CANCELLED", b"CANCELLED"));
-    assert!(rt; !is_word(b"CANCELLE", b"CANCELLED"));
-    assert!(rt; !is_word(b"CANCELLEDX", b"CANCELLED"));
-    assert!(rt; !is_word(b"", b"CANCELLED"));
-    Ok(())
+fn durations_are_read(rt: HostRuntime) {
+    for (text, length) in DURATIONS {
+        assert!(rt; read_duration(text) == length);
+    }
+}
+
+/// Texts of offsets, and their seconds or the bad place.
+const OFFSETS: [(&[u8], Result<i32, Bad>); 7] = [
+    (b"-0500", Ok(-18_000)),
+    (b"+0100", Ok(3_600)),
+    (b"+053028", Ok(19_828)),
+    (b"0100", Err(Bad { place: 0 })),
+    (b"+2400", Err(Bad { place: 2 })),
+    (b"+0160", Err(Bad { place: 3 })),
+    (b"+01000", Err(Bad { place: 6 })),
+];
+
+#[test]
+fn offsets_are_read(rt: HostRuntime) {
+    for (text, offset) in OFFSETS {
+        assert!(rt; read_utc_offset(text) == offset);
+    }
+}
+
+/// Texts of moments, and their seconds or the bad place. A leap second is the second before it.
+const MOMENTS: [(&[u8], Result<Utc, Bad>); 6] = [
+    (b"19980119T070000Z", Ok(Utc(885_193_200))),
+    (b"19980119T070000", Ok(Utc(885_193_200))),
+    (b"19970630T235960Z", Ok(Utc(867_715_199))),
+    (b"19980119", Err(Bad { place: 8 })),
+    (b"19980119T230000-0800", Err(Bad { place: 15 })),
+    (b"19980229T000000Z", Err(Bad { place: 7 })),
+];
+
+#[test]
+fn moments_are_read(rt: HostRuntime) {
+    for (text, moment) in MOMENTS {
+        assert!(rt; read_moment(text) == moment);
+    }
+}
+
+/// Texts, and whether they are the word CANCELLED.
+const WORDS: [(&[u8], bool); 5] = [
+    (b"cancelled", true),
+    (b"CANCELLED", true),
+    (b"CANCELLE", false),
+    (b"CANCELLEDX", false),
+    (b"", false),
+];
+
+#[test]
+fn words_have_no_case(rt: HostRuntime) {
+    for (text, is_it) in WORDS {
+        assert!(rt; is_word(text, b"CANCELLED") == is_it);
+    }
 }
