@@ -2,7 +2,7 @@
 
 use crate::telling::{told_object, told_zone};
 use cal_model::Kind;
-use std::test::Fail;
+use std::alloc::Global;
 
 /// A text, the word that is told of it, and a place, or 0.
 type Case = (&'static [u8], &'static [u8], u64);
@@ -129,14 +129,17 @@ const NO_CALENDARS: [(&[u8], u64); 26] = [
     ),
 ];
 
+/// Whether a text is told as an object by this word and number.
+fn is_told(alloc: Global, text: &[u8], word: &[u8], number: u64) -> bool {
+    let found = told_object(alloc, text);
+    found.word == word && found.number == number
+}
+
 #[test]
-fn faults_have_places(rt: HostRuntime) -> Result<(), Fail> {
+fn faults_have_places(rt: HostRuntime) {
     for (text, place) in NO_CALENDARS {
-        let found = told_object(rt.alloc(), text);
-        assert!(rt; found.word == b"no calendar".as_slice());
-        assert_eq!(rt; found.number, place);
+        assert!(rt; is_told(rt.alloc(), text, b"no calendar", place));
     }
-    Ok(())
 }
 
 /// Calendars that are not stored as objects.
@@ -210,13 +213,10 @@ const NOT_STORED: [Case; 11] = [
 ];
 
 #[test]
-fn what_is_not_stored_is_told(rt: HostRuntime) -> Result<(), Fail> {
+fn what_is_not_stored_is_told(rt: HostRuntime) {
     for (text, word, number) in NOT_STORED {
-        let found = told_object(rt.alloc(), text);
-        assert!(rt; found.word == word);
-        assert_eq!(rt; found.number, number);
+        assert!(rt; is_told(rt.alloc(), text, word, number));
     }
-    Ok(())
 }
 
 /// Texts with two faults, and the one that is told.
@@ -324,13 +324,10 @@ const ORDERS: [Case; 18] = [
 ];
 
 #[test]
-fn the_first_of_two_faults_is_told(rt: HostRuntime) -> Result<(), Fail> {
+fn the_first_of_two_faults_is_told(rt: HostRuntime) {
     for (text, word, number) in ORDERS {
-        let found = told_object(rt.alloc(), text);
-        assert!(rt; found.word == word);
-        assert_eq!(rt; found.number, number);
+        assert!(rt; is_told(rt.alloc(), text, word, number));
     }
-    Ok(())
 }
 
 /// Objects with a date outside those that are served: their kind, and the day of the date that is told, from 1970.
@@ -378,15 +375,17 @@ const OUTSIDE: [(&[u8], Kind, i64); 7] = [
     ),
 ];
 
+/// Whether a text is told as an object of a kind with a date of this day outside.
+fn is_outside(alloc: Global, text: &[u8], kind: Kind, day: i64) -> bool {
+    let found = told_object(alloc, text);
+    found.word == b"outside".as_slice() && found.kind == Some(kind) && found.day == day
+}
+
 #[test]
-fn dates_outside_are_told(rt: HostRuntime) -> Result<(), Fail> {
+fn dates_outside_are_told(rt: HostRuntime) {
     for (text, kind, day) in OUTSIDE {
-        let found = told_object(rt.alloc(), text);
-        assert!(rt; found.word == b"outside".as_slice());
-        assert!(rt; found.kind == Some(kind));
-        assert_eq!(rt; found.day, day);
+        assert!(rt; is_outside(rt.alloc(), text, kind, day));
     }
-    Ok(())
 }
 
 /// Texts of time zones.
@@ -429,12 +428,15 @@ const ZONES: [Case; 6] = [
     ),
 ];
 
+/// Whether a text is told as a zone by this word and number.
+fn is_told_as_zone(alloc: Global, text: &[u8], word: &[u8], number: u64) -> bool {
+    let found = told_zone(alloc, text);
+    found.word == word && found.number == number
+}
+
 #[test]
-fn zones_are_read(rt: HostRuntime) -> Result<(), Fail> {
+fn zones_are_read(rt: HostRuntime) {
     for (text, word, number) in ZONES {
-        let found = told_zone(rt.alloc(), text);
-        assert!(rt; found.word == word);
-        assert_eq!(rt; found.number, number);
+        assert!(rt; is_told_as_zone(rt.alloc(), text, word, number));
     }
-    Ok(())
 }

@@ -2,7 +2,7 @@
 
 use crate::meetings::{WINDOW, daily};
 use crate::selections::{Span, busy, range, whole};
-use crate::showing::shown_of;
+use crate::showing::is_shown;
 use cal_base::{NoMemory, Octets};
 use cal_model::Recur;
 use std::alloc::Global;
@@ -33,8 +33,15 @@ fn overrides_are_limited(rt: HostRuntime) -> Result<(), Fail> {
         let (span, stays) = *case;
         let wanted = daily(rt.alloc(), stays)?;
         let select = whole(Recur::Limit(range(span)));
-        let found = shown_of(rt.alloc(), text.as_slice(), WINDOW, &select, false)?;
-        assert!(rt; found.as_slice() == wanted.as_slice(), "range {place}");
+        let so = is_shown(
+            rt.alloc(),
+            text.as_slice(),
+            WINDOW,
+            select,
+            false,
+            wanted.as_slice(),
+        )?;
+        assert!(rt; so, "range {place}");
     }
     Ok(())
 }
@@ -84,8 +91,15 @@ fn busy_times_are_limited(rt: HostRuntime) -> Result<(), Fail> {
         let (span, lines) = *case;
         let wanted = busy_calendar(rt.alloc(), lines)?;
         let select = busy(span);
-        let found = shown_of(rt.alloc(), text.as_slice(), WINDOW, &select, false)?;
-        assert!(rt; found.as_slice() == wanted.as_slice(), "range {place}");
+        let so = is_shown(
+            rt.alloc(),
+            text.as_slice(),
+            WINDOW,
+            select,
+            false,
+            wanted.as_slice(),
+        )?;
+        assert!(rt; so, "range {place}");
     }
     Ok(())
 }

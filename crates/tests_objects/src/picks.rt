@@ -3,26 +3,27 @@
 
 use crate::meetings::{WINDOW, daily};
 use crate::selections::{Pick, Span, pick_of, range, whole};
-use crate::showing::shown_of;
-use cal_base::{NoMemory, Octets};
+use crate::showing::is_shown;
+use cal_base::NoMemory;
 use cal_model::{Recur, Selection};
 use std::alloc::Global;
 use std::test::Fail;
 
-/// What is shown of an object by a pick of a component and of components in it.
-fn picked(
+/// Whether this is shown of an object by a pick of a component and of components in it.
+fn is_picked(
     alloc: Global,
     text: &[u8],
     outer: &Pick,
     inner: &[Pick],
     recur: Recur,
-) -> Result<Octets, NoMemory> {
+    wanted: &[u8],
+) -> Result<bool, NoMemory> {
     let select = Selection {
         comp: Some(pick_of(alloc, outer, inner)?),
         recur,
         busy: None,
     };
-    shown_of(alloc, text, WINDOW, &select, false)
+    is_shown(alloc, text, WINDOW, select, false, wanted)
 }
 
 /// An object whose lines end in LF, with folds where no program would put them, and without an end of
@@ -51,19 +52,17 @@ const PRINTED: &[u8] = b"BEGIN:VCALENDAR\r\n\
 /// Without a selection the octets are those that are stored; whatever is selected, they are printed.
 #[test]
 fn stored_octets_are_shown(rt: HostRuntime) -> Result<(), Fail> {
-    let stored = shown_of(rt.alloc(), STORED, WINDOW, &whole(Recur::Whole), false)?;
-    assert!(rt; stored.as_slice() == STORED);
+    let select = whole(Recur::Whole);
+    assert!(rt; is_shown(rt.alloc(), STORED, WINDOW, select, false, STORED)?);
     let all = Pick {
         all_props: true,
         all_comps: true,
         ..CALENDAR
     };
-    let printed = picked(rt.alloc(), STORED, &all, &[], Recur::Whole)?;
-    assert!(rt; printed.as_slice() == PRINTED);
+    assert!(rt; is_picked(rt.alloc(), STORED, &all, &[], Recur::Whole, PRINTED)?);
     let span: Span = (b"20250203T000000Z", b"20250204T000000Z");
     let select = whole(Recur::Limit(range(span)));
-    let limited = shown_of(rt.alloc(), STORED, WINDOW, &select, false)?;
-    assert!(rt; limited.as_slice() == PRINTED);
+    assert!(rt; is_shown(rt.alloc(), STORED, WINDOW, select, false, PRINTED)?);
     Ok(())
 }
 
@@ -313,8 +312,8 @@ const PICKS: [(Pick, &[Pick], &[u8]); 16] = [
 fn parts_are_picked(rt: HostRuntime) -> Result<(), Fail> {
     for (place, case) in PICKS.iter().enumerate() {
         let (outer, inner, wanted) = *case;
-        let found = picked(rt.alloc(), LUNCH, &outer, inner, Recur::Whole)?;
-        assert!(rt; found.as_slice() == wanted, "pick {place}");
+        let so = is_picked(rt.alloc(), LUNCH, &outer, inner, Recur::Whole, wanted)?;
+        assert!(rt; so, "pick {place}");
     }
     Ok(())
 }
@@ -345,7 +344,6 @@ fn parts_of_instances_are_picked(rt: HostRuntime) -> Result<(), Fail> {
     }];
     let span: Span = (b"20250309T000000Z", b"20250311T000000Z");
     let recur = Recur::Expand(range(span));
-    let found = picked(rt.alloc(), text.as_slice(), &outer, &inner, recur)?;
-    assert!(rt; found.as_slice() == STARTS);
+    assert!(rt; is_picked(rt.alloc(), text.as_slice(), &outer, &inner, recur, STARTS)?);
     Ok(())
 }

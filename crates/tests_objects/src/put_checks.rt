@@ -41,6 +41,13 @@ fn told_refusal(refusal: &Refusal) -> &[u8] {
     }
 }
 
+/// Whether this is told of octets that are put, sent as a calendar or not, where the calendar takes
+/// those kinds.
+fn is_told(alloc: Global, media_ok: bool, octets: &[u8], kinds: u8, wanted: &[u8]) -> bool {
+    let found = check_put(alloc, media_ok, octets, kinds);
+    told(&found) == wanted
+}
+
 /// The lines of an event, and what is told of an object that has it.
 const EVENTS: [(&[u8], &[u8]); 14] = [
     (b"UID:a\r\nDTSTART:20250310T090000Z\r\n", b"fine"),
@@ -95,8 +102,7 @@ const EVENTS: [(&[u8], &[u8]); 14] = [
 fn events_are_checked(rt: HostRuntime) -> Result<(), Fail> {
     for (lines, wanted) in EVENTS {
         let octets = event(rt.alloc(), lines)?;
-        let found = check_put(rt.alloc(), true, octets.as_slice(), ALL_KINDS);
-        assert!(rt; told(&found) == wanted);
+        assert!(rt; is_told(rt.alloc(), true, octets.as_slice(), ALL_KINDS, wanted));
     }
     Ok(())
 }
@@ -117,8 +123,7 @@ const COUNTS: [(&[u8], &[u8]); 2] = [
 fn instances_are_counted(rt: HostRuntime) -> Result<(), Fail> {
     for (lines, wanted) in COUNTS {
         let octets = event(rt.alloc(), lines)?;
-        let found = check_put(rt.alloc(), true, octets.as_slice(), ALL_KINDS);
-        assert!(rt; told(&found) == wanted);
+        assert!(rt; is_told(rt.alloc(), true, octets.as_slice(), ALL_KINDS, wanted));
     }
     Ok(())
 }
@@ -158,8 +163,7 @@ const CALENDARS: [(bool, u8, &[u8], &[u8]); 6] = [
 fn calendars_take_their_kinds(rt: HostRuntime) -> Result<(), Fail> {
     for (media_ok, kinds, lines, wanted) in CALENDARS {
         let octets = event(rt.alloc(), lines)?;
-        let found = check_put(rt.alloc(), media_ok, octets.as_slice(), kinds);
-        assert!(rt; told(&found) == wanted);
+        assert!(rt; is_told(rt.alloc(), media_ok, octets.as_slice(), kinds, wanted));
     }
     Ok(())
 }
@@ -179,12 +183,25 @@ fn event_of_length(alloc: Global, length: usize) -> Result<Octets, NoMemory> {
 fn octets_are_counted(rt: HostRuntime) -> Result<(), Fail> {
     let largest = event_of_length(rt.alloc(), MOST_OCTETS)?;
     assert_eq!(rt; largest.len(), 262_144);
-    let found = check_put(rt.alloc(), true, largest.as_slice(), ALL_KINDS);
-    assert!(rt; told(&found) == b"fine".as_slice());
+    assert!(rt; is_told(rt.alloc(), true, largest.as_slice(), ALL_KINDS, b"fine"));
     let larger = event_of_length(rt.alloc(), MOST_OCTETS + 1)?;
-    let found = check_put(rt.alloc(), true, larger.as_slice(), ALL_KINDS);
-    assert!(rt; told(&found) == b"<C:max-resource-size/>".as_slice());
-    let found = check_put(rt.alloc(), false, larger.as_slice(), ALL_KINDS);
-    assert!(rt; told(&found) == b"<C:supported-calendar-data/>".as_slice());
+    assert!(rt;
+        is_told(
+            rt.alloc(),
+            true,
+            larger.as_slice(),
+            ALL_KINDS,
+            b"<C:max-resource-size/>"
+        )
+    );
+    assert!(rt;
+        is_told(
+            rt.alloc(),
+            false,
+            larger.as_slice(),
+            ALL_KINDS,
+            b"<C:supported-calendar-data/>"
+        )
+    );
     Ok(())
 }

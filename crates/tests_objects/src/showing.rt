@@ -83,7 +83,7 @@ fn shown_of_object(
 
 /// What is shown of the object that a text is, over its rows of one window of 64 days; floating times
 /// are read an hour ahead of UTC, or in UTC. Two words where it is no object.
-pub fn shown_of(
+fn shown_of(
     alloc: Global,
     text: &[u8],
     window: i32,
@@ -99,5 +99,20 @@ pub fn shown_of(
             shown_of_object(alloc, text, &object, window, select, &zone)
         }
         Err(_) => Octets::of(alloc, b"no object"),
+    }
+}
+
+/// Whether this is shown of a text, by a selection that nothing else needs.
+pub fn is_shown(
+    alloc: Global,
+    text: &[u8],
+    window: i32,
+    select: Selection,
+    is_ahead: bool,
+    wanted: &[u8],
+) -> Result<bool, NoMemory> {
+    match shown_of(alloc, text, window, &select, is_ahead) {
+        Ok(found) => Ok(found.as_slice() == wanted),
+        Err(NoMemory) => Err(NoMemory),
     }
 }

@@ -2,7 +2,7 @@
 
 use crate::picks::{CALENDAR, EVENT};
 use crate::selections::{Pick, Span, busy, pick_of, range, whole};
-use crate::showing::shown_of;
+use crate::showing::is_shown;
 use cal_base::{NoMemory, Octets};
 use cal_model::{Recur, Selection};
 use std::alloc::Global;
@@ -159,8 +159,8 @@ fn parts_of_a_meeting(rt: HostRuntime) -> Result<(), Fail> {
         recur: Recur::Whole,
         busy: None,
     };
-    let found = shown_of(rt.alloc(), text.as_slice(), WINDOW, &select, false)?;
-    assert!(rt; found.as_slice() == PICKED);
+    let so = is_shown(rt.alloc(), text.as_slice(), WINDOW, select, false, PICKED)?;
+    assert!(rt; so);
     Ok(())
 }
 
@@ -170,8 +170,15 @@ fn overrides_of_two_days(rt: HostRuntime) -> Result<(), Fail> {
     let text = meeting(rt.alloc(), true)?;
     let wanted = meeting(rt.alloc(), false)?;
     let select = whole(Recur::Limit(range(DAYS)));
-    let found = shown_of(rt.alloc(), text.as_slice(), WINDOW, &select, false)?;
-    assert!(rt; found.as_slice() == wanted.as_slice());
+    let so = is_shown(
+        rt.alloc(),
+        text.as_slice(),
+        WINDOW,
+        select,
+        false,
+        wanted.as_slice(),
+    )?;
+    assert!(rt; so);
     Ok(())
 }
 
@@ -202,8 +209,8 @@ const EXPANDED: &[u8] = b"BEGIN:VCALENDAR\r\n\
 fn instances_of_two_days(rt: HostRuntime) -> Result<(), Fail> {
     let text = meeting(rt.alloc(), true)?;
     let select = whole(Recur::Expand(range(DAYS)));
-    let found = shown_of(rt.alloc(), text.as_slice(), WINDOW, &select, false)?;
-    assert!(rt; found.as_slice() == EXPANDED);
+    let so = is_shown(rt.alloc(), text.as_slice(), WINDOW, select, false, EXPANDED)?;
+    assert!(rt; so);
     Ok(())
 }
 
@@ -243,7 +250,7 @@ const BUSY_SHOWN: &[u8] = b"BEGIN:VCALENDAR\r\n\
 #[test]
 fn busy_times_of_a_day(rt: HostRuntime) -> Result<(), Fail> {
     let select = busy((b"20060102T000000Z", b"20060103T000000Z"));
-    let found = shown_of(rt.alloc(), BUSY, WINDOW, &select, false)?;
-    assert!(rt; found.as_slice() == BUSY_SHOWN);
+    let so = is_shown(rt.alloc(), BUSY, WINDOW, select, false, BUSY_SHOWN)?;
+    assert!(rt; so);
     Ok(())
 }
