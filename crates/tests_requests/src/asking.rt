@@ -37,7 +37,7 @@ pub fn plain(alloc: Global, method: &[u8], target: &[u8]) -> Result<WireRequest,
 }
 
 /// What a request of some length asks for.
-pub fn ask(alloc: Global, wire: &WireRequest, users: &Users) -> Asked {
+fn ask(alloc: Global, wire: &WireRequest, users: &Users) -> Asked {
     if wire.body.len() > MOST_OCTETS {
         Asked::NoMemory
     } else {
@@ -45,9 +45,19 @@ pub fn ask(alloc: Global, wire: &WireRequest, users: &Users) -> Asked {
     }
 }
 
+/// What is told of a request: a word and a number.
+pub type Told = (&'static [u8], usize);
+
+/// Whether this is told of a request.
+pub fn is_told(alloc: Global, users: &Users, wire: &WireRequest, wanted: Told) -> bool {
+    let asked = ask(alloc, wire, users);
+    let found = told(&asked);
+    found.0 == wanted.0 && found.1 == wanted.1
+}
+
 /// What is asked for, in a word, and a number beside it: a status, how many, or 1 for yes. (`odd` is
 /// a PUT whose media type is no calendar's.)
-pub fn told(asked: &Asked) -> (&[u8], usize) {
+fn told(asked: &Asked) -> (&[u8], usize) {
     match asked {
         Asked::Request { request, .. } => told_content(&request.content),
         Asked::Refused(reply) => (b"refused", reply.status as usize),

@@ -1,6 +1,6 @@
 //! What a body asks for, in words.
 
-use cal_base::{List, NoMemory, Octets};
+use cal_base::{Element, List, NoMemory, Octets};
 use cal_model::{Cond, Content, Method, PropSet, Props, Recur, Refusal, ReportRequest};
 use dav_body::{BodyFault, read_body};
 use dav_elements::{read_acl, read_find, read_make, read_patch, read_report};
@@ -18,35 +18,49 @@ fn users(alloc: Global) -> Result<Users, NoMemory> {
     }
 }
 
-/// What a method takes from a body; none where the body is not well formed.
-pub fn content_of(alloc: Global, method: Method, body: &[u8]) -> Result<Option<Content>, NoMemory> {
-    let root = match read_body(alloc, body) {
-        Ok(root) => root,
-        Err(BodyFault::NoMemory) => return Err(NoMemory),
-        Err(BodyFault::At { .. }) => return Ok(None),
-    };
-    let content = match method {
-        Method::Proppatch => read_patch(alloc, &root)?,
-        Method::Mkcalendar => read_make(alloc, &root)?,
-        Method::Report => read_report(alloc, &root)?,
-        Method::Acl => {
-            let users = users(alloc)?;
-            read_acl(alloc, &users, &root)?
-        }
-        _ => read_find(alloc, false, &root)?,
-    };
-    Ok(Some(content))
+/// What a method takes from the root of a body.
+fn content_in(alloc: Global, method: Method, root: &Element) -> Result<Content, NoMemory> {
+    match method {
+        Method::Proppatch => read_patch(alloc, root),
+        Method::Mkcalendar => read_make(alloc, root),
+        Method::Report => read_report(alloc, root),
+        Method::Acl => read_acl(alloc, &users(alloc)?, root),
+        _ => read_find(alloc, false, root),
+    }
 }
 
-/// What a body asks for, in words.
-pub fn told(alloc: Global, method: Method, inside: &[u8]) -> Result<Octets, NoMemory> {
+/// What a method takes from a body; none where the body is not well formed.
+pub fn content_of(alloc: Global, method: Method, body: &[u8]) -> Result<Option<Content>, NoMemory> {
+    match read_body(alloc, body) {
+        Ok(root) => match content_in(alloc, method, &root) {
+            Ok(content) => Ok(Some(content)),
+            Err(NoMemory) => Err(NoMemory),
+        },
+        Err(BodyFault::NoMemory) => Err(NoMemory),
+        Err(BodyFault::At { .. }) => Ok(None),
+    }
+}
+
+/// Tells in words what a body asks for.
+fn push_told(alloc: Global, method: Method, body: &[u8], out: &mut Octets) -> Result<(), NoMemory> {
+    match content_of(alloc, method, body) {
+        Ok(Some(content)) => push_content(&content, out),
+        Ok(None) => out.extend_from_slice(b"not read"),
+        Err(NoMemory) => Err(NoMemory),
+    }
+}
+
+/// Whether these words tell what a body asks for.
+pub fn is_told(
+    alloc: Global,
+    method: Method,
+    inside: &[u8],
+    words: &[u8],
+) -> Result<bool, NoMemory> {
     let body = body_of(alloc, inside)?;
     let mut out = Octets::new(alloc);
-    match content_of(alloc, method, body.as_slice())? {
-        Some(content) => push_content(&content, &mut out)?,
-        None => out.extend_from_slice(b"not read")?,
-    }
-    Ok(out)
+    push_told(alloc, method, body.as_slice(), &mut out)?;
+    Ok(out.as_slice() == words)
 }
 
 /// A body whose root declares the two prefixes: `<`, the root's name, the declarations, and the rest.

@@ -1,6 +1,6 @@
 //! What the line of a request and its fields ask for, and the order of refusals.
 
-use crate::asking::{USERS, ask, plain, told};
+use crate::asking::{Told, USERS, is_told, plain};
 use cal_base::{NoMemory, Octets};
 use cal_model::WireRequest;
 use privileges::{Users, read_users};
@@ -13,9 +13,6 @@ const OBJECT: &[u8] = b"/calendars/alice/work/a.ics";
 
 /// A method and a target.
 type Line = (&'static [u8], &'static [u8]);
-
-/// What is told of a request: a word and a number.
-type Told = (&'static [u8], usize);
 
 const NOTHING: Told = (b"nothing", 0);
 
@@ -56,12 +53,6 @@ fn with_field(wire: WireRequest, field: Field, value: Octets) -> WireRequest {
         Field::IfNoneMatch => wire.if_none = Some(value),
     }
     wire
-}
-
-fn is_told(alloc: Global, users: &Users, wire: &WireRequest, wanted: Told) -> bool {
-    let asked = ask(alloc, wire, users);
-    let found = told(&asked);
-    found.0 == wanted.0 && found.1 == wanted.1
 }
 
 /// Whether this is told of a request of alice with a field.

@@ -148,39 +148,64 @@ fn at_least_one(size: usize) -> usize
     if size == 0 { 1 } else { size }
 }
 
-/// What is read of a stream in pieces of so many octets, and that a fault stays.
-fn read_in_pieces(alloc: Global, stream: &[u8], size: usize) -> Result<Octets, NoMemory> {
+/// Whether a stream gives this in pieces of so many octets, where a fault stays.
+fn gives_in_pieces(
+    alloc: Global,
+    wire: &mut Wire,
+    stream: &[u8],
+    size: usize,
+    want: &[u8],
+) -> Result<bool, NoMemory> {
     let mut out = Octets::new(alloc);
-    let mut wire = Wire::new(alloc);
     let mut end: &[u8] = b"idle";
     for piece in stream.chunks(at_least_one(size)) {
-        end = read_on(alloc, &mut wire, piece, &mut out)?;
+        end = read_on(alloc, wire, piece, &mut out)?;
     }
     out.extend_from_slice(end)?;
-    Ok(out)
+    Ok(out.as_slice() == want)
 }
 
-/// What is read of a stream in two pieces.
-fn read_cut(alloc: Global, front: &[u8], behind: &[u8]) -> Result<Octets, NoMemory> {
+/// Whether a stream gives this in two pieces.
+fn gives_cut(
+    alloc: Global,
+    wire: &mut Wire,
+    front: &[u8],
+    behind: &[u8],
+    want: &[u8],
+) -> Result<bool, NoMemory> {
     let mut out = Octets::new(alloc);
-    let mut wire = Wire::new(alloc);
-    read_on(alloc, &mut wire, front, &mut out)?;
-    let end = read_on(alloc, &mut wire, behind, &mut out)?;
+    read_on(alloc, wire, front, &mut out)?;
+    let end = read_on(alloc, wire, behind, &mut out)?;
     out.extend_from_slice(end)?;
-    Ok(out)
+    Ok(out.as_slice() == want)
+}
+
+/// Whether a stream is read so in pieces of so many octets.
+fn is_read_in_pieces(
+    alloc: Global,
+    stream: &[u8],
+    size: usize,
+    want: &[u8],
+) -> Result<bool, NoMemory> {
+    let mut wire = Wire::new(alloc);
+    gives_in_pieces(alloc, &mut wire, stream, size, want)
+}
+
+/// Whether a stream is read so where it is cut in two.
+fn is_read_cut(alloc: Global, front: &[u8], behind: &[u8], want: &[u8]) -> Result<bool, NoMemory> {
+    let mut wire = Wire::new(alloc);
+    gives_cut(alloc, &mut wire, front, behind, want)
 }
 
 /// Whether a stream is read so in pieces of some sizes, and cut in two at each place up to a limit.
 fn is_read_so(alloc: Global, stream: &[u8], want: &[u8], places: usize) -> Result<bool, NoMemory> {
     for size in [1, 2, 3, 7, 64, 100_000] {
-        if read_in_pieces(alloc, stream, size)?.as_slice() != want {
+        if !is_read_in_pieces(alloc, stream, size, want)? {
             return Ok(false);
         }
     }
     for place in 0..places {
-        if place <= stream.len()
-            && read_cut(alloc, &stream[..place], &stream[place..])?.as_slice() != want
-        {
+        if place <= stream.len() && !is_read_cut(alloc, &stream[..place], &stream[place..], want)? {
             return Ok(false);
         }
     }
@@ -259,104 +284,131 @@ const CHUNKED: Part<'static> = Part(b"PUT /a HTTP/1.1\r\nTransfer-Encoding: chun
 /// What a request gives that has neither fields that count nor a body.
 const PLAIN: &[u8] = b"GET / 0 - - - - - - <>\n";
 
+/// What a stream of parts gives.
+struct Limit {
+    name: &'static str,
+    stream: &'static [Part<'static>],
+    gives: &'static [Part<'static>],
+}
+
+/// A head up to its one long field, of 19 octets.
+const LINE: Part<'static> = Part(b"GET / HTTP/1.1\r\nX: ", 1);
+
+const START: Part<'static> = Part(b"GET / HTTP/1.1\r\n", 1);
+
+const HEAD_END: Part<'static> = Part(b"\r\n\r\n", 1);
+
+const LONG_HEAD: Part<'static> = Part(b"HeadTooLong", 1);
+
+const CUT: Part<'static> = Part(b"cut", 1);
+
+const HEAD_LIMITS: [Limit; 8] = [
+    // 19 octets, 16,361 and 4
+    Limit {
+        name: "a head of 16,384 octets",
+        stream: &[LINE, Part(b"a", 16_361), HEAD_END],
+        gives: &[Part(PLAIN, 1), Part(b"idle", 1)],
+    },
+    Limit {
+        name: "a head of 16,385 octets",
+        stream: &[LINE, Part(b"a", 16_362), HEAD_END],
+        gives: &[LONG_HEAD],
+    },
+    Limit {
+        name: "16,383 octets of a head",
+        stream: &[LINE, Part(b"a", 16_364)],
+        gives: &[CUT],
+    },
+    Limit {
+        name: "16,384 octets of a head without its end",
+        stream: &[LINE, Part(b"a", 16_365)],
+        gives: &[LONG_HEAD],
+    },
+    Limit {
+        name: "16,383 octets of empty lines",
+        stream: &[Part(b"\r\n", 8_191), Part(b"\n", 1)],
+        gives: &[Part(b"idle", 1)],
+    },
+    Limit {
+        name: "16,384 octets of empty lines",
+        stream: &[Part(b"\r\n", 8_192)],
+        gives: &[LONG_HEAD],
+    },
+    Limit {
+        name: "100 fields",
+        stream: &[START, Part(b"a:b\r\n", 100), Part(b"\r\n", 1)],
+        gives: &[Part(PLAIN, 1), Part(b"idle", 1)],
+    },
+    Limit {
+        name: "101 fields",
+        stream: &[START, Part(b"a:b\r\n", 101), Part(b"\r\n", 1)],
+        gives: &[LONG_HEAD],
+    },
+];
+
+const EMPTY_PUT: Part<'static> = Part(b"PUT /a 0 - - - - - - <>\nidle", 1);
+
+const BAD_CHUNK: Part<'static> = Part(b"BadChunk", 1);
+
+const BODY_LIMITS: [Limit; 6] = [
+    Limit {
+        name: "a chunk line of 256 octets",
+        stream: &[CHUNKED, Part(b"0;", 1), Part(b"e", 252), HEAD_END],
+        gives: &[EMPTY_PUT],
+    },
+    Limit {
+        name: "255 octets of a chunk line without its CR",
+        stream: &[CHUNKED, Part(b"0;", 1), Part(b"e", 253)],
+        gives: &[BAD_CHUNK],
+    },
+    Limit {
+        name: "254 octets of a chunk line",
+        stream: &[CHUNKED, Part(b"0;", 1), Part(b"e", 252)],
+        gives: &[CUT],
+    },
+    Limit {
+        name: "a trailer of 16,384 octets",
+        stream: &[CHUNKED, Part(b"0\r\nT: ", 1), Part(b"t", 16_377), HEAD_END],
+        gives: &[EMPTY_PUT],
+    },
+    Limit {
+        name: "16,382 octets of a trailer",
+        stream: &[CHUNKED, Part(b"0\r\nT: ", 1), Part(b"t", 16_379)],
+        gives: &[CUT],
+    },
+    Limit {
+        name: "16,383 octets of a trailer, which two line feeds end too late",
+        stream: &[CHUNKED, Part(b"0\r\nT: ", 1), Part(b"t", 16_380)],
+        gives: &[BAD_CHUNK],
+    },
+];
+
 #[test]
 fn heads_have_their_limits(rt: HostRuntime) -> Result<(), Fail> {
-    let alloc = rt.alloc();
-    let line = Part(b"GET / HTTP/1.1\r\nX: ", 1);
-    let end = Part(b"\r\n\r\n", 1);
-    // 19 octets, 16,361 and 4: 16,384.
-    let fits = gives(
-        alloc,
-        &[line, Part(b"a", 16_361), end],
-        &[Part(PLAIN, 1), Part(b"idle", 1)],
-    )?;
-    assert!(rt; fits, "a head of 16,384 octets");
-    let long = gives(
-        alloc,
-        &[line, Part(b"a", 16_362), end],
-        &[Part(b"HeadTooLong", 1)],
-    )?;
-    assert!(rt; long, "a head of 16,385 octets");
-    let open = gives(alloc, &[line, Part(b"a", 16_364)], &[Part(b"cut", 1)])?;
-    assert!(rt; open, "16,383 octets of a head");
-    let full = gives(
-        alloc,
-        &[line, Part(b"a", 16_365)],
-        &[Part(b"HeadTooLong", 1)],
-    )?;
-    assert!(rt; full, "16,384 octets of a head without its end");
-    let empty = gives(
-        alloc,
-        &[Part(b"\r\n", 8_191), Part(b"\n", 1)],
-        &[Part(b"idle", 1)],
-    )?;
-    assert!(rt; empty, "16,383 octets of empty lines");
-    let lines = gives(alloc, &[Part(b"\r\n", 8_192)], &[Part(b"HeadTooLong", 1)])?;
-    assert!(rt; lines, "16,384 octets of empty lines");
-    let start = Part(b"GET / HTTP/1.1\r\n", 1);
-    let hundred = [start, Part(b"a:b\r\n", 100), Part(b"\r\n", 1)];
-    let fields = gives(alloc, &hundred, &[Part(PLAIN, 1), Part(b"idle", 1)])?;
-    assert!(rt; fields, "100 fields");
-    let more = [start, Part(b"a:b\r\n", 101), Part(b"\r\n", 1)];
-    let over = gives(alloc, &more, &[Part(b"HeadTooLong", 1)])?;
-    assert!(rt; over, "101 fields");
+    for limit in &HEAD_LIMITS {
+        let so = gives(rt.alloc(), limit.stream, limit.gives)?;
+        assert!(rt; so, "{}", limit.name);
+    }
     Ok(())
 }
 
 #[test]
 fn bodies_have_their_limits(rt: HostRuntime) -> Result<(), Fail> {
-    let alloc = rt.alloc();
-    let none = [Part(b"PUT /a 0 - - - - - - <>\nidle", 1)];
-    let bad = [Part(b"BadChunk", 1)];
-    let line = gives(
-        alloc,
-        &[
-            CHUNKED,
-            Part(b"0;", 1),
-            Part(b"e", 252),
-            Part(b"\r\n\r\n", 1),
-        ],
-        &none,
-    )?;
-    assert!(rt; line, "a chunk line of 256 octets");
-    let long = gives(alloc, &[CHUNKED, Part(b"0;", 1), Part(b"e", 253)], &bad)?;
-    assert!(rt; long, "255 octets of a chunk line without its CR");
-    let open = gives(
-        alloc,
-        &[CHUNKED, Part(b"0;", 1), Part(b"e", 252)],
-        &[Part(b"cut", 1)],
-    )?;
-    assert!(rt; open, "254 octets of a chunk line");
-    let trailer = [
-        CHUNKED,
-        Part(b"0\r\nT: ", 1),
-        Part(b"t", 16_377),
-        Part(b"\r\n\r\n", 1),
-    ];
-    let ends = gives(alloc, &trailer, &none)?;
-    assert!(rt; ends, "a trailer of 16,384 octets");
-    let may_end = gives(
-        alloc,
-        &[CHUNKED, Part(b"0\r\nT: ", 1), Part(b"t", 16_379)],
-        &[Part(b"cut", 1)],
-    )?;
-    assert!(rt; may_end, "16,382 octets of a trailer");
-    let over = gives(
-        alloc,
-        &[CHUNKED, Part(b"0\r\nT: ", 1), Part(b"t", 16_380)],
-        &bad,
-    )?;
-    assert!(rt;
-        over,
-        "16,383 octets of a trailer, which two line feeds end too late"
-    );
+    for limit in &BODY_LIMITS {
+        let so = gives(rt.alloc(), limit.stream, limit.gives)?;
+        assert!(rt; so, "{}", limit.name);
+    }
     Ok(())
 }
 
 /// How many requests a stream gives, and how many octets their bodies have, where its first piece has
 /// so many octets.
-fn counted(alloc: Global, stream: &[u8], first: usize) -> Result<(usize, usize), NoMemory> {
-    let mut wire = Wire::new(alloc);
+fn counted(
+    alloc: Global,
+    wire: &mut Wire,
+    stream: &[u8],
+    first: usize,
+) -> Result<(usize, usize), NoMemory> {
     let mut requests: usize = 0;
     let mut octets: usize = 0;
     let first = if first < stream.len() {
@@ -385,7 +437,8 @@ fn is_counted_so(
 ) -> Result<bool, NoMemory> {
     let stream = joined(alloc, parts)?;
     for first in [0, 1, 60, 70_000, 524_400, 1_048_600, 2_000_000] {
-        if counted(alloc, stream.as_slice(), first)? != want {
+        let mut wire = Wire::new(alloc);
+        if counted(alloc, &mut wire, stream.as_slice(), first) != Ok(want) {
             return Ok(false);
         }
     }
@@ -406,18 +459,23 @@ fn large_bodies_and_many_requests_are_read(rt: HostRuntime) -> Result<(), Fail> 
     Ok(())
 }
 
+/// Whether each piece, of which the first has a bad head, is answered by that fault alone.
+fn is_faulty(alloc: Global, wire: &mut Wire, out: &mut Octets) -> Result<bool, NoMemory> {
+    for piece in [b"x\r\n\r\n".as_slice(), b"GET / HTTP/1.1\r\n\r\n", b""] {
+        let end = read_on(alloc, wire, piece, out)?;
+        if end != b"BadHead".as_slice() || wire.idle() {
+            return Ok(false);
+        }
+    }
+    Ok(out.is_empty())
+}
+
 /// A fault is given again, whatever follows.
 #[test]
 fn faults_stay(rt: HostRuntime) -> Result<(), Fail> {
-    let alloc = rt.alloc();
-    let mut wire = Wire::new(alloc);
-    let mut out = Octets::new(alloc);
-    for piece in [b"x\r\n\r\n".as_slice(), b"GET / HTTP/1.1\r\n\r\n", b""] {
-        let end = read_on(alloc, &mut wire, piece, &mut out)?;
-        assert_eq!(rt; end, b"BadHead".as_slice());
-        assert!(rt; !wire.idle());
-    }
-    assert!(rt; out.is_empty());
+    let mut out = Octets::new(rt.alloc());
+    let mut wire = Wire::new(rt.alloc());
+    assert!(rt; is_faulty(rt.alloc(), &mut wire, &mut out)?);
     Ok(())
 }
 
