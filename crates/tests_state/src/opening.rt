@@ -42,39 +42,62 @@ fn is_first(data: &CalendarData, home: u32) -> bool {
         && data.acl.grants.is_empty()
 }
 
-/// Each home has the one calendar, found by its name and from the empty name, and nothing is charged.
+/// Whether a home has that calendar, found by its name and from the empty name, and no other.
+fn has_its_calendar(store: &Store, home: u32) -> bool {
+    let Some(data) = store.calendar(home, NAME) else {
+        return false;
+    };
+    let Some((name, next)) = store.calendar_after(home, b"") else {
+        return false;
+    };
+    let is_last = store.calendar_after(home, NAME).is_none() && store.calendar_count(home) == 1;
+    is_last && name == NAME && is_first(data, home) && is_first(next, home)
+}
+
+/// Whether each home has its calendar, and nothing is charged.
+fn is_at_start(store: &Store) -> bool {
+    for home in 0u32..2 {
+        if !has_its_calendar(store, home) || store.used(home) != 0 {
+            return false;
+        }
+    }
+    store.users().len() == 2
+}
+
+/// Whether no home has an object or a UID.
+fn has_no_objects(store: &Store) -> bool {
+    for home in 0u32..3 {
+        let none = store.object(home, NAME, b"a.ics").is_none()
+            && store.object_after(home, NAME, b"").is_none()
+            && store.uid_holder(home, NAME, b"a").is_none();
+        if !none {
+            return false;
+        }
+    }
+    true
+}
+
+/// Whether there is no third home, and no calendar of another name.
+fn has_no_other_calendars(store: &Store) -> bool {
+    store.calendar(2, NAME).is_none()
+        && store.calendar_after(2, b"").is_none()
+        && store.calendar(0, b"calendar2").is_none()
+        && store.calendar(1, b"").is_none()
+        && store.used(2) == 0
+        && store.calendar_count(2) == 0
+}
+
 #[test]
 fn each_home_has_its_calendar(rt: HostRuntime) -> Result<(), Fail> {
     let store = opened(rt.alloc())?;
-    for home in 0u32..2 {
-        let data = store.calendar(home, NAME).ok_or("a calendar")?;
-        assert!(rt; is_first(data, home));
-        let (name, next) = store.calendar_after(home, b"").ok_or("a next calendar")?;
-        assert!(rt; name == NAME);
-        assert!(rt; is_first(next, home));
-        assert!(rt; store.calendar_after(home, NAME).is_none());
-        assert!(rt; store.used(home) == 0);
-        assert!(rt; store.calendar_count(home) == 1);
-    }
-    assert!(rt; store.users().len() == 2);
+    assert!(rt; is_at_start(&store));
     Ok(())
 }
 
-/// There is nothing else: no other home, calendar, object or UID.
 #[test]
 fn nothing_else_is_there(rt: HostRuntime) -> Result<(), Fail> {
     let store = opened(rt.alloc())?;
-    assert!(rt; store.calendar(2, NAME).is_none());
-    assert!(rt; store.calendar_after(2, b"").is_none());
-    assert!(rt; store.calendar(0, b"calendar2").is_none());
-    assert!(rt; store.calendar(1, b"").is_none());
-    assert!(rt; store.used(2) == 0);
-    assert!(rt; store.calendar_count(2) == 0);
-    for home in 0u32..3 {
-        assert!(rt; store.object(home, NAME, b"a.ics").is_none());
-        assert!(rt; store.object_after(home, NAME, b"").is_none());
-        assert!(rt; store.uid_holder(home, NAME, b"a").is_none());
-    }
+    assert!(rt; has_no_other_calendars(&store) && has_no_objects(&store));
     Ok(())
 }
 
@@ -89,10 +112,6 @@ fn replayed(alloc: Global) -> Result<Store, Fail> {
 #[test]
 fn no_entries_lead_to_the_start(rt: HostRuntime) -> Result<(), Fail> {
     let store = replayed(rt.alloc())?;
-    for home in 0u32..2 {
-        let data = store.calendar(home, NAME).ok_or("a calendar")?;
-        assert!(rt; is_first(data, home));
-        assert!(rt; store.object_after(home, NAME, b"").is_none());
-    }
+    assert!(rt; is_at_start(&store) && has_no_objects(&store));
     Ok(())
 }

@@ -1,9 +1,10 @@
 //! What no clause says: that the definitions of users and of what they hold mean what was meant, and
 //! that a file is read where there is memory.
+ghost use Rattle.std.specs.Prelude.{◌<◌, length};
 
 use cal_base::{List, NoMemory, Octets};
 use cal_model::{Acl, Grant, PrivilegeSet, Who};
-use privileges::{UsersFault, held, read_users};
+use privileges::{Users, UsersFault, held, read_users};
 use std::alloc::Global;
 use std::test::Fail;
 
@@ -128,28 +129,36 @@ fn users_are_at_most_32(rt: HostRuntime) -> Result<(), Fail> {
     Ok(())
 }
 
+/// Whether a user has this number and this name.
+fn is_numbered(users: &Users, number: u32, name: &[u8]) -> bool
+    requires { number < length users.now }
+{
+    users.name(number) == name && users.find(name) == Some(number)
+}
+
+/// Whether the users are bob, alice and al, whose passwords are `abc`, nothing and `abc`.
+fn are_those_three(users: &Users) -> bool {
+    if users.len() != 3 {
+        return false;
+    }
+    let named = is_numbered(users, 0, b"bob")
+        && is_numbered(users, 1, b"alice")
+        && is_numbered(users, 2, b"al");
+    let admitted = users.admits(0, ABC) && users.admits(1, NOTHING) && users.admits(2, ABC);
+    named && admitted && !users.admits(0, NOTHING) && !users.admits(1, ABC)
+}
+
+/// Whether none of the users has a name that is like theirs.
+fn has_no_others(users: &Users) -> bool {
+    users.find(b"Alice").is_none() && users.find(b"ali").is_none() && users.find(b"").is_none()
+}
+
 /// Users by number and by name, and their passwords.
 #[test]
 fn users_are_found(rt: HostRuntime) -> Result<(), Fail> {
     let octets = filled(rt.alloc(), b"# x\nuser bob H\n\nuser alice K\nuser al H\n")?;
-    let users = read_users(rt.alloc(), octets.as_slice())
-        .ok()
-        .ok_or("read")?;
-    assert!(rt; users.len() == 3);
-    assert!(rt; users.name(0) == b"bob".as_slice());
-    assert!(rt; users.name(1) == b"alice".as_slice());
-    assert!(rt; users.name(2) == b"al".as_slice());
-    assert!(rt; users.find(b"bob") == Some(0));
-    assert!(rt; users.find(b"alice") == Some(1));
-    assert!(rt; users.find(b"al") == Some(2));
-    assert!(rt; users.find(b"Alice").is_none());
-    assert!(rt; users.find(b"ali").is_none());
-    assert!(rt; users.find(b"").is_none());
-    assert!(rt; users.admits(0, ABC));
-    assert!(rt; !users.admits(0, NOTHING));
-    assert!(rt; users.admits(1, NOTHING));
-    assert!(rt; !users.admits(1, ABC));
-    assert!(rt; users.admits(2, ABC));
+    let users = read_users(rt.alloc(), octets.as_slice())?;
+    assert!(rt; are_those_three(&users) && has_no_others(&users));
     Ok(())
 }
 
@@ -180,9 +189,8 @@ fn privileges_are_united(rt: HostRuntime) -> Result<(), Fail> {
             })?;
         }
         let acl = Acl { grants: list };
-        for who in 0..3 {
-            assert!(rt; held(&acl, 0, who).0 == wanted[who as usize]);
-        }
+        let found = [held(&acl, 0, 0).0, held(&acl, 0, 1).0, held(&acl, 0, 2).0];
+        assert!(rt; found == wanted);
     }
     Ok(())
 }
