@@ -25,7 +25,7 @@ import argparse, concurrent.futures, hashlib, os, re, shutil, signal, subprocess
 
 sys.path.insert(0, os.path.dirname(os.path.abspath(__file__)))
 sys.dont_write_bytecode = True
-import workers
+import commands, workers
 
 TOP = os.path.dirname(os.path.dirname(os.path.abspath(__file__)))
 
@@ -112,6 +112,10 @@ BY_HAND = [
     ("the lock is not made", "turn_lock/src/lock.rt", "new", "return Err((value, cal_base::NoMemory));"),
     ("a claim is not expanded", "cal_book/src/expanding.rt", "expand", "return Err((claim, cal_base::NoMemory));"),
 ]
+SCRIPTS = {  # each is asked what is wrong with a built program
+    "commands.py": commands.fault,
+    "workers.py": lambda program, more: workers.fault(program, 3, more)[0],  # few, since what `rt try` builds is slow
+}
 REFUSED_BY_PROOF = {"cal_book::Book::reserve of Desk answers no memory"}  # where there is room already it has to succeed
 USES = {  # names that a body by hand needs more
     "expansion_workers/src/worker.rt": [("use turn_lock::{Pass, TurnLock};", "use turn_lock::{Held, Pass, TurnLock};")],
@@ -237,11 +241,11 @@ def tests(picked):
             found.append((name if name.startswith("tests_") else f"{name}-tests", name, True))
         if os.path.exists(os.path.join(TOP, "crates", name, "stdout")) and not name.endswith("_bench"):
             found.append((name, name, False))
-    found.append(("workers.py", "caldav_server", None))
+    found += [(script, "caldav_server", None) for script in SCRIPTS]
     if picked:
         by_label = {one[0]: one for one in found}
         return [by_label[label] for label in picked.split(",")]
-    first, slow = ["tests_base", "script_cases", "session_cases", "caldav_server-tests"], ["tests_recurrence", "workers.py"]
+    first, slow = ["tests_base", "script_cases", "session_cases", "commands.py"], ["tests_recurrence", "workers.py"]
     order = {label: place for place, label in enumerate(first + [None] + slow)}
     return sorted(found, key=lambda one: (order.get(one[0], len(first)), len(BELOW[one[1]])))
 
@@ -374,17 +378,17 @@ class Test:
         return where + (", which does not end" if status is None else f", status {status}" if status else "")
 
 
-class Workers:
-    """Whether the workers of the server make pieces, which no output tells."""
+class Script:
+    """A script beside this one, over the built program."""
 
-    def __init__(self, copy, name):
-        self.program = copy.build(name, False)
+    def __init__(self, copy, name, script):
+        self.program, self.fault = copy.build(name, False), SCRIPTS[script]
 
     def begin(self):
         return self.run(0)
 
     def run(self, number):
-        return workers.fault(self.program, 3, {"GIVEN_UP": str(number)})[0]  # few, since what `rt try` builds is slow
+        return self.fault(self.program, {"GIVEN_UP": str(number)})
 
 
 def main():
@@ -406,7 +410,7 @@ def main():
             mine = [number for number, one in open_ones.items() if one[1] in BELOW[name]]
             if not mine:
                 continue
-            test = Workers(copy, name) if is_test is None else Test(copy, name, is_test)
+            test = Script(copy, name, label) if is_test is None else Test(copy, name, is_test)
             why = test.begin()
             if why:
                 sys.exit(f"{label} fails over the right bodies: {why}")
