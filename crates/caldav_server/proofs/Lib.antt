@@ -11,7 +11,4 @@ mod LoadReplies
 mod LoadSeatLemmas
 mod LoadSums
 mod LoadWhole
-mod LoadWordLaws
-mod Numbers
 mod Sharing
-mod WordLaws

@@ -4,7 +4,7 @@ use Rattle.std.specs.Prelude.{take}
 use Rattle.cal_base.specs.World.Outside.{Adds}
 use Rattle.clap.specs.Words.{Text}
 use Rattle.caldav_server.specs.LoadEnds.{HasPrinted, HasLoaded, summary_for}
-use Rattle.caldav_server.specs.LoadWords.{TakesLoad}
+use Rattle.command_words.specs.LoadWords.{TakesLoad}
 
 -- the status for words that are not taken is none of those behind them
 not-refused : (status : ℕ) → status ≡ 2 → (status ≡ 0) ⊎ (status ≡ 5) ⊎ (status ≡ 7) → ⊥

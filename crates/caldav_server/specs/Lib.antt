@@ -1,13 +1,8 @@
 pub mod LoadDone
 pub mod LoadEnds
-pub mod LoadSaid
 pub mod LoadSeats
 pub mod LoadSessions
 pub mod LoadSums
 pub mod LoadTallies
-pub mod LoadWords
-pub mod Options
-pub mod SaidWords
 pub mod ServeEnds
-pub mod ServeWords
 pub mod Shares

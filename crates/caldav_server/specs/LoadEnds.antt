@@ -4,7 +4,7 @@ use Rattle.std.specs.Prelude.{◌≡◌, ◌⊎◌, ℕ, List, Option, take}
 use Rattle.cal_base.specs.World.Outside.{Adds, Rose}
 use Rattle.cal_model.specs.Load.LoadSummary.{load_summary}
 use Rattle.clap.specs.Words.{Text}
-use Rattle.caldav_server.specs.LoadWords.{TakesLoad, puts, sessions}
+use Rattle.command_words.specs.LoadWords.{TakesLoad, puts, sessions}
 
 -- the five lines for the words
 abbrev pub summary_for : List Text → List ℕ

@@ -5,26 +5,19 @@
 //! runs the server.
 #![tactic(auto)]
 
-mod help;
 mod load;
 mod load_joins;
 mod load_sessions;
-mod load_words;
-mod options;
 mod serve;
-mod serve_words;
 mod sessions;
 mod telling_door;
 
-use crate::help::{HELP, SCRIPT_HELP, asked_text};
 use crate::load::run_load;
-use crate::load_words::load_command;
-use crate::options::VERSION;
 use crate::serve::run_serve;
-use crate::serve_words::serve_command;
 use crate::telling_door::TellingDoor;
 use cal_base::{List, NoMemory, StdFiles, StdSink, StdSource, TcpDoor, Word};
 use cal_script::{ScriptEnd, run_script};
+use command_words::{HELP, SCRIPT_HELP, VERSION, load_text, serve_text};
 use std::process::ExitCode;
 use std::{env, io};
 
@@ -95,13 +88,13 @@ fn is_answered(rt: &HostRuntime, words: &List<Word>) -> bool {
         return is_told(rt, word_at(words, 1), SCRIPT_HELP);
     }
     if first == "serve" {
-        if let Some(text) = asked_text(serve_command(rt.alloc()), words.as_slice()) {
+        if let Some(text) = serve_text(rt.alloc(), words.as_slice()) {
             let _ = text.print(rt);
             return true;
         }
     }
     if first == "load" {
-        if let Some(text) = asked_text(load_command(rt.alloc()), words.as_slice()) {
+        if let Some(text) = load_text(rt.alloc(), words.as_slice()) {
             let _ = text.print(rt);
             return true;
         }
@@ -141,8 +134,3 @@ fn report(rt: &HostRuntime, usage: &str, end: ScriptEnd) -> io::Result<()> {
         _ => Ok(()),
     }
 }
-
-#[cfg(test)]
-mod load_tests;
-#[cfg(test)]
-mod tests;

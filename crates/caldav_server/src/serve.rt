@@ -4,14 +4,14 @@ ghost use Rattle.cal_base.specs.World.Outside.{Rose};
 ghost use Rattle.cal_model.specs.Users.UsersFile.{User};
 ghost use Rattle.cal_script.specs.UsersTaken.{AreUsersOf, IsRefusedAt};
 ghost use Rattle.caldav_server.specs.ServeEnds.{IsServeStatus, IsServedStatus};
-ghost use Rattle.caldav_server.specs.ServeWords as spec;
+ghost use Rattle.command_words.specs.ServeWords as spec;
 ghost use Rattle.caldav_server.specs.Shares.{RoseBy, share_of};
 
-use crate::serve_words::{ServeWords, Untaken, read_serve};
 use crate::sessions::{Crew, Ground, NotStarted, run_crew};
 use cal_base::{Arc, Door, Files, List, NoMemory, Word};
 use cal_script::{NoUsers, ScriptEnd, take_users};
 use cal_session::Service;
+use command_words::{ServeWords, Untaken, read_serve};
 use privileges::Users;
 use std::alloc::Global;
 use std::sync::Wait;

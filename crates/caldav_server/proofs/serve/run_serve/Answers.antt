@@ -1,5 +1,5 @@
 use Rattle.std.proofs.Common.{inr, subst}
-use Rattle.caldav_server.specs.ServeWords.{TakesServe}
+use Rattle.command_words.specs.ServeWords.{TakesServe}
 use Rattle.caldav_server.proofs.serve.run_serve.Goals as goal
 
 pub returns-in-Ok-clause-words_taken : goal.returns-in-Ok-clause-words_taken

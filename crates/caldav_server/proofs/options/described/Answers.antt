@@ -1,9 +1,0 @@
-use Rattle.std.proofs.Common.{◌∙◌, ap}
-use Rattle.clap.specs.Simple.{App, app_of_fields}
-use Rattle.caldav_server.specs.Options.{with_version}
-use Rattle.caldav_server.proofs.options.described.Goals as goal
-
-pub returns : goal.returns
-returns c =
-    ap app_of_fields c.version.ensures
-    ∙ ap (λ (a : App). with_version a) (ap app_of_fields c.about.ensures ∙ c.new.ensures.app)

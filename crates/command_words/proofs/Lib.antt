@@ -1,0 +1,3 @@
+mod LoadWordLaws
+mod Numbers
+mod WordLaws

@@ -1,0 +1,6 @@
+use Rattle.command_words.proofs.LoadWordLaws.{asked, simple_made}
+use Rattle.command_words.proofs.load_words.load_text.Goals as goal
+
+pub returns-clause-untaken : goal.returns-clause-untaken
+returns-clause-untaken c =
+    asked _ c.args.words.now c.in-Err.error c.asked_text.result c.in-Ok.ensures (c.in-Err.ensures.kinds (simple_made _ c.in-Ok.ensures)) c.asked_text.ensures.asked

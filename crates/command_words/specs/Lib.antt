@@ -1,0 +1,5 @@
+pub mod LoadSaid
+pub mod LoadWords
+pub mod Options
+pub mod SaidWords
+pub mod ServeWords

@@ -1,0 +1,191 @@
+//! The words of the command `serve`.
+ghost use Rattle.std.specs.Prelude.{◌≡◌, ◌-◌, ◌^◌, ◌<◌, ◌↔◌, false, codes, IfOk, IfSome, IsErrOf, IsTrue};
+ghost use Rattle.clap.specs.Words.{app_of, rule_of};
+ghost use Rattle.command_words.specs.Options.{IsShown, needed, number, value_text};
+ghost use Rattle.command_words.specs.ServeWords as spec;
+ghost use Rattle.command_words.specs.SaidWords.{ArePlain, IsSaid};
+
+use crate::options::{
+    Numbers, Untaken, asked_text, is_plain, needed_option, new_command, number_option, number_said,
+    text_of, why_untaken, with_option,
+};
+use cal_base::Word;
+use clap::{Arg, ArgMatches, Command, Error};
+use std::alloc::{AllocError, Global};
+
+const SESSIONS: Numbers<'static> = Numbers {
+    low: 1,
+    high: 16,
+    other: "4",
+};
+
+const WORKERS: Numbers<'static> = Numbers {
+    low: 0,
+    high: 4,
+    other: "2",
+};
+
+const CONNECTIONS: Numbers<'static> = Numbers {
+    low: 0,
+    high: u64::MAX,
+    other: "0",
+};
+
+const ABOUT: &str = "Serves calendars to calendar programs (CalDAV)";
+
+/// What the words of `serve` say.
+#[derive(Clone, Copy)]
+pub struct ServeWords<'a> {
+    /// The path of the users file.
+    pub users: &'a str,
+    /// The address to listen at.
+    pub listen: &'a str,
+    /// How many connections are served at once, 1 to 16.
+    pub sessions: u64,
+    /// How many threads expand recurring events, 0 to 4.
+    pub workers: u64,
+    /// After how many connections the server ends; 0 is without end.
+    pub connections: u64,
+}
+
+/// The command, as `clap` reads it.
+fn serve_command<'a>(alloc: Global) -> Result<Command<'a>, AllocError>
+    ensures { IfOk result (λ c. app_of c ≡ spec.serve) }
+{
+    let command = new_command(alloc, "serve", "caldav_server serve", ABOUT)?;
+    let command = with_option(command, users_option(alloc))?;
+    let command = with_option(command, listen_option(alloc))?;
+    let command = with_option(command, sessions_option(alloc))?;
+    let command = with_option(command, workers_option(alloc))?;
+    let command = with_option(command, connections_option(alloc))?;
+    Ok(command)
+}
+
+fn users_option<'a>(alloc: Global) -> Arg<'a>
+    ensures rule { rule_of result ≡ needed (codes "users") }
+    ensures local { result.global ≡ false }
+{
+    needed_option(
+        alloc,
+        "users",
+        "FILE",
+        "Who may come in: a line `user NAME SHA256` for each, the SHA-256 of the password in hexadecimal digits",
+    )
+}
+
+fn listen_option<'a>(alloc: Global) -> Arg<'a>
+    ensures rule { rule_of result ≡ needed (codes "listen") }
+    ensures local { result.global ≡ false }
+{
+    needed_option(
+        alloc,
+        "listen",
+        "ADDRESS",
+        "Where to listen, as 127.0.0.1:5232",
+    )
+}
+
+fn sessions_option<'a>(alloc: Global) -> Arg<'a>
+    ensures rule { rule_of result ≡ number (codes "sessions") 1 16 (codes "4") }
+    ensures local { result.global ≡ false }
+{
+    number_option(
+        alloc,
+        "sessions",
+        SESSIONS,
+        "How many connections are served at once, 1 to 16",
+    )
+}
+
+fn workers_option<'a>(alloc: Global) -> Arg<'a>
+    ensures rule { rule_of result ≡ number (codes "workers") 0 4 (codes "2") }
+    ensures local { result.global ≡ false }
+{
+    number_option(
+        alloc,
+        "workers",
+        WORKERS,
+        "How many threads expand recurring events ahead of the queries, 0 to 4",
+    )
+}
+
+fn connections_option<'a>(alloc: Global) -> Arg<'a>
+    ensures rule { rule_of result ≡ number (codes "connections") 0 (2 ^ 64 - 1) (codes "0") }
+    ensures local { result.global ≡ false }
+{
+    number_option(
+        alloc,
+        "connections",
+        CONNECTIONS,
+        "After how many connections to end; 0 is never",
+    )
+}
+
+/// The help of `serve` or the version, where the words ask for it. Words that the command takes ask
+/// for neither.
+pub fn serve_text(alloc: Global, words: &[Word]) -> Option<Error>
+    ensures shown { IfSome result (λ text. IsShown text) }
+    ensures untaken { IfSome result (λ _. ¬ spec.TakesServe words.now) }
+{
+    let Ok(command) = serve_command(alloc) else {
+        return None;
+    };
+    match command.try_get_matches_from(words) {
+        Ok(_) => None,
+        Err(error) => asked_text(error),
+    }
+}
+
+/// What the words say, if the command takes them.
+pub fn read_serve<'a>(alloc: Global, words: &'a [Word]) -> Result<ServeWords<'a>, Untaken>
+    ensures taken { IfOk result (λ _. spec.TakesServe words.now) }
+    ensures said { IfOk result (λ w. IsSaid (spec.option_text (codes "users") words.now) (spec.option_text (codes "listen") words.now) (spec.option_text (codes "sessions") words.now) (spec.option_text (codes "workers") words.now) (spec.option_text (codes "connections") words.now) w) }
+    ensures sessions { IfOk result (λ w. 0 < w.sessions) }
+    ensures untaken { IsErrOf result Untaken.Words → ¬ spec.TakesServe words.now }
+{
+    let Ok(command) = serve_command(alloc) else {
+        return Err(Untaken::NoMemory);
+    };
+    match command.try_get_matches_from(words) {
+        Ok(matches) => chosen(&matches),
+        Err(error) => Err(why_untaken(&error)),
+    }
+}
+
+/// What the words say that the library takes, if each number is plain.
+fn chosen<'a>(matches: &ArgMatches<'a>) -> Result<ServeWords<'a>, Untaken>
+    ensures plain { IfOk result (λ _. ArePlain (value_text (codes "sessions") matches.now) (value_text (codes "workers") matches.now) (value_text (codes "connections") matches.now)) }
+    ensures refused { IsErrOf result Untaken.Words → ¬ ArePlain (value_text (codes "sessions") matches.now) (value_text (codes "workers") matches.now) (value_text (codes "connections") matches.now) }
+    ensures said { IfOk result (λ w. IsSaid (value_text (codes "users") matches.now) (value_text (codes "listen") matches.now) (value_text (codes "sessions") matches.now) (value_text (codes "workers") matches.now) (value_text (codes "connections") matches.now) w) }
+    ensures sessions { IfOk result (λ w. 0 < w.sessions) }
+{
+    if has_plain_numbers(matches) {
+        Ok(said(matches))
+    } else {
+        Err(Untaken::Words)
+    }
+}
+
+/// Whether each number is plain.
+fn has_plain_numbers(matches: &ArgMatches<'_>) -> bool
+    ensures { IsTrue result ↔ ArePlain (value_text (codes "sessions") matches.now) (value_text (codes "workers") matches.now) (value_text (codes "connections") matches.now) }
+{
+    let sessions = is_plain(text_of(matches, "sessions"));
+    let workers = is_plain(text_of(matches, "workers"));
+    let connections = is_plain(text_of(matches, "connections"));
+    sessions && workers && connections
+}
+
+/// What the options of words that were taken say.
+fn said<'a>(matches: &ArgMatches<'a>) -> ServeWords<'a>
+    ensures said { IsSaid (value_text (codes "users") matches.now) (value_text (codes "listen") matches.now) (value_text (codes "sessions") matches.now) (value_text (codes "workers") matches.now) (value_text (codes "connections") matches.now) result }
+    ensures some_sessions { 0 < result.sessions }
+{
+    ServeWords {
+        users: text_of(matches, "users"),
+        listen: text_of(matches, "listen"),
+        sessions: number_said(text_of(matches, "sessions"), 1, 16, 4),
+        workers: number_said(text_of(matches, "workers"), 0, 4, 2),
+        connections: number_said(text_of(matches, "connections"), 0, u64::MAX, 0),
+    }
+}
