@@ -239,7 +239,7 @@ def tests(picked):
     for name in BELOW:
         if "#[test]" in "".join(text for _, text in all_sources(name)):
             found.append((name if name.startswith("tests_") else f"{name}-tests", name, True))
-        if os.path.exists(os.path.join(TOP, "crates", name, "stdout")) and not name.endswith("_bench"):
+        if os.path.exists(os.path.join(TOP, "crates", name, "stdout")) and name != "bench":
             found.append((name, name, False))
     found += [(script, "caldav_server", None) for script in SCRIPTS]
     if picked:

@@ -1,26 +1,14 @@
 #!/usr/bin/env python3
 """Times the programs over generated input, and prints the figures. It needs Python 3, and Debian's package `time` for the memory.
 
-Build the programs once before: `rt run` in crates/caldav_server and in each crate whose name ends in _bench.
+Build the programs once before: `rt run` in crates/caldav_server and in crates/bench.
 Words name the parts that are to run (scripts, growth, puts, expansions, zones, lines, values, objects, rules, rows, filters, bodies, requests, wire, busy, index, claims, turns); without a word all do.
 """
 import base64, contextlib, datetime, os, re, resource, socket, subprocess, sys, tempfile, time
 
 TOP = os.path.dirname(os.path.dirname(os.path.abspath(__file__)))
 SERVER = os.path.join(TOP, "crates/caldav_server/out/caldav_server")
-BUSY = os.path.join(TOP, "crates/busy_bench/out/busy_bench")
-LINES = os.path.join(TOP, "crates/lines_bench/out/lines_bench")
-INDEX = os.path.join(TOP, "crates/index_bench/out/index_bench")
-CLAIMS = os.path.join(TOP, "crates/claims_bench/out/claims_bench")
-TURNS = os.path.join(TOP, "crates/turns_bench/out/turns_bench")
-BODIES = os.path.join(TOP, "crates/xml_bench/out/xml_bench")
-REQUESTS = os.path.join(TOP, "crates/elements_bench/out/elements_bench")
-VALUES = os.path.join(TOP, "crates/values_bench/out/values_bench")
-RULES = os.path.join(TOP, "crates/rules_bench/out/rules_bench")
-OBJECTS = os.path.join(TOP, "crates/objects_bench/out/objects_bench")
-ROWS = os.path.join(TOP, "crates/rows_bench/out/rows_bench")
-FILTERS = os.path.join(TOP, "crates/filter_bench/out/filter_bench")
-WIRE = os.path.join(TOP, "crates/wire_bench/out/wire_bench")
+BENCH = os.path.join(TOP, "crates/bench/out/bench")
 USERS = b"user alice ba7816bf8f01cfea414140de5dae2223b00361a396177a9cb410ff61f20015ad\n"
 
 
@@ -273,8 +261,8 @@ def lines():
             "many lines": b"A:\r\n" * (n // 4),
         }
         for name, text in texts.items():
-            best = min(run(LINES, [], text)[0] for _ in range(5))
-            answer = run(LINES, [], text)[2].decode().strip()
+            best = min(run(BENCH, ["lines"], text)[0] for _ in range(5))
+            answer = run(BENCH, ["lines"], text)[2].decode().strip()
             print(f"{name:34} {len(text):8d} {best:8.4f} {best / len(text) * 1e9:9.1f}  {answer}")
 
 
@@ -288,17 +276,17 @@ def processor_run(program, words, text):
 
 def index():
     print(f"{'index':34} {'pieces':>8} {'add':>8} {'find':>8} {'drop':>8} {'MiB':>6}  ns of processor a piece")
-    for form, objects, windows in (("1", 10000, 1), ("2", 100000, 1), ("3", 20000, 5), ("4", 2000, 50)):
-        for size, rows in (("0", 0), ("r", 60)):
+    for objects, windows in ((10000, 1), (100000, 1), (20000, 5), (2000, 50)):
+        for rows in (0, 60):
             pieces = objects * windows
             seconds, most = {}, 0
-            for task, answer in (("a", [0, pieces * rows]), ("f", [pieces, pieces * rows]), ("d", [0, 0])):
-                runs = [processor_run(INDEX, [], (task + form + size).encode()) for _ in range(3)]
+            for task, answer in (("add", [0, pieces * rows]), ("find", [pieces, pieces * rows]), ("drop", [0, 0])):
+                runs = [processor_run(BENCH, ["index", task, str(objects), str(windows), str(rows)], b"") for _ in range(3)]
                 if any([int(word) for word in output.split()] != answer for _, _, output in runs):
-                    sys.exit(f"{INDEX} answered {runs[0][2]}")
+                    sys.exit(f"{BENCH} index answered {runs[0][2]}")
                 seconds[task] = min(taken for taken, _, _ in runs)
                 most = max([most] + [memory for _, memory, _ in runs])
-            each = [seconds["a"], seconds["f"] - seconds["a"], seconds["d"] - seconds["a"]]
+            each = [seconds["add"], seconds["find"] - seconds["add"], seconds["drop"] - seconds["add"]]
             label = f"{objects} objects, {windows} windows, {rows} rows"
             figures = " ".join(f"{taken / pieces * 1e9:8.0f}" for taken in each)
             print(f"{label:34} {pieces:8d} {figures} {most:6.1f}")
@@ -306,21 +294,21 @@ def index():
 
 def claims():
     print(f"{'claims':44} {'pairs':>8} {'seconds':>8} {'us each':>8} {'MiB':>6}")
-    for thousands, tens in ((1, 0), (10, 0), (20, 0), (40, 0), (10, 2)):
-        runs = [processor_run(CLAIMS, [], bytes([48 + thousands, 48 + tens])) for _ in range(3)]
+    for objects, rows in ((1000, 0), (10000, 0), (20000, 0), (40000, 0), (10000, 20)):
+        runs = [processor_run(BENCH, ["claims", str(objects), str(rows)], b"") for _ in range(3)]
         seconds, memory = min(taken for taken, _, _ in runs), max(most for _, most, _ in runs)
         published = int(runs[0][2].split()[0])
-        if published != thousands * 1000 * HORIZON:
-            sys.exit(f"{CLAIMS} answered {runs[0][2]}")
-        label = f"{thousands * 1000} objects, {tens * 10} rows a piece"
+        if published != objects * HORIZON:
+            sys.exit(f"{BENCH} claims answered {runs[0][2]}")
+        label = f"{objects} objects, {rows} rows a piece"
         print(f"{label:44} {published:8d} {seconds:8.3f} {seconds / published * 1e6:8.3f} {memory:6.1f}")
 
 
 def turns():
     print(f"{'turns':34} {'seconds':>8} {'us each':>8}")
     for threads, each in ((1, 1000000), (4, 200000), (16, 20000)):
-        output = run(TURNS, [str(threads), str(each)], b"")[2]
-        micros = int(output.split()[1])
+        output = run(BENCH, ["turns", str(threads), str(each), "times"], b"")[2].decode()
+        micros = int(re.search(r"taken (\d+)", output)[1])
         label = f"{threads} threads, {each} turns each"
         print(f"{label:34} {micros / 1e6:8.3f} {micros / (threads * each):8.3f}")
 
@@ -329,13 +317,13 @@ def values():
     print(f"{'value':34} {'octets':>8} {'seconds':>8} {'ns/octet':>9}  answer")
     for count in (3855, 7710, 15420, 30840, 61680):
         text = b"RDATE:" + b",".join([b"19970714T133000Z"] * count) + b"\r\n"
-        best = min(run(VALUES, [], text)[0] for _ in range(5))
-        answer = run(VALUES, [], text)[2].decode().strip()
+        best = min(run(BENCH, ["values"], text)[0] for _ in range(5))
+        answer = run(BENCH, ["values"], text)[2].decode().strip()
         print(f"{f'RDATE of {count} moments':34} {len(text):8d} {best:8.4f} {best / len(text) * 1e9:9.1f}  {answer}")
     for count in (13105, 26211, 52424, 104856, 209712):
         text = b"RRULE:FREQ=YEARLY;BYYEARDAY=" + b",".join([b"-366"] * count) + b"\r\n"
-        best = min(run(VALUES, [], text)[0] for _ in range(5))
-        answer = run(VALUES, [], text)[2].decode().strip()
+        best = min(run(BENCH, ["values"], text)[0] for _ in range(5))
+        answer = run(BENCH, ["values"], text)[2].decode().strip()
         print(f"{f'RRULE of {count} days':34} {len(text):8d} {best:8.4f} {best / len(text) * 1e9:9.1f}  {answer}")
 
 
@@ -369,7 +357,7 @@ def bodies():
             "one long namespace, many elements": b"<a xmlns='" + b"u" * (size // 2) + b"'>" + b"<b/>" * (size // 8 - 5) + b"</a>",
         }
         for name, text in texts.items():
-            best, memory, output = min(processor_run(BODIES, [], text) for _ in range(3))
+            best, memory, output = min(processor_run(BENCH, ["bodies"], text) for _ in range(3))
             print(f"{name:34} {len(text):8d} {best:8.4f} {best / len(text) * 1e9:9.1f} {memory:6.1f}  {output.decode().strip()}")
 
 
@@ -391,8 +379,8 @@ def requests():
             "protected aces": ("acl", filled(b"<D:acl" + both, b"<D:ace><D:protected/></D:ace>", b"</D:acl>", size)),
         }
         for name, (word, text) in texts.items():
-            best, memory, output = min(processor_run(REQUESTS, [word], text) for _ in range(3))
-            body = min(processor_run(BODIES, [], text)[0] for _ in range(3)) if os.path.exists(BODIES) else 0.0
+            best, memory, output = min(processor_run(BENCH, ["requests", word], text) for _ in range(3))
+            body = min(processor_run(BENCH, ["bodies"], text)[0] for _ in range(3))
             print(f"{name:34} {len(text):8d} {best:8.4f} {best - body:8.4f} {(best - body) / len(text) * 1e9:9.1f} {memory:6.1f}  {output.decode().strip()}")
 
 
@@ -400,7 +388,7 @@ def rules():
     print(f"{'rule':34} {'by days':>8} {'by steps':>8} {'times as fast':>14}")
     best = {}
     for _ in range(11):
-        for label, plain, step, unit in re.findall(r"(.*): (\d+) and (\d+) (ns a step|us a table)", run(RULES, ["times"], b"")[2].decode()):
+        for label, plain, step, unit in re.findall(r"(.*): (\d+) and (\d+) (ns a step|us a table)", run(BENCH, ["rules", "times"], b"")[2].decode()):
             plain, step = int(plain), int(step)
             before = best.get((label, unit), (plain, step))
             best[label, unit] = min(plain, before[0]), min(step, before[1])
@@ -497,16 +485,16 @@ def objects():
     sizes = [object_kinds(size) for size in (65536, 131072, 262144)]
     for name in sizes[0]:
         for text in (kinds[name] for kinds in sizes):
-            one, many = run(OBJECTS, ["1"], text)[1], run(OBJECTS, ["9"], text)[1]
-            found = [re.findall(rb"\d+", run(OBJECTS, ["7"], text)[2]) for _ in range(3)]
+            one, many = run(BENCH, ["objects", "1"], text)[1], run(BENCH, ["objects", "9"], text)[1]
+            found = [re.findall(rb"\d+", run(BENCH, ["objects", "7"], text)[2]) for _ in range(3)]
             if any(len(it) != 2 for it in found):
-                sys.exit(f"{name}: {run(OBJECTS, ['1'], text)[2]!r}")
+                sys.exit(f"{name}: {run(BENCH, ['objects', '1'], text)[2]!r}")
             nanos = min(int(nanos) for _, nanos in found)
             print(f"{name:36} {len(text):8d} {nanos / len(text):12.1f} {(many - one) / 8 * 1048576 / len(text):11.1f}")
     for name, zone in (("an event of 700 octets", []), ("the same with its zone", NEW_YORK)):
         start = b"DTSTART;TZID=NY:20260105T090000" if zone else b"DTSTART:20260105T090000Z"
         text = calendar(zone, [b"DTSTAMP:20250101T000000Z", start, b"DURATION:PT30M", b"RRULE:FREQ=WEEKLY", b"SUMMARY:Stand-up", b"DESCRIPTION:" + b"x" * 440, b"LOCATION:Room 1", b"STATUS:CONFIRMED"])
-        one, many = run(OBJECTS, ["1"], text)[1], run(OBJECTS, ["4001"], text)[1]
+        one, many = run(BENCH, ["objects", "1"], text)[1], run(BENCH, ["objects", "4001"], text)[1]
         print(f"{name:36} {len(text):8d} octets: {(many - one) * 1048576 / 4000:.0f} octets kept for an object")
 
 
@@ -548,34 +536,107 @@ def row_objects():
 def rows():
     print(f"{'rows of the window from 27 January 2026':42} {'octets':>8} {'rows':>6} {'us':>9} {'us a row':>9}")
     for name, text in row_objects().items():
-        found = [re.findall(rb"\d+", run(ROWS, ["320", "20"], text)[2]) for _ in range(3)]
+        found = [re.findall(rb"\d+", run(BENCH, ["rows", "320", "20"], text)[2]) for _ in range(3)]
         number = int(found[0][0])
         micros = min(int(nanos) for _, nanos in found) / 1000
         print(f"{name:42} {len(text):8d} {number:6d} {micros:9.1f} {micros / max(number, 1):9.3f}")
 
 
+def asking(*tests):
+    """A calendar-query with these tests of the outermost component."""
+    return (
+        b'<C:calendar-query xmlns:D="DAV:" xmlns:C="urn:ietf:params:xml:ns:caldav"><D:prop><D:getetag/></D:prop>'
+        b'<C:filter><C:comp-filter name="VCALENDAR">' + b"".join(tests) + b"</C:comp-filter></C:filter></C:calendar-query>"
+    )
+
+
+def test_of(name, *inner):
+    """A test of the components of a name."""
+    return b'<C:comp-filter name="%s">%s</C:comp-filter>' % (name, b"".join(inner))
+
+
+def range_of(start, end):
+    return b'<C:time-range start="%s" end="%s"/>' % (start, end)
+
+
+def text_of(name, text):
+    return b'<C:prop-filter name="%s"><C:text-match>%s</C:text-match></C:prop-filter>' % (name, text)
+
+
+def meetings(count):
+    """So many weekly meetings of eight weeks, half an hour long. They begin on each day of a year in turn."""
+    starts = stamps((1970, 1, 1, 9), 86400, 365)
+    return [content(
+        b"BEGIN:VCALENDAR", b"VERSION:2.0", b"BEGIN:VEVENT", b"UID:a-name@example.org", b"DTSTAMP:20250101T000000Z", b"DTSTART:" + starts[number % 365],
+        b"DURATION:PT30M", b"RRULE:FREQ=WEEKLY;COUNT=8", b"LOCATION:Here", b"SUMMARY:Object %d" % (number % 10),
+        b"DESCRIPTION:" + b"what is said and what is done. " * 20, b"END:VEVENT", b"END:VCALENDAR",
+    ) for number in range(count)]
+
+
+def small_parts(size, width):
+    """Tests of so great a width and objects of about so many octets, by name: the objects consist of thousands of small parts, of which the last alone passes."""
+    begin, end = content(b"BEGIN:VCALENDAR", b"VERSION:2.0"), content(b"END:VCALENDAR")
+    event = content(b"BEGIN:VEVENT", b"UID:a", b"DTSTART:19700101T000000Z", b"DURATION:PT30M", b"RRULE:FREQ=WEEKLY;COUNT=8")
+    days, minutes = stamps((1970, 1, 1), 86400, size // 90), stamps((1970, 1, 1), 60, size // 40 + 1)
+
+    def overrides(*inner):
+        parts = [content(b"BEGIN:VEVENT", b"UID:a", b"RECURRENCE-ID:" + day, b"DTSTART:" + day, *inner, b"END:VEVENT") for day in days]
+        number = size // len(parts[0])
+        last = days[number - 1]
+        return begin + b"".join(parts[:number]) + end, range_of(last, last[:11] + b"0100Z")
+
+    def alarm(minute):
+        return [b"BEGIN:VALARM", b"TRIGGER:PT%dM" % minute, b"END:VALARM"]
+
+    many = size // 42
+    alarms = begin + event + b"".join(content(*alarm(minute)) for minute in range(many)) + content(b"END:VEVENT") + end
+    words = b"COMMENT:what is said and what is done "
+    lines = begin + event + content(*[words + b"from here on"] * (size // 52), words + b"at the end", b"END:VEVENT") + end
+    small, of_last = overrides()
+    alarmed, of_last_alarm = overrides(*alarm(0))
+    return {
+        "ranges over overrides": (asking(*[test_of(b"VEVENT", of_last)] * width), small),
+        "ranges of alarms over overrides": (asking(*[test_of(b"VEVENT", test_of(b"VALARM", of_last_alarm))] * width), alarmed),
+        "ranges over alarms of an event": (asking(test_of(b"VEVENT", *[test_of(b"VALARM", range_of(minutes[many - 1], minutes[many]))] * width)), alarms),
+        "texts over lines of an event": (asking(test_of(b"VEVENT", *[text_of(b"COMMENT", b"THE END")] * width)), lines),
+        "ranges over an event of lines": (asking(*[test_of(b"VEVENT", range_of(days[0], days[1]))] * width), lines),
+    }
+
+
+def asked(query, objects, rounds):
+    """How many objects match, and the nanoseconds of an object in the round that took least."""
+    output = run(BENCH, ["filters", str(rounds)], b"|".join([query, *objects]))[2].decode()
+    found = re.fullmatch(r"(\d+) of (\d+) match\n(\d+) ns an object\n", output)
+    if not found or int(found[2]) != len(objects):
+        sys.exit(f"{BENCH} filters answered {output}")
+    return int(found[1]), int(found[3])
+
+
 def filters():
     print(f"{'filter':34} {'objects':>8} {'ns each':>8}  answer")
+    queries = {
+        "a month": asking(test_of(b"VEVENT", range_of(b"19700411T000000Z", b"19700511T000000Z"))),
+        "a short text": asking(test_of(b"VEVENT", text_of(b"SUMMARY", b"OBJECT 7"))),
+        "a long text": asking(test_of(b"VEVENT", text_of(b"DESCRIPTION", b"not there"))),
+    }
     for count in (2500, 5000, 10000):
-        best = {}
-        for _ in range(3):
-            output = run(FILTERS, [str(count), "20"], b"")[2].decode()
-            for label, answer, nanos in re.findall(r"(.*): (\d+ match)\n.*: (\d+) ns an object", output):
-                best[label, answer] = min(int(nanos), best.get((label, answer), int(nanos)))
-        for (label, answer), nanos in best.items():
-            print(f"{label:34} {count:8d} {nanos:8d}  {answer}")
+        objects = meetings(count)
+        for label, query in queries.items():
+            runs = [asked(query, objects, 20) for _ in range(3)]
+            print(f"{label:34} {count:8d} {min(nanos for _, nanos in runs):8d}  {runs[0][0]} match")
     print(f"{'filter of small parts':34} {'octets':>8} {'tests':>6} {'us':>9} {'us a test':>10}")
     for octets, width, rounds in ((65536, 1, 60), (131072, 1, 60), (262144, 1, 60), (262144, 100, 3), (262144, 1000, 1)):
-        output = run(FILTERS, ["1", str(rounds), str(width), str(octets)], b"")[2].decode()
-        for label, nanos in re.findall(r"(.* over .*): (\d+) ns an object", output):
-            micros = int(nanos) / 1000
-            print(f"{label:34} {octets:8d} {width:6d} {micros:9.1f} {micros / width:10.2f}")
+        for label, (query, text) in small_parts(octets, width).items():
+            matches, nanos = asked(query, [text], rounds)
+            if matches != 1:
+                sys.exit(f"{label}: no match")
+            print(f"{label:34} {octets:8d} {width:6d} {nanos / 1000:9.1f} {nanos / 1000 / width:10.2f}")
 
 
 def busy():
     print(f"{'busy times':34} {'seconds':>8} {'us each':>8} {'MiB':>6}  answer")
     for count in (50000, 100000, 200000):
-        runs = [processor_run(BUSY, [str(count)], b"") for _ in range(3)]
+        runs = [processor_run(BENCH, ["busy", str(count)], b"") for _ in range(3)]
         seconds = min(taken for taken, _, _ in runs)
         most = max(memory for _, memory, _ in runs)
         answer = runs[0][2].decode().strip()
@@ -596,7 +657,7 @@ def wire():
     }
     for name, stream in streams.items():
         for size in (1, 1000, len(stream)):
-            runs = [processor_run(WIRE, [str(size)], stream) for _ in range(3)]
+            runs = [processor_run(BENCH, ["wire", str(size)], stream) for _ in range(3)]
             best = min(taken for taken, _, _ in runs)
             memory = max(most for _, most, _ in runs)
             answer = runs[0][2].decode().strip()
@@ -604,14 +665,16 @@ def wire():
 
 
 PARTS = {
-    "scripts": (scripts, SERVER), "growth": (growth, SERVER), "puts": (puts, SERVER), "expansions": (expansions, SERVER), "zones": (zones, SERVER), "lines": (lines, LINES), "values": (values, VALUES), "objects": (objects, OBJECTS), "rules": (rules, RULES), "rows": (rows, ROWS), "filters": (filters, FILTERS),
-    "bodies": (bodies, BODIES), "requests": (requests, REQUESTS), "wire": (wire, WIRE), "busy": (busy, BUSY), "index": (index, INDEX), "claims": (claims, CLAIMS), "turns": (turns, TURNS),
+    "scripts": scripts, "growth": growth, "puts": puts, "expansions": expansions, "zones": zones, "lines": lines, "values": values, "objects": objects, "rules": rules, "rows": rows, "filters": filters,
+    "bodies": bodies, "requests": requests, "wire": wire, "busy": busy, "index": index, "claims": claims, "turns": turns,
 }
+OF_SERVER = ("scripts", "growth", "puts", "expansions", "zones")
 chosen = sys.argv[1:] or list(PARTS)
 for name in chosen:
     if name not in PARTS:
         sys.exit(f"no part {name}: there are {', '.join(PARTS)}")
-    if not os.path.exists(PARTS[name][1]):
-        sys.exit(f"{PARTS[name][1]} is not built: run `rt run` in its crate's folder first")
+    program = SERVER if name in OF_SERVER else BENCH
+    if not os.path.exists(program):
+        sys.exit(f"{program} is not built: run `rt run` in its crate's folder first")
 for name in chosen:
-    PARTS[name][0]()
+    PARTS[name]()

@@ -1,5 +1,0 @@
-use Rattle.std.proofs.Common.{◌≡◌, length}
-use Rattle.claims_bench.proofs.rows_of.Given as goal
-
-abbrev pub invariant-loop-start : goal.invariant-loop-start
-invariant-loop-start l = length l.rows ≡ l.start

@@ -1,4 +1,0 @@
-use Rattle.index_bench.proofs.drop_all.Given as goal
-
-abbrev pub ghosts-drop_counted : goal.ghosts-drop_counted
-ghosts-drop_counted a = record { name = a.blank.name; parts = a.blank.parts }

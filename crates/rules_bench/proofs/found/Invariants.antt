@@ -1,6 +1,0 @@
-use Rattle.cal_model.specs.Recurrence.NextPassing.{IsWritten}
-use Rattle.rules_bench.proofs.found.Given as goal
-
--- the next moment to ask from is a written one
-abbrev pub invariant-steps : goal.invariant-steps
-invariant-steps g l = IsWritten l.from
