@@ -1,11 +1,12 @@
-//! Prints the rows of an object.
+//! The rows of calendar objects, by their texts.
 ghost use Rattle.std.specs.Prelude.{◌≡◌, ◌<◌, ◌^◌, false, length};
 ghost use Rattle.cal_model.specs.Objects.ObjectFacts.{IsRead};
 ghost use Rattle.cal_model.specs.Instances.Rows.{has_fine_rule};
 
-use crate::texts::{kind_word, moment_text};
+use crate::texts::{case_parts, case_windows, kind_word, moment_text, print_fault};
 use cal_base::{NoMemory, Steps};
 use cal_model::{Object, Row};
+use cal_object::read_object;
 use rrule_sets::{Counted, count_rows, has_fine_rule, undated_rows, window_rows};
 use std::io;
 use std::marker::Brand;
@@ -17,10 +18,7 @@ const LIMIT: u32 = 250_000;
 /// Prints a moment.
 fn print_moment(rt: &HostRuntime, seconds: i64) -> io::Result<()> {
     let text = moment_text(seconds);
-    match str::from_utf8(&text) {
-        Ok(text) => print!(rt; " {text}"),
-        Err(_) => print!(rt; " {seconds}"),
-    }
+    print!(rt; " {}", str::from_utf8(&text).unwrap_or(""))
 }
 
 /// Prints a row.
@@ -97,7 +95,7 @@ fn print_count(rt: &HostRuntime, object: &Object) -> io::Result<()>
 }
 
 /// Prints the rows of an object in the windows from one to another.
-pub fn print_object(rt: &HostRuntime, object: &Object, first: i32, last: i32) -> io::Result<()>
+fn print_object(rt: &HostRuntime, object: &Object, first: i32, last: i32) -> io::Result<()>
     requires read { IsRead object.now }
     requires few { length object.now.components < 2 ^ 32 }
 {
@@ -107,4 +105,30 @@ pub fn print_object(rt: &HostRuntime, object: &Object, first: i32, last: i32) ->
     print_count(rt, object)?;
     print_undated(rt, object)?;
     print_windows::<Brand>(rt, object, first, last, Blank::new(1))
+}
+
+/// Prints what a case gives.
+fn print_case(rt: &HostRuntime, case: &[u8]) -> io::Result<()> {
+    let (head, text) = case_parts(case);
+    let Some((first, last)) = case_windows(head) else {
+        return println!(rt; "two windows are wanted");
+    };
+    if text.len() > 1 << 20 {
+        return println!(rt; "more octets than are read");
+    }
+    match read_object(rt.alloc(), text) {
+        Ok(object) => print_object(rt, &object, first, last),
+        Err(fault) => print_fault(rt, fault, "object"),
+    }
+}
+
+/// Prints for each case, a line `# FIRST LAST` with the numbers of two windows of 64 days and the text
+/// of a calendar object behind it, how many rows the object has, up to 250,000, its undated rows, and
+/// its rows window by window from the first window to the last, a row a line: the window, the
+/// component, and the id, the start and the end as they are counted. Or why there is no such object.
+pub fn print_objects(rt: &HostRuntime, cases: &[u8]) -> io::Result<()> {
+    for case in cases.split(|octet| *octet == b'#').skip(1) {
+        print_case(rt, case)?;
+    }
+    Ok(())
 }

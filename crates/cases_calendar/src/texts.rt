@@ -1,8 +1,10 @@
-//! The texts of cases, and of the moments of rows.
+//! The texts of cases, of moments and of faults.
 ghost use Rattle.std.specs.Prelude.{◌≡◌};
 
 use cal_model::RowKind;
 use cal_moment::{Local, write_local};
+use cal_object::ReadFault;
+use std::io;
 
 /// The line of a case and what stands behind it.
 pub fn case_parts(case: &[u8]) -> (&[u8], &[u8]) {
@@ -54,5 +56,15 @@ pub fn kind_word(kind: RowKind) -> &'static str {
         RowKind::Floating => "floating",
         RowKind::Date => "date",
         RowKind::Undated => "undated",
+    }
+}
+
+/// Prints why octets are no such thing.
+pub fn print_fault(rt: &HostRuntime, fault: ReadFault, thing: &str) -> io::Result<()> {
+    match fault {
+        ReadFault::NotCalendar { place } => println!(rt; "no calendar: octet {place}"),
+        ReadFault::NotResource(_) => println!(rt; "no {thing}"),
+        ReadFault::DateOutside(_, _) => println!(rt; "a date outside"),
+        ReadFault::NoMemory => println!(rt; "out of memory"),
     }
 }

@@ -1,10 +1,5 @@
-//! Reads rules from their texts, so that a table of them can be compared.
-//!
-//! Given: texts of rules on standard input, one a line. Gives: for each a line that says what the rule
-//! says, or the place of its first fault, on standard output.
-#![tactic(auto)]
+//! What rules say, by their texts.
 
-use cal_base::{StdSource, read_up_to};
 use cal_model::{DayPart, Freq, Rule, Until};
 use ical_values::{ValueFault, read_rule};
 use std::io;
@@ -71,13 +66,18 @@ fn print_case(rt: &HostRuntime, text: &[u8]) -> io::Result<()> {
     }
 }
 
-fn main(rt: HostRuntime) -> io::Result<()> {
-    let mut input = StdSource::new(&rt);
-    let Ok(octets) = read_up_to(rt.alloc(), &mut input, u64::MAX) else {
-        return println!(rt; "the input was not read");
-    };
-    for text in octets.as_slice().split(|octet| *octet == b'\n') {
-        print_case(&rt, text)?;
+/// Prints for each text, one a line, what the rule says, or the place of its first fault.
+pub fn print_rules(rt: &HostRuntime, texts: &[u8]) -> io::Result<()> {
+    for text in without_end(texts).split(|octet| *octet == b'\n') {
+        print_case(rt, text)?;
     }
     Ok(())
+}
+
+/// Lines without the end of the last one.
+fn without_end(texts: &[u8]) -> &[u8] {
+    match texts.split_last() {
+        Some((b'\n', front)) => front,
+        _ => texts,
+    }
 }
