@@ -1,7 +1,7 @@
 #!/usr/bin/env python3
-"""Writes the cases of the programs script_cases and book_cases, and what each of them has to give, from the rules of docs/.
+"""Writes the cases of scripts and of walks through books of the program cases_server, and what each of them has to give, from the rules of docs/.
 
-    bench/cases.py            writes stdin and stdout of these crates
+    bench/cases.py            writes them into stdin and stdout of its crate, where all other parts stay
     bench/cases.py --check    says whether they are what it would write
 
 What is to come is made here from the rules: the octets of each reply by docs/REPLIES.md, the order of refusals by
@@ -1274,24 +1274,32 @@ def books():
     ])
 
 
+def with_part(text, kind, cases):
+    """An input or an output of the program with other cases of a kind, which stand behind the line `@KIND` up to the next `@`."""
+    front, head, rest = text.partition(b"@%s\n" % kind.encode())
+    if not head or b"@" in cases:
+        sys.exit(f"no room for {kind}")
+    _, sign, rest = rest.partition(b"@")
+    return front + head + cases + sign + rest
+
+
 def main():
     orders = (methods, shapes, conditions, bodies, reading, deleting, putting, properties, granting, reporting, long_answers, homes)
     for part in (ends, cuttings, moments, streams, objects, *orders, replaced, several, rows, books):
         part()
-    for crate, given, told in (("script_cases", CASES, ANSWERS), ("book_cases", WALKS, TOLD)):
-        texts = {"stdin": b"".join(given), "stdout": b"".join(told)}
-        if not os.path.isdir(os.path.join(TOP, "crates", crate, "src")):
-            continue
-        for name, text in texts.items():
-            path = os.path.join(TOP, "crates", crate, name)
-            if "--check" in sys.argv:
-                with open(path, "rb") as file:
-                    if file.read() != text:
-                        sys.exit(f"{path} is not what the rules give")
-            else:
-                with open(path, "wb") as file:
-                    file.write(text)
-        print(f"{crate}: {len(given)} cases, {len(texts['stdin'])} and {len(texts['stdout'])} octets")
+    for name, made in (("stdin", {"books": WALKS, "scripts": CASES}), ("stdout", {"books": TOLD, "scripts": ANSWERS})):
+        path = os.path.join(TOP, "crates/cases_server", name)
+        with open(path, "rb") as file:
+            text = file.read()
+        told = text
+        for kind, cases in made.items():
+            told = with_part(told, kind, b"".join(cases))
+            print(f"{name}, {kind}: {len(cases)} cases, {sum(map(len, cases))} octets")
+        if "--check" not in sys.argv:
+            with open(path, "wb") as file:
+                file.write(told)
+        elif told != text:
+            sys.exit(f"{path} is not what the rules give")
 
 
 if __name__ == "__main__":

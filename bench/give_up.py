@@ -245,7 +245,7 @@ def tests(picked):
     if picked:
         by_label = {one[0]: one for one in found}
         return [by_label[label] for label in picked.split(",")]
-    first, slow = ["tests_base", "script_cases", "session_cases", "commands.py"], ["tests_recurrence", "workers.py"]
+    first, slow = ["tests_base", "cases_server", "commands.py"], ["tests_recurrence", "workers.py"]
     order = {label: place for place, label in enumerate(first + [None] + slow)}
     return sorted(found, key=lambda one: (order.get(one[0], len(first)), len(BELOW[one[1]])))
 
@@ -299,6 +299,15 @@ class Copy:
         return kept
 
 
+def short_cases(given, wanted):
+    """A part of a program's input and of its output without the cases that are long, where both have a title before each case."""
+    (given_head, *cases), (wanted_head, *told) = given.split(b"#"), re.split(rb"^# ", wanted, flags=re.M)
+    if len(cases) != len(told):
+        return given, wanted
+    kept = [(case, its) for case, its in zip(cases, told) if len(case) < SHORT and b"~" not in case and b"\noctets " not in case]
+    return b"#".join([given_head, *(case for case, _ in kept)]), b"# ".join([wanted_head, *(its for _, its in kept)])
+
+
 class Test:
     def __init__(self, copy, name, is_test):
         self.is_test = is_test
@@ -311,7 +320,7 @@ class Test:
         self.given, self.wanted = b"", None
         if not is_test:
             self.given, self.wanted = (self.read(name) for name in ("stdin", "stdout"))
-            if self.given.startswith(b"#") and self.wanted.startswith(b"# "):
+            if self.given.startswith(b"@"):
                 self.leave_long_cases_out()
 
     def read(self, name):
@@ -323,10 +332,8 @@ class Test:
 
     def leave_long_cases_out(self):
         """Of a program's cases those stay that are short: the others take long and make no other calls."""
-        given, wanted = self.given.split(b"#")[1:], re.split(rb"^# ", self.wanted, flags=re.M)[1:]
-        kept = [len(given) != len(wanted) or len(case) < SHORT and b"~" not in case and b"\noctets " not in case for case in given]
-        self.given = b"".join(b"#" + case for case, is_kept in zip(given, kept) if is_kept)
-        self.wanted = self.wanted if len(given) != len(wanted) else b"".join(b"# " + case for case, is_kept in zip(wanted, kept) if is_kept)
+        parts = [short_cases(given, wanted) for given, wanted in zip(self.given.split(b"@"), self.wanted.split(b"@"), strict=True)]
+        self.given, self.wanted = (b"@".join(side) for side in zip(*parts))
 
     def started(self, number, words):
         """Status and output, or none where it does not end; 0 is the number of no body. It is ended where its output is wrong."""
@@ -373,8 +380,8 @@ class Test:
             return None
         rows, wanted = output.split(b"\n"), self.wanted.split(b"\n")
         place = next((at for at, (one, other) in enumerate(zip(rows, wanted)) if one != other), min(len(rows), len(wanted)))
-        titles = [row for row in wanted[:place + 1] if row.startswith(b"# ")]
-        where = titles[-1][2:].decode() if titles else f"line {place + 1} of its output"
+        titles = [row for row in wanted[:place + 1] if row.startswith((b"# ", b"@"))]
+        where = titles[-1].lstrip(b"# @").decode() if titles else f"line {place + 1} of its output"
         return where + (", which does not end" if status is None else f", status {status}" if status else "")
 
 

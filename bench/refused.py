@@ -9,9 +9,9 @@ is replaced while a worker expands it, a plan of a zone with an override that is
 making to its end, and sessions and workers in threads (`load`). They run
 
 - as scripts, through the program: standard input and output;
-- as scripts over memory, through script_cases: the input and the output are lists, whose growth is refused like any other;
-- as sessions over links in memory, through session_cases;
-- as walks through a book, through book_cases: which piece is claimed, what becomes of it, and how many entries there are;
+- as scripts over memory, through cases_server: the input and the output are lists, whose growth is refused like any other;
+- as sessions over links in memory, through cases_server;
+- as walks through a book, through cases_server: which piece is claimed, what becomes of it, and how many entries there are;
 - the first also as two connections of a server, one after the other, over the loopback address.
 
 Where nothing is refused the replies are those that the rules of docs/ give (`cases.py` writes them). Else:
@@ -241,7 +241,7 @@ class Expected:
 
 
 def scripts(refuser, only):
-    program, cases = refuser.built("caldav_server"), refuser.built("script_cases")
+    program, cases = refuser.built("caldav_server"), refuser.built("cases_server")
     for name, example in examples().items():
         if only not in name or not program:
             continue
@@ -251,29 +251,29 @@ def scripts(refuser, only):
             return None if status == 5 else expected.what_of(status, output)
 
         def of_cases(status, output):
-            if status == 0 and output in (b"the input was not read\n", b"# t\nout of memory\n", b""):
+            if status == 0 and output in (b"the input was not read\n", b"@scripts\n# t\nout of memory\n", b""):
                 return "not begun"
-            told = re.match(rb"# t\nstatus (\d) place \d+\n", output)
+            told = re.match(rb"@scripts\n# t\nstatus (\d) place \d+\n", output)
             return expected.what_of(int(told[1]), output[told.end():]) if status == 0 and told else None
 
         refuser.all(f"{name}, as a script", program, ["script", "--users", refuser.users], frames_of(example), of_program)
         if cases:
-            refuser.all(f"{name}, as a script over memory", cases, [], b"#t\nframes - - script --users users\n" + frames_of(example), of_cases)
+            refuser.all(f"{name}, as a script over memory", cases, [], b"@scripts\n#t\nframes - - script --users users\n" + frames_of(example), of_cases)
 
 
 def sessions(refuser, only):
     """Sessions over links in memory, of which the ends, the entries and the statuses are told."""
-    program, scripts_program = refuser.built("session_cases"), refuser.built("caldav_server")
+    program, scripts_program = refuser.built("cases_server"), refuser.built("caldav_server")
     for name, example in examples().items():
         octets = b"".join(one[0] for one in example if not isinstance(one, bytes))
         if only not in name or not program or not scripts_program or PASSWORDS["bob"].encode() in octets:
-            continue  # session_cases knows alice alone
-        rest = refuser.run(program, [], b"")  # what session_cases does behind the cases
+            continue  # the sessions of cases_server know alice alone
+        rest = refuser.run(program, [], b"@sessions\n")  # what is done behind the cases of sessions
         expected = Expected(refuser, scripts_program, example)
 
         def what_of(status, output):
             """Each status is the example's, that of the example without what was answered 503, or 503."""
-            line = output.split(b"\n")[0].decode()
+            line = output.removeprefix(b"@sessions\n").split(b"\n")[0].decode()
             if status == 0 and line in ("the input was not read", "out of memory", ""):
                 return "not begun"
             if status != 0 or not line:
@@ -293,8 +293,8 @@ def sessions(refuser, only):
                 return "503" if 503 in [one for one, _ in turns] else "the same"
             return end if end in ("out of memory", "write fault") and int(written) >= len(turns) - 1 else None
 
-        most = refuser.run(program, [], b"# repeat 1\n" + octets)[2] - rest[2]
-        refuser.all(f"{name}, as a session over memory", program, [], b"# repeat 1\n" + octets, what_of, most)
+        most = refuser.run(program, [], b"@sessions\n# repeat 1\n" + octets)[2] - rest[2]
+        refuser.all(f"{name}, as a session over memory", program, [], b"@sessions\n# repeat 1\n" + octets, what_of, most)
 
 
 def is_patch(example, place):
@@ -306,7 +306,7 @@ def is_patch(example, place):
 # Walks through a book
 
 def walks():
-    """Letters, and for each that asks its request, and what is told: see book_cases."""
+    """Letters, and for each that asks its request, and what is told: see the walks of cases_server."""
     later = E1.replace(b"Stand-up", b"Later")
     daily, other = (event("one", "DTSTART:20240501T090000Z", f"RRULE:FREQ=DAILY;COUNT={count}") for count in (3, 2))
 
@@ -342,10 +342,10 @@ def of_walk(walk):
             return None
         if output in (b"the input was not read\n", b"# w\nout of memory\n", b""):
             return "not begun"
-        text = b"\n" + output.partition(b"\n")[2]
+        text = b"\n" + output.partition(b"\n# w\n")[2]
         steps = re.split(rb"\n(?=answered |claimed |\d+ rows|stale|published|room|no room|out of memory|no request|no claim|no rows|nothing is open|\d+ entries)", text)[1:]
         steps = [one.rstrip(b"\n") for one in steps]
-        if len(steps) != len(walk) or not output.startswith(b"# w\n"):
+        if len(steps) != len(walk) or not output.startswith(b"@books\n# w\n"):
             return None
         return "the same" if steps == whole else steps_hold(walk, steps)
 
@@ -401,10 +401,10 @@ def steps_hold(walk, steps):
 
 
 def books(refuser, only):
-    program = refuser.built("book_cases")
+    program = refuser.built("cases_server")
     for name, walk in walks().items():
         if program and only in name:
-            text = b"#w\n" + "".join(one[0] for one in walk).encode() + b"\n" + b"".join(one[1] for one in walk)
+            text = b"@books\n#w\n" + "".join(one[0] for one in walk).encode() + b"\n" + b"".join(one[1] for one in walk)
             refuser.all(f"{name}, as a walk through a book", program, [], text, of_walk(walk))
 
 

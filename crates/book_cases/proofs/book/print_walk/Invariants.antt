@@ -1,5 +1,0 @@
-use Rattle.book_cases.proofs.book.print_walk.Given as goal
-
--- the ledger is that of the blank
-abbrev pub ghosts-take_steps : goal.ghosts-take_steps
-ghosts-take_steps a = record { name = a.blank.name; parts = a.blank.parts }

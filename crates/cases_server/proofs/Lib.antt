@@ -1,0 +1,2 @@
+pub mod OpeningOrigins
+pub mod SlotLemmas

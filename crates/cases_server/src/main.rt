@@ -1,0 +1,72 @@
+//! Runs the server's parts over texts, so that tables of what comes of them can be compared.
+//!
+//! Given: parts on standard input, each behind a line `@KIND`. Gives: for each that line, and what came
+//! of its cases.
+//! `bench/cases.py` writes the cases of `scripts` and `books`, and what they have to give.
+//!
+//! | Kind | Cases | Module |
+//! |---|---|---|
+//! | `props` | `find WHO DEPTH PATH PROPS`, `ask WHO PATH PROP`, `patch SETTINGS` and `make SETTINGS`, one a line | `props` |
+//! | `books` | a line `#TITLE`, a line of steps, and the octets of a connection | `books` |
+//! | `claims` | the frames of one script | `claims` |
+//! | `scripts` | a line `#TITLE`, a line `FORM READ WRITE WORD..`, and the input of a script | `scripts` |
+//! | `sessions` | a line `# WORD NUMBER`, and the octets of a connection | `sessions` |
+#![tactic(auto)]
+
+mod books;
+mod claims;
+mod files;
+mod passes;
+mod props;
+mod props_texts;
+mod runs;
+mod script_case;
+mod scripts;
+mod sessions;
+mod slot;
+mod texts;
+mod threads;
+mod users;
+mod view;
+mod walk;
+
+use books::print_books;
+use cal_base::{StdSource, read_up_to};
+use claims::print_claims;
+use props::print_props;
+use scripts::print_scripts;
+use sessions::print_sessions;
+use std::io;
+use std::sync::Wait;
+use std::thread::Threads;
+use texts::parts;
+
+/// Prints the kind of a part, and what comes of it. Sessions run in threads.
+fn print_part<R: Threads + Wait + Sync + Print>(
+    rt: &HostRuntime,
+    threads: &R,
+    part: &[u8],
+) -> io::Result<()> {
+    let (kind, cases) = parts(part, b'\n');
+    let kind = str::from_utf8(kind).unwrap_or("");
+    println!(rt; "@{kind}")?;
+    match kind {
+        "props" => print_props(rt, cases),
+        "books" => print_books(rt, cases),
+        "claims" => print_claims(rt, cases),
+        "scripts" => print_scripts(rt, cases),
+        "sessions" => print_sessions(threads, rt.alloc(), cases),
+        _ => println!(rt; "no such part"),
+    }
+}
+
+fn main(rt: HostRuntime) -> io::Result<()> {
+    let mut input = StdSource::new(&rt);
+    let Ok(octets) = read_up_to(rt.alloc(), &mut input, u64::MAX) else {
+        return println!(rt; "the input was not read");
+    };
+    for part in octets.as_slice().split(|octet| *octet == b'@').skip(1) {
+        print_part(&rt, &rt, part)?;
+    }
+    Ok(())
+}

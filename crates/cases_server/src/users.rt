@@ -1,0 +1,28 @@
+//! The users of the cases, each with the password `abc`.
+
+use cal_base::{Arc, NoMemory};
+use privileges::{Users, read_users};
+use std::alloc::Global;
+
+/// The user alice.
+pub const ALICE: &[u8] =
+    b"user alice ba7816bf8f01cfea414140de5dae2223b00361a396177a9cb410ff61f20015ad\n";
+
+/// The users alice and bob.
+pub const TWO: &[u8] =
+    b"user alice ba7816bf8f01cfea414140de5dae2223b00361a396177a9cb410ff61f20015ad\n\
+    user bob ba7816bf8f01cfea414140de5dae2223b00361a396177a9cb410ff61f20015ad\n";
+
+/// The users alice, bob and carol.
+pub const THREE: &[u8] =
+    b"user alice ba7816bf8f01cfea414140de5dae2223b00361a396177a9cb410ff61f20015ad\n\
+    user bob ba7816bf8f01cfea414140de5dae2223b00361a396177a9cb410ff61f20015ad\n\
+    user carol ba7816bf8f01cfea414140de5dae2223b00361a396177a9cb410ff61f20015ad\n";
+
+/// The users of a file, shared.
+pub fn shared_users(alloc: Global, file: &[u8]) -> Result<Arc<Users>, NoMemory> {
+    match read_users(alloc, file) {
+        Ok(users) => Arc::new(alloc, users),
+        Err(_) => Err(NoMemory),
+    }
+}
