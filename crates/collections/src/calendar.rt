@@ -76,6 +76,21 @@ impl CalendarStore {
         }
     }
 
+    /// A calendar without objects and grants, with the properties that settings make.
+    pub(crate) fn with_settings(
+        alloc: Global,
+        home: u32,
+        name: Arc<Octets>,
+        sets: &[PropSet],
+    ) -> Result<CalendarStore, NoMemory>
+        requires short { IfSome (last_zone sets.now) IsShort }
+        ensures { IfOk result (λ kept. kept ≡ record { home = home; name = name; grants = []; kinds = kinds_after_all every_kind sets.now; texts = texts_after_all [] sets.now; objects = [] }) }
+    {
+        let mut calendar = CalendarStore::empty(alloc, home, name);
+        calendar.set(alloc, sets)?;
+        Ok(calendar)
+    }
+
     /// Its data.
     pub(crate) fn data(&self) -> &CalendarData
         ensures { result.now ≡ data_of self.now.home (calendar_of self.now) }

@@ -48,9 +48,7 @@ fn first_calendar(alloc: Global, number: u32) -> Result<CalendarStore, NoMemory>
 {
     let name = Arc::new(alloc, Octets::of(alloc, b"calendar")?)?;
     let sets = first_setting(alloc)?;
-    let mut calendar = CalendarStore::empty(alloc, number, name);
-    calendar.set(alloc, sets.as_slice())?;
-    Ok(calendar)
+    CalendarStore::with_settings(alloc, number, name, sets.as_slice())
 }
 
 /// The home of a user's number at the start.
@@ -125,8 +123,7 @@ pub(crate) fn make(
     ensures err { OnErr result (home.new ≡ home.old) }
 {
     let key = Octets::of(alloc, name.as_slice())?;
-    let mut calendar = CalendarStore::empty(alloc, number, Arc::try_clone(name)?);
-    calendar.set(alloc, sets)?;
+    let calendar = CalendarStore::with_settings(alloc, number, Arc::try_clone(name)?, sets)?;
     home.calendars.insert(key, calendar)?;
     home.accepted += u64::from(size) + CHANGE_COST;
     Ok(())
