@@ -1,5 +1,5 @@
 -- Over the objects of a calendar, one after another.
-use Rattle.std.proofs.Common.{◌≡◌, ℕ, List, [], ◌∷◌, ◌++◌, Option, Some, None, refl, sym, ap, ◌∙◌, subst, append_assoc}
+use Rattle.std.proofs.Common.{◌≡◌, ℕ, ◌+◌, ◌≤◌, List, [], ◌∷◌, ◌++◌, map, Option, Some, None, refl, sym, ap, ◌∙◌, subst, append_assoc, arith}
 use Rattle.std.specs.Prelude.{Ok, flat_map, option_to_list}
 use Rattle.std.specs.List.{AllByRecursion}
 use Rattle.std.specs.Map.{values_of}
@@ -19,7 +19,8 @@ use Rattle.cal_model.specs.State.ServerState.{Calendar, Directory, ServerState, 
 use Rattle.cal_model.specs.State.SoundStates.{IsSound}
 use Rattle.cal_model.proofs.State.NameWalkLaws.{calendar-sound}
 use Rattle.object_walk.specs.WalkedObjects.{objects_at}
-use Rattle.dav_reports.specs.CalendarObjects.{OriginOf, entry_cost, object_cost, times_needed, times_of_entries}
+use Rattle.rrule_sets.proofs.AskedLemmas.{sum-cons}
+use Rattle.dav_reports.specs.CalendarObjects.{OriginOf, entries_cost, entry_cost, object_cost, times_needed, times_of_entries}
 use Rattle.dav_reports.specs.PieceRows.{Held, windows_cost}
 
 -- each object of a calendar can be served
@@ -47,6 +48,21 @@ object_known octets object reading = ap result_ok reading
 pub entry_cost-known : (held : Held) (report : ReportRequest) (origin_of : OriginOf) (entry : List ℕ × List ℕ) (origin : ℕ) (object : Object) → origin_of entry.0 ≡ Some origin → read_object entry.1 ≡ Ok object
     → entry_cost held report origin_of entry ≡ windows_cost held origin object (windows_needed object report)
 entry_cost-known held report origin_of entry origin object at reading = λ i. object_cost held report (at i) (object_known entry.1 object reading i)
+
+-- the steps so far, and what those of the entries behind one more may cost
+pub counted_next : (held : Held) (report : ReportRequest) (origin_of : OriginOf) (entry : List ℕ × List ℕ) (rest : Named (List ℕ)) (origin : ℕ) (object : Object) (so_far now limit : ℕ)
+    → origin_of entry.0 ≡ Some origin → read_object entry.1 ≡ Ok object → so_far + entries_cost held report origin_of (entry ∷ rest) ≤ limit → now ≤ so_far + windows_cost held origin object (windows_needed object report)
+    → now + entries_cost held report origin_of rest ≤ limit
+counted_next held report origin_of entry rest origin object so_far now limit at reading counted steps =
+    let whole = sum-cons (entry_cost held report origin_of entry) (map (entry_cost held report origin_of) rest) in
+    let cost = entry_cost-known held report origin_of entry origin object at reading in
+    omega (arith, whole, cost)
+
+pub counted_within : (held : Held) (report : ReportRequest) (origin_of : OriginOf) (entry : List ℕ × List ℕ) (rest : Named (List ℕ)) (origin : ℕ) (object : Object) (so_far now limit : ℕ)
+    → origin_of entry.0 ≡ Some origin → read_object entry.1 ≡ Ok object → so_far + entries_cost held report origin_of (entry ∷ rest) ≤ limit → now ≤ so_far + windows_cost held origin object (windows_needed object report) → now ≤ limit
+counted_within held report origin_of entry rest origin object so_far now limit at reading counted steps =
+    let next = counted_next held report origin_of entry rest origin object so_far now limit at reading counted steps in
+    omega arith
 
 pub times_known : (zone : ZoneTable) (range : Range) (out new all : List BusyTime) (entry : List ℕ × List ℕ) (rest : Named (List ℕ)) (object : Object) → read_object entry.1 ≡ Ok object
     → new ≡ out ++ times_needed zone range object → out ++ times_of_entries zone range (entry ∷ rest) ≡ all → new ++ times_of_entries zone range rest ≡ all

@@ -3,11 +3,13 @@ ghost use Rattle.std.specs.Prelude.{◌≡◌, ◌<◌, ◌∷◌, [], ◌++◌,
 ghost use Rattle.cal_base.specs.Lists.NameMap.{value_at};
 ghost use Rattle.cal_model.specs.Filters.Matching.{matches, matches_object};
 ghost use Rattle.cal_model.specs.Ranges.Nearness.{HasShortOffsets};
+ghost use Rattle.cal_model.specs.Properties.PropertyReplies.{resource_response};
 ghost use Rattle.cal_model.specs.Replies.XmlText.{multistatus};
 ghost use Rattle.cal_model.specs.Reports.NamedRanges.{ranges_of_filter, ranges_of_selection as selected_ranges};
 ghost use Rattle.cal_model.specs.Reports.NeededWindows.{counts, stated_windows};
 ghost use Rattle.cal_model.specs.Selections.ShownData.{shown as shown_by, shown_of_object};
-ghost use Rattle.cal_model.specs.Serving.ReportReplies.{object_response, octets_match, query_reply};
+ghost use Rattle.cal_model.specs.Serving.ReportReplies.{object_response, octets_match, query_reply, shown_octets};
+ghost use Rattle.cal_model.specs.Sight.Resources.{Resource, path_of_resource};
 ghost use Rattle.cal_model.specs.State.ServerState.{Calendar};
 ghost use Rattle.cal_model.specs.State.SoundStates.{IsSound};
 ghost use Rattle.cal_model.specs.TimeZones.TableBounds.{IsTable};
@@ -20,6 +22,7 @@ ghost use Rattle.dav_reports.specs.CalendarObjects.{AreHeldRight, query_cost, so
 ghost use Rattle.dav_reports.specs.AskedProperties.{names_asked};
 ghost use Rattle.dav_reports.specs.PieceRows.{AreRowsOf, IsKept, windows_cost};
 ghost use Rattle.dav_reports.specs.SeenCalendars.{IsBody, IsWritten, MayRead, reported_of};
+ghost use Rattle.dav_reports.specs.ShownObjects.{IsShown, asker_of};
 
 use crate::names::names_to_ask;
 use crate::ranges::ranges_of_query;
@@ -78,9 +81,32 @@ pub(crate) fn push_shown<V: View, A: PropAnswers>(
 {
     let owner = seen.view.user_name(home);
     let path = object_path(alloc, owner, calendar, stored.path.object.as_slice())?;
+    let asked = (props, names, select, zone);
+    push_at(alloc, seen, answers, &path, stored, rows, asked, out)
+}
+
+/// Appends the response of the object at a path, given rows of it.
+fn push_at<V: View, A: PropAnswers>(
+    alloc: Global,
+    seen: &Seen<'_, V>,
+    answers: &A,
+    path: &Path,
+    stored: &Stored,
+    rows: &List<Row>,
+    asked: (&Props, &List<PropName>, &Selection, &ZoneTable),
+    out: &mut Octets,
+) -> Result<(), NoMemory>
+    requires user { seen.now.who < length (V.directory seen.now.view.now).names }
+    requires few { length stored.now.object.components < 2 ^ 32 }
+    requires rows { All IsShownRow rows.now }
+    requires names { asked.1.now ≡ names_asked asked.0.now }
+    requires zone { IsTable asked.3.now }
+    ensures response { (resource : Resource) → shown_by stored.now.octets stored.now.object rows.now asked.entry.2.now asked.entry.3.now ≡ shown_of_object stored.now.octets stored.now.object asked.entry.2.now asked.entry.3.now → IsShown (V.directory seen.now.view.now) (V.state seen.now.view.now) seen.now.who path.now (shown_octets asked.entry.2.now asked.entry.3.now stored.now.octets) (shown_octets asked.entry.2.now asked.entry.3.now) resource → path_of_resource resource ≡ path.now → OnOk result (out.new ≡ out.old ++ resource_response (asker_of (V.directory seen.now.view.now) seen.now.who (shown_octets asked.entry.2.now asked.entry.3.now)) asked.entry.0.now resource) }
+{
+    let (props, names, select, zone) = asked;
     if takes_all(select) {
         let text = stored.octets.as_slice();
-        return push_object(alloc, answers, seen, &path, text, props, names, out);
+        return push_object(alloc, answers, seen, path, text, props, names, out);
     }
     let text = shown(
         alloc,
@@ -94,7 +120,7 @@ pub(crate) fn push_shown<V: View, A: PropAnswers>(
         alloc,
         answers,
         seen,
-        &path,
+        path,
         text.as_slice(),
         props,
         names,
@@ -252,28 +278,41 @@ pub(crate) fn query<V: Walks, A: PropAnswers, P: Pieces, L: Ledger>(
     ensures steps { steps.new ≤ steps.old + query_cost (P.held pieces.now) asked.entry.1.now asked.entry.2.now (V.origins seen.now.view.now calendar.entry.0 calendar.entry.1.now) (objects_at (V.state seen.now.view.now) calendar.entry.0 calendar.entry.1.now) }
     ensures body { IfOk result (λ body. (c : Calendar) → MayRead (V.directory seen.now.view.now) (V.state seen.now.view.now) seen.now.who calendar.entry.0 calendar.entry.1.now c → IsBody body (query_reply (reported_of (V.directory seen.now.view.now) seen.now.who calendar.entry.0 calendar.entry.1.now c) asked.entry.0.now asked.entry.1.now asked.entry.2.now zone.now).body) }
 {
-    let (home, name) = calendar;
     let (props, select, filter) = asked;
-    let _there = seen.view.calendar(home, name);
     let wanted = Prepared::of(alloc, filter)?;
-    let names = names_to_ask(alloc, props)?;
     let ranges = ranges_of_query(alloc, select, &filter.top)?;
+    let sought = (props, select, &wanted, ranges.as_slice());
+    matching(alloc, seen, calendar, pieces, answers, zone, sought, steps)
+}
+
+/// The same of a filter that was made ready, with the ranges that the selection and the filter name.
+fn matching<V: Walks, A: PropAnswers, P: Pieces, L: Ledger>(
+    alloc: Global,
+    seen: &Seen<'_, V>,
+    calendar: (u32, &[u8]),
+    pieces: &P,
+    answers: &A,
+    zone: &ZoneTable,
+    asked: (&Props, &Selection, &Prepared<'_>, &[Range]),
+    steps: &mut Steps<L>,
+) -> Result<Option<Octets>, NoMemory>
+    requires user { seen.now.who < length (V.directory seen.now.view.now).names }
+    requires home { calendar.0 < length (V.directory seen.now.view.now).names }
+    requires right { AreHeldRight (P.held pieces.now) (V.origins seen.now.view.now) (V.state seen.now.view.now) calendar.0 calendar.1.now }
+    requires zone { IsTable zone.now }
+    requires short { HasShortOffsets zone.now }
+    requires ranges { asked.3.now ≡ selected_ranges asked.1.now ++ ranges_of_filter asked.2.now.top }
+    ensures steps { steps.new ≤ steps.old + query_cost (P.held pieces.now) asked.entry.1.now asked.entry.2.now (V.origins seen.now.view.now calendar.entry.0 calendar.entry.1.now) (objects_at (V.state seen.now.view.now) calendar.entry.0 calendar.entry.1.now) }
+    ensures body { IfOk result (λ body. (c : Calendar) → MayRead (V.directory seen.now.view.now) (V.state seen.now.view.now) seen.now.who calendar.entry.0 calendar.entry.1.now c → IsBody body (query_reply (reported_of (V.directory seen.now.view.now) seen.now.who calendar.entry.0 calendar.entry.1.now c) asked.entry.0.now asked.entry.1.now asked.entry.2.now zone.now).body) }
+{
+    let (home, name) = calendar;
+    let (props, select, wanted, ranges) = asked;
+    let _there = seen.view.calendar(home, name);
+    let names = names_to_ask(alloc, props)?;
     let mut body = begin_multistatus(alloc)?;
     let whole = push_all_sought(
-        alloc,
-        seen,
-        home,
-        name,
-        pieces,
-        answers,
-        ranges.as_slice(),
-        &wanted,
-        props,
-        &names,
-        select,
-        zone,
-        &mut body,
-        steps,
+        alloc, seen, home, name, pieces, answers, ranges, wanted, props, &names, select, zone,
+        &mut body, steps,
     )?;
     finished(whole, body)
 }

@@ -1,16 +1,15 @@
-use Rattle.std.proofs.Common.{◌≡◌, ℕ, List, ◌++◌, [], ◌∷◌, ◌<◌, sym, ap, ◌∙◌, arith, length, map, subst, append-nil}
+use Rattle.std.proofs.Common.{◌≡◌, ℕ, ◌+◌, ◌≤◌, List, ◌++◌, [], ◌∷◌, ◌<◌, sym, ap, ◌∙◌, arith, length, map, subst, append-nil}
 use Rattle.cal_model.specs.declared.property.Props.TheVariants.{None as NoProps}
 use Rattle.cal_model.specs.declared.report.ReportRequest.TheVariants.{Query}
 use Rattle.std.specs.Prelude.{None, Some}
 use Rattle.cal_base.specs.Lists.NameMap.{value_at}
 use Rattle.cal_model.specs.declared.stored.Stored.{Stored}
-use Rattle.object_walk.specs.WalkedObjects.{HaveOriginsOf, named_octets}
-use Rattle.rrule_sets.proofs.AskedLemmas.{sum-cons}
+use Rattle.object_walk.specs.WalkedObjects.{HaveOriginsOf, named_octets, objects_at}
 use Rattle.cal_model.specs.Refusals.RequestLimits.{answer_limit}
-use Rattle.dav_reports.specs.CalendarObjects.{entry_cost, sought_responses}
+use Rattle.dav_reports.specs.CalendarObjects.{query_cost, sought_responses}
 use Rattle.dav_reports.specs.PieceRows.{AreRowsOf, IsKept}
 use Rattle.dav_reports.specs.SeenCalendars.{reported_of}
-use Rattle.dav_reports.proofs.CalendarWalks.{all_served, entry_cost-known}
+use Rattle.dav_reports.proofs.CalendarWalks.{all_served, counted_next, counted_within}
 use Rattle.dav_reports.proofs.KeptObjects.{IsKept-stored}
 use Rattle.dav_reports.proofs.QueryWalks.{entries_found, objects_are, sought_cost, sought_next, too_long}
 use Rattle.dav_reports.proofs.query.push_all_sought.Goals as goal
@@ -50,15 +49,12 @@ returns-in_err-push_sought-clause-steps g c =
     let origin_of = g.V.View.origins c.args.seen.now.view.now c.args.home c.args.calendar.now in
     let report = Query NoProps c.args.select.now c.args.wanted.now None in
     let stored = c.in-Some.stored.now in
-    let pair : List ℕ × List ℕ = (stored.path.object, stored.octets) in
     let left = ap (map named_octets) c.in-Some.ensures.steps in
-    let origin = (rw c.in-Some.ensures.steps at c.walk.invariant.origins).0 in
-    let counted = rw left at c.walk.invariant.counted in
-    let whole = sum-cons (entry_cost held report origin_of pair) (map (entry_cost held report origin_of) (map named_octets c.next.new.self)) in
-    let cost = entry_cost-known held report origin_of pair c.in-Some.origin stored.object origin stored.stored.reading in
     let named = sought_cost held c.args.select.now c.args.wanted.now c.in-Some.origin stored.object c.args.ranges.now c.requires.ranges in
-    let steps = rw c.deref.ensures at c.push_sought.ensures.steps in
-    omega (arith, counted, whole, cost, named, steps)
+    counted_within held report origin_of (stored.path.object, stored.octets) (map named_octets c.next.new.self) c.in-Some.origin stored.object c.walk.steps c.push_sought.new.steps
+    (c.args.steps.now + query_cost held c.args.select.now c.args.wanted.now origin_of (objects_at (g.V.View.state c.args.seen.now.view.now) c.args.home c.args.calendar.now))
+    (rw c.in-Some.ensures.steps at c.walk.invariant.origins).0 stored.stored.reading (rw left at c.walk.invariant.counted)
+    (subst (λ n. c.push_sought.new.steps ≤ c.walk.steps + n) named (rw c.deref.ensures at c.push_sought.ensures.steps))
 
 pub returns-then-len-gt-ANSWER_LIMIT-clause-steps : goal.returns-then-len-gt-ANSWER_LIMIT-clause-steps
 returns-then-len-gt-ANSWER_LIMIT-clause-steps g c =
@@ -66,15 +62,12 @@ returns-then-len-gt-ANSWER_LIMIT-clause-steps g c =
     let origin_of = g.V.View.origins c.args.seen.now.view.now c.args.home c.args.calendar.now in
     let report = Query NoProps c.args.select.now c.args.wanted.now None in
     let stored = c.in-Some.stored.now in
-    let pair : List ℕ × List ℕ = (stored.path.object, stored.octets) in
     let left = ap (map named_octets) c.in-Some.ensures.steps in
-    let origin = (rw c.in-Some.ensures.steps at c.walk.invariant.origins).0 in
-    let counted = rw left at c.walk.invariant.counted in
-    let whole = sum-cons (entry_cost held report origin_of pair) (map (entry_cost held report origin_of) (map named_octets c.next.new.self)) in
-    let cost = entry_cost-known held report origin_of pair c.in-Some.origin stored.object origin stored.stored.reading in
     let named = sought_cost held c.args.select.now c.args.wanted.now c.in-Some.origin stored.object c.args.ranges.now c.requires.ranges in
-    let steps = rw c.deref.ensures at c.in_ok-push_sought.ensures.steps in
-    omega (arith, counted, whole, cost, named, steps)
+    counted_within held report origin_of (stored.path.object, stored.octets) (map named_octets c.next.new.self) c.in-Some.origin stored.object c.walk.steps c.push_sought.new.steps
+    (c.args.steps.now + query_cost held c.args.select.now c.args.wanted.now origin_of (objects_at (g.V.View.state c.args.seen.now.view.now) c.args.home c.args.calendar.now))
+    (rw c.in-Some.ensures.steps at c.walk.invariant.origins).0 stored.stored.reading (rw left at c.walk.invariant.counted)
+    (subst (λ n. c.push_sought.new.steps ≤ c.walk.steps + n) named (rw c.deref.ensures at c.in_ok-push_sought.ensures.steps))
 
 pub returns-then-len-gt-ANSWER_LIMIT-clause-written : goal.returns-then-len-gt-ANSWER_LIMIT-clause-written
 returns-then-len-gt-ANSWER_LIMIT-clause-written g c k may =
@@ -99,16 +92,16 @@ walk-preserved g c =
     let rest = map named_octets c.next.new.self in
     let left = ap (map named_octets) c.in-Some.ensures.steps in
     let origins = rw c.in-Some.ensures.steps at c.walk.invariant.origins in
-    let counted = rw left at c.walk.invariant.counted in
-    let whole = sum-cons (entry_cost held report origin_of pair) (map (entry_cost held report origin_of) rest) in
-    let cost = entry_cost-known held report origin_of pair c.in-Some.origin stored.object origins.0 stored.stored.reading in
     let named = sought_cost held c.args.select.now c.args.wanted.now c.in-Some.origin stored.object c.args.ranges.now c.requires.ranges in
-    let steps = rw c.deref.ensures at c.in_ok-push_sought.ensures.steps in
     record {
       made = λ k may. sought_next (reported_of directory c.args.seen.now.who c.args.home c.args.calendar.now k) c.args.select.now c.args.zone.now c.args.props.now c.args.wanted.now c.walk.out c.push_sought.new.out _ pair rest
           (subst (λ (s : Stored). value_at k.objects s.path.object ≡ Some s.octets → c.push_sought.new.out ≡ c.walk.out ++ sought_responses (reported_of directory c.args.seen.now.who c.args.home c.args.calendar.now k) c.args.select.now c.args.zone.now c.args.props.now c.args.wanted.now ((s.path.object, s.octets) ∷ []))
           c.deref.ensures (c.in_ok-push_sought.ensures.response k may) ((rw left at (c.walk.invariant.found k may.there)).0)) (rw left at (c.walk.invariant.made k may));
-      counted = omega (arith, counted, whole, cost, named, steps);
+      counted =
+          counted_next held report origin_of pair rest c.in-Some.origin stored.object c.walk.steps c.push_sought.new.steps
+          (c.args.steps.now + query_cost held c.args.select.now c.args.wanted.now origin_of (objects_at (g.V.View.state c.args.seen.now.view.now) c.args.home c.args.calendar.now))
+          origins.0 stored.stored.reading (rw left at c.walk.invariant.counted)
+          (subst (λ n. c.push_sought.new.steps ≤ c.walk.steps + n) named (rw c.deref.ensures at c.in_ok-push_sought.ensures.steps));
       origins = origins.1;
       right = (rw left at c.walk.invariant.right).1;
       served = (rw left at c.walk.invariant.served).1;
