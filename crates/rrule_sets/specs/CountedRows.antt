@@ -1,5 +1,5 @@
 -- How many rows an object has, from its components and the starts of its master that nothing takes away.
-use Rattle.std.specs.Prelude.{◌≡◌, ℕ, ◌<◌, ◌≤◌, Bool, not, ◌||◌, AllPairs, is_none, is_some, if◌then◌else◌, List, [], ◌∷◌, ◌++◌, map, filter, flat_map, option_to_list, ℤ}
+use Rattle.std.specs.Prelude.{◌≡◌, ℕ, ◌*◌, ◌<◌, ◌≤◌, Bool, not, ◌||◌, AllPairs, MatchOption, Option, is_none, is_some, if◌then◌else◌, List, [], ◌∷◌, ◌++◌, length, map, filter, flat_map, option_to_list, ℤ}
 use Rattle.std.specs.List.{list_any}
 use Rattle.cal_moment.specs.declared.stamp.Period.{Period}
 use Rattle.cal_moment.specs.declared.stamp.Stamp.{Stamp}
@@ -10,8 +10,11 @@ use Rattle.cal_model.specs.declared.zone.ZoneTable.{ZoneTable}
 use Rattle.cal_model.specs.Instances.Alignment.{names_start, reading_of, value_of, written_moment}
 use Rattle.cal_model.specs.Instances.Starts.{ascending, date_start, own_start, recurs, starts_from}
 use Rattle.cal_model.specs.Instances.Rows.{Numbered}
-use Rattle.cal_model.specs.Recurrence.RecurrenceSet.{Reading, every_moment, later_moments}
+use Rattle.cal_model.specs.Recurrence.NextPassing.{end_day}
+use Rattle.cal_model.specs.Recurrence.RecurrenceSet.{Reading, every_moment, first_moment, later_moments}
 use Rattle.cal_model.specs.Walks.KeptMoments.{starts_by}
+use Rattle.cal_model.specs.Walks.PickedRest.{still_given}
+use Rattle.cal_model.specs.declared.walk.rule_walk.RuleWalk.{RuleWalk}
 use Rattle.cal_model.proofs.Instances.RisingLists.{IsBelow}
 use Rattle.override_merge.specs.NamedStarts.{has_name, named_beside}
 use Rattle.rrule_sets.specs.MasterRows.{masters_from}
@@ -33,6 +36,14 @@ pub record IsSearchable (taken : Taken) : Type 0 where
 -- all later starts of a rule
 abbrev pub all_later : List ZoneTable → Stamp → Rule → List ℤ
 all_later zones s rule = starts_by (reading_of zones s) (later_moments rule (written_moment s) (reading_of zones s) every_moment)
+
+-- those that a walk over a rule still gives
+abbrev pub starts_of_walk : List ZoneTable → Stamp → Rule → RuleWalk → List ℤ
+starts_of_walk zones s rule walk = starts_by (reading_of zones s) (still_given rule (written_moment s) (reading_of zones s) first_moment (86_400 * end_day) walk)
+
+-- starts are kept as they are, but for order and repetition; none are where they are more than there is room for
+abbrev pub IsTrimmed : ℕ → List ℤ → Option (List ℤ) → Type 0
+IsTrimmed room starts trimmed = MatchOption trimmed (room < length (ascending starts)) (λ kept. ascending kept ≡ ascending starts)
 
 -- the RDATEs, RDATE periods and rules that count
 abbrev pub dates_in : Component → List Stamp

@@ -1,5 +1,5 @@
 //! The number of an object's rows.
-ghost use Rattle.std.specs.Prelude.{◌≡◌, ℕ, ◌+◌, ◌≤◌, ◌<◌, ◌^◌, ◌++◌, ◌∷◌, ◌||◌, List, [], length, count_by, false, All, AllPairs, IfOk, OnOk, MatchOption, Some, filter, flat_map, map, pos, neg_ℤ, ℤ};
+ghost use Rattle.std.specs.Prelude.{◌≡◌, ℕ, ◌+◌, ◌≤◌, ◌<◌, ◌^◌, ◌++◌, ◌∷◌, ◌||◌, Bool, List, [], length, count_by, false, All, AllPairs, IfOk, OnOk, MatchOption, Some, filter, flat_map, map, pos, neg_ℤ, ℤ};
 ghost use Rattle.cal_moment.specs.Calendar.{IsBetween};
 ghost use Rattle.cal_moment.specs.declared.stamp.Period.{Period};
 ghost use Rattle.cal_moment.specs.declared.stamp.Stamp.{Stamp};
@@ -9,10 +9,11 @@ ghost use Rattle.cal_model.specs.Instances.Starts as spec;
 ghost use Rattle.cal_model.specs.Instances.Rows as rows;
 ghost use Rattle.cal_model.specs.Objects.ObjectFacts.{IsRead, IsServed};
 ghost use Rattle.cal_model.specs.Recurrence.NextPassing.{IsUsable, is_fine};
+ghost use Rattle.cal_model.specs.Walks.PickedRest.{IsPicks};
 ghost use Rattle.override_merge.specs.Conversions.{tables_of, HasConvertibleRow, HasZone, IsConvertible};
 ghost use Rattle.override_merge.specs.NamedStarts.{IsNamesOf, has_name, named_beside};
 ghost use Rattle.rrule_sets.specs.AskedStarts.{IsExpandable, exceptions_of};
-ghost use Rattle.rrule_sets.specs.CountedRows.{IsCountOf, IsSearchable, all_later, dates_in, has_own_row, is_left, left_starts, master_starts, other_starts, periods_in, rules_in, unnamed_starts};
+ghost use Rattle.rrule_sets.specs.CountedRows.{IsCountOf, IsSearchable, IsTrimmed, all_later, dates_in, has_own_row, is_left, left_starts, master_starts, other_starts, periods_in, rules_in, starts_of_walk, unnamed_starts};
 ghost use Rattle.rrule_sets.specs.ExpandableObjects.{HasRowsToFind};
 ghost use Rattle.rrule_sets.specs.MasterRows.{masters_from};
 ghost use Rattle.rrule_sets.specs.PeriodSpans.{IsConvertiblePeriod};
@@ -23,8 +24,8 @@ use crate::instances::component_exceptions;
 use crate::later::{clock_beside, start_moment};
 use crate::window::master_of;
 use cal_base::{List, NoMemory, Steps};
-use cal_model::walk::rule_walk::{END, FIRST, begin_walk, next_moment};
-use cal_model::{Component, LocalTimes, Object, Rule, Rules};
+use cal_model::walk::rule_walk::{END, FIRST, RuleWalk, begin_walk, next_moment};
+use cal_model::{Component, LocalTimes, Object, Rule};
 use cal_moment::{Period, Stamp};
 use override_merge::names::{Names, is_named, names_of_overrides, rising};
 use override_merge::stamps::value_of;
@@ -83,7 +84,7 @@ fn put_left(
 /// Starts, in order and each once where the list has grown long; none where they are more than there is
 /// room for.
 fn trimmed(starts: List<i64>, room: u32) -> Result<Option<List<i64>>, NoMemory>
-    ensures { IfOk result (λ r. MatchOption r (room < length (spec.ascending starts)) (λ kept. spec.ascending kept ≡ spec.ascending starts)) }
+    ensures { IfOk result (IsTrimmed room starts) }
 {
     if starts.len() as u64 <= 2 * room as u64 + 64 {
         return Ok(Some(starts));
@@ -96,11 +97,45 @@ fn trimmed(starts: List<i64>, room: u32) -> Result<Option<List<i64>>, NoMemory>
     }
 }
 
+/// The starts with those that a walk over a rule still gives; none where they are more than there is
+/// room for, and then the rest of the walk is not taken.
+fn with_moments<L: Ledger>(
+    zones: &[LocalTimes<'_>],
+    stamp: Stamp,
+    taken: &Taken,
+    rule: &Rule,
+    room: u32,
+    starts: List<i64>,
+    walk: &mut RuleWalk,
+    steps: &mut Steps<L>,
+) -> Result<Option<List<i64>>, NoMemory>
+    requires stamp { HasZone (length zones.now) stamp }
+    requires served { IsServed stamp }
+    requires taken { IsSearchable taken.now }
+    requires usable { IsUsable rule.now }
+    requires coarse { is_fine rule.now.freq ≡ false }
+    requires walk { (dated : Bool) → IsPicks rule.now (alignment.written_moment stamp) dated walk.old.picks }
+    ensures { IfOk result (IsTrimmed room (starts ++ filter (is_left (alignment.reading_of (tables_of zones.now) stamp) taken.now) (starts_of_walk (tables_of zones.now) stamp rule.now walk.old))) }
+{
+    let clock = clock_beside(zones, stamp);
+    let start = start_moment(stamp);
+    let mut starts = starts;
+    'moments: loop {
+        let Some(m) = next_moment(&PeriodStep, rule, start, &clock, FIRST, END, walk, steps)? else {
+            return Ok(Some(starts));
+        };
+        put_left(zones, stamp, taken, clock.instant(m), &mut starts)?;
+        let Some(kept) = trimmed(starts, room)? else {
+            return Ok(None);
+        };
+        starts = kept;
+    }
+}
+
 /// The starts with those that a rule gives; none where they are more than there is room for, and then
 /// the rest of the rule is not taken.
-fn with_rule<R: Rules, L: Ledger>(
+fn with_rule<L: Ledger>(
     alloc: Global,
-    body: &R,
     zones: &[LocalTimes<'_>],
     stamp: Stamp,
     taken: &Taken,
@@ -114,30 +149,15 @@ fn with_rule<R: Rules, L: Ledger>(
     requires taken { IsSearchable taken.now }
     requires usable { IsUsable rule.now }
     requires coarse { is_fine rule.now.freq ≡ false }
-    ensures { IfOk result (λ r. MatchOption r
-        (room < length (spec.ascending (starts ++ filter (is_left (alignment.reading_of (tables_of zones.now) stamp) taken.now) (all_later (tables_of zones.now) stamp rule.now))))
-        (λ kept. spec.ascending kept ≡ spec.ascending (starts ++ filter (is_left (alignment.reading_of (tables_of zones.now) stamp) taken.now) (all_later (tables_of zones.now) stamp rule.now)))) }
+    ensures { IfOk result (IsTrimmed room (starts ++ filter (is_left (alignment.reading_of (tables_of zones.now) stamp) taken.now) (all_later (tables_of zones.now) stamp rule.now))) }
 {
-    let clock = clock_beside(zones, stamp);
-    let start = start_moment(stamp);
-    let mut walk = begin_walk(alloc, rule, start, FIRST);
-    let mut starts = starts;
-    'moments: loop {
-        let Some(m) = next_moment(body, rule, start, &clock, FIRST, END, &mut walk, steps)? else {
-            return Ok(Some(starts));
-        };
-        put_left(zones, stamp, taken, clock.instant(m), &mut starts)?;
-        let Some(kept) = trimmed(starts, room)? else {
-            return Ok(None);
-        };
-        starts = kept;
-    }
+    let mut walk = begin_walk(alloc, rule, start_moment(stamp), FIRST);
+    with_moments(zones, stamp, taken, rule, room, starts, &mut walk, steps)
 }
 
 /// The same of several rules, one after the other.
-fn with_rules<R: Rules, L: Ledger>(
+fn with_rules<L: Ledger>(
     alloc: Global,
-    body: &R,
     zones: &[LocalTimes<'_>],
     stamp: Stamp,
     taken: &Taken,
@@ -151,15 +171,12 @@ fn with_rules<R: Rules, L: Ledger>(
     requires taken { IsSearchable taken.now }
     requires usable { All IsUsable rules.now }
     requires coarse { All (λ (rule : Rule). is_fine rule.freq ≡ false) rules.now }
-    ensures { IfOk result (λ r. MatchOption r
-        (room < length (spec.ascending (starts ++ filter (is_left (alignment.reading_of (tables_of zones.now) stamp) taken.now) (flat_map (all_later (tables_of zones.now) stamp) rules.now))))
-        (λ kept. spec.ascending kept ≡ spec.ascending (starts ++ filter (is_left (alignment.reading_of (tables_of zones.now) stamp) taken.now) (flat_map (all_later (tables_of zones.now) stamp) rules.now)))) }
+    ensures { IfOk result (IsTrimmed room (starts ++ filter (is_left (alignment.reading_of (tables_of zones.now) stamp) taken.now) (flat_map (all_later (tables_of zones.now) stamp) rules.now))) }
 {
     let mut starts = starts;
     let mut rest = rules;
     'rules: while let Some((rule, behind)) = rest.split_first() {
-        let Some(kept) = with_rule(alloc, body, zones, stamp, taken, rule, room, starts, steps)?
-        else {
+        let Some(kept) = with_rule(alloc, zones, stamp, taken, rule, room, starts, steps)? else {
             return Ok(None);
         };
         starts = kept;
@@ -283,9 +300,8 @@ fn count_starts(starts: List<i64>, room: u32) -> Result<Option<u32>, NoMemory>
 
 /// How many instances of a component no override names; none where they are more than there is room
 /// for.
-fn count_left<R: Rules, L: Ledger>(
+fn count_left<L: Ledger>(
     alloc: Global,
-    body: &R,
     zones: &[LocalTimes<'_>],
     stamp: Stamp,
     component: &Component,
@@ -300,8 +316,7 @@ fn count_left<R: Rules, L: Ledger>(
 {
     let starts = other_starts(alloc, zones, stamp, component, taken)?;
     let rules = rules_of(component);
-    let Some(starts) = with_rules(alloc, body, zones, stamp, taken, rules, room, starts, steps)?
-    else {
+    let Some(starts) = with_rules(alloc, zones, stamp, taken, rules, room, starts, steps)? else {
         return Ok(None);
     };
     count_starts(starts, room)
@@ -366,16 +381,7 @@ fn count_beside<L: Ledger>(
     ensures { IfOk result (λ r. MatchOption r (room < length (unnamed_starts (tables_of zones.now) stamp component.now components.now)) (λ n. (n ≡ length (unnamed_starts (tables_of zones.now) stamp component.now components.now)) × (n ≤ room))) }
 {
     let taken = taken_of(alloc, zones, stamp, component, components)?;
-    count_left(
-        alloc,
-        &PeriodStep,
-        zones,
-        stamp,
-        component,
-        &taken,
-        room,
-        steps,
-    )
+    count_left(alloc, zones, stamp, component, &taken, room, steps)
 }
 
 /// How many rows the master of an object has; none where they are more than there is room for.
