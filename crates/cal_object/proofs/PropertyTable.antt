@@ -1,6 +1,6 @@
 -- The table of the names that are looked at, as the code tells their properties apart.
 use Rattle.std.proofs.Common.{◌≡◌, ℕ, Bool, true, false, List, [], ◌∷◌, map, refl, sym, ap, ◌∙◌, eq-eqb}
-use Rattle.std.specs.Prelude.{◌==◌, if◌then◌else◌, find, bytes_eq, codes, slice_get, Option, Some, None, option_map, unwrap_or}
+use Rattle.std.specs.Prelude.{◌==◌, if◌then◌else◌, find, bytes_eq, slice_get, Option, Some, None, option_map, unwrap_or}
 use Rattle.std.specs.List.{list_any, AllByRecursion as Each}
 use Rattle.std.proofs.lemmas.Bool.{false≢true, eqb-true}
 use Rattle.std.proofs.lemmas.Option.{none-some}
@@ -9,9 +9,10 @@ use Rattle.cal_base.specs.declared.line.Line.{Line}
 use Rattle.cal_model.specs.Objects.ComponentLines.{has_name}
 use Rattle.cal_model.specs.Objects.LineValues.{repeatable, cannot_stand, has_own_fault}
 use Rattle.cal_object.specs.declared.property.Property.{Property}
-use Rattle.cal_object.specs.declared.property.Property.TheVariants.{Start, End, Due, Duration, Rule, Dates, Except, RecurrenceId, Completed, Created, TimeStamp, LastModified, FreeBusy, Trigger, Repeat, OffsetFrom, OffsetTo}
-use Rattle.cal_object.specs.Properties.{properties, named_in, property_named, test_of, is_repeatable, number_of}
+use Rattle.cal_object.specs.declared.property.Property.TheVariants.{Start}
+use Rattle.cal_object.specs.Properties.{properties, named_in, property_named, test_of, is_repeatable, number_of, name_of, all_properties, first_named}
 use Rattle.cal_object.specs.OwnFaults.{property_of}
+use Rattle.cal_object.proofs.ListSteps.{find-map}
 use Rattle.cal_object.proofs.NamedLemmas.{bytes_eq_sym}
 
 -- two tests that hold together are one
@@ -21,25 +22,6 @@ alike false true to from = from refl
 alike false false to from = refl
 
 -- Names
-
-abbrev pub name_of : Property → List ℕ
-name_of Start = codes "DTSTART"
-name_of End = codes "DTEND"
-name_of Due = codes "DUE"
-name_of Duration = codes "DURATION"
-name_of Rule = codes "RRULE"
-name_of Dates = codes "RDATE"
-name_of Except = codes "EXDATE"
-name_of RecurrenceId = codes "RECURRENCE-ID"
-name_of Completed = codes "COMPLETED"
-name_of Created = codes "CREATED"
-name_of TimeStamp = codes "DTSTAMP"
-name_of LastModified = codes "LAST-MODIFIED"
-name_of FreeBusy = codes "FREEBUSY"
-name_of Trigger = codes "TRIGGER"
-name_of Repeat = codes "REPEAT"
-name_of OffsetFrom = codes "TZOFFSETFROM"
-name_of OffsetTo = codes "TZOFFSETTO"
 
 named_again : (property : Property) → property_named (name_of property) ≡ Some property
 named_again Start = refl
@@ -75,6 +57,16 @@ name_is name property found =
 number_is : (a b : Property) → number_of a ≡ number_of b → a ≡ b
 number_is a b same =
     some_is a b (sym (numbered_again a) ∙ (ap (slice_get (map (λ (row : List ℕ × Property). row.1) properties)) same ∙ numbered_again b))
+
+own_row : (found : Option Property) → option_map (λ (row : List ℕ × Property). row.1) (option_map (λ (property : Property). (name_of property, property)) found) ≡ found
+own_row None = refl
+own_row (Some property) = refl
+
+-- the first property of a name among all is that of the table
+pub first_of_table : (name : List ℕ) → property_named name ≡ first_named all_properties name
+first_of_table name =
+    ap (option_map (λ (row : List ℕ × Property). row.1)) (find-map (λ (row : List ℕ × Property). bytes_eq name row.0) (λ property. bytes_eq name (name_of property)) (λ property. (name_of property, property)) (λ property. refl) all_properties)
+    ∙ own_row (first_named all_properties name)
 
 -- Lines of a property
 

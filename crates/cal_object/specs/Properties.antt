@@ -8,20 +8,7 @@ use Rattle.cal_model.specs.Objects.LineValues.{is_short_length, is_of_stamps, is
 use Rattle.cal_object.specs.declared.property.Property.{Property}
 use Rattle.cal_object.specs.declared.property.Property.TheVariants.{Start, End, Due, Duration, Rule, Dates, Except, RecurrenceId, Completed, Created, TimeStamp, LastModified, FreeBusy, Trigger, Repeat, OffsetFrom, OffsetTo}
 
--- by name, in two parts
-abbrev pub further_properties : List (List ℕ × Property)
-further_properties =
-    (codes "COMPLETED", Completed)
-    ∷ (codes "CREATED", Created)
-    ∷ (codes "DTSTAMP", TimeStamp)
-    ∷ (codes "LAST-MODIFIED", LastModified)
-    ∷ (codes "FREEBUSY", FreeBusy)
-    ∷ (codes "TRIGGER", Trigger)
-    ∷ (codes "REPEAT", Repeat)
-    ∷ (codes "TZOFFSETFROM", OffsetFrom)
-    ∷ (codes "TZOFFSETTO", OffsetTo)
-    ∷ []
-
+-- by name
 abbrev pub properties : List (List ℕ × Property)
 properties =
     (codes "DTSTART", Start)
@@ -32,7 +19,16 @@ properties =
     ∷ (codes "RDATE", Dates)
     ∷ (codes "EXDATE", Except)
     ∷ (codes "RECURRENCE-ID", RecurrenceId)
-    ∷ further_properties
+    ∷ (codes "COMPLETED", Completed)
+    ∷ (codes "CREATED", Created)
+    ∷ (codes "DTSTAMP", TimeStamp)
+    ∷ (codes "LAST-MODIFIED", LastModified)
+    ∷ (codes "FREEBUSY", FreeBusy)
+    ∷ (codes "TRIGGER", Trigger)
+    ∷ (codes "REPEAT", Repeat)
+    ∷ (codes "TZOFFSETFROM", OffsetFrom)
+    ∷ (codes "TZOFFSETTO", OffsetTo)
+    ∷ []
 
 abbrev pub named_in : List (List ℕ × Property) → List ℕ → Option Property
 named_in rows name = option_map (λ (row : List ℕ × Property). row.1) (find (λ (row : List ℕ × Property). bytes_eq name row.0) rows)
@@ -80,3 +76,49 @@ number_of Trigger = 13
 number_of Repeat = 14
 number_of OffsetFrom = 15
 number_of OffsetTo = 16
+
+-- the name of its lines
+abbrev pub name_of : Property → List ℕ
+name_of Start = codes "DTSTART"
+name_of End = codes "DTEND"
+name_of Due = codes "DUE"
+name_of Duration = codes "DURATION"
+name_of Rule = codes "RRULE"
+name_of Dates = codes "RDATE"
+name_of Except = codes "EXDATE"
+name_of RecurrenceId = codes "RECURRENCE-ID"
+name_of Completed = codes "COMPLETED"
+name_of Created = codes "CREATED"
+name_of TimeStamp = codes "DTSTAMP"
+name_of LastModified = codes "LAST-MODIFIED"
+name_of FreeBusy = codes "FREEBUSY"
+name_of Trigger = codes "TRIGGER"
+name_of Repeat = codes "REPEAT"
+name_of OffsetFrom = codes "TZOFFSETFROM"
+name_of OffsetTo = codes "TZOFFSETTO"
+
+-- all of them, in the order of their numbers
+abbrev pub all_properties : List Property
+all_properties =
+    Start
+    ∷ End
+    ∷ Due
+    ∷ Duration
+    ∷ Rule
+    ∷ Dates
+    ∷ Except
+    ∷ RecurrenceId
+    ∷ Completed
+    ∷ Created
+    ∷ TimeStamp
+    ∷ LastModified
+    ∷ FreeBusy
+    ∷ Trigger
+    ∷ Repeat
+    ∷ OffsetFrom
+    ∷ OffsetTo
+    ∷ []
+
+-- the first of some that has a name
+abbrev pub first_named : List Property → List ℕ → Option Property
+first_named some name = find (λ property. bytes_eq name (name_of property)) some

@@ -18,6 +18,9 @@ use cal_base::{List, Node};
 use cal_model::{Object, ZoneTable};
 use std::alloc::Global;
 
+/// Lets an object go.
+fn let_go(_object: Object) {}
+
 /// The object that a calendar is beside its zones, or what keeps it from being one.
 fn object_beside(
     alloc: Global,
@@ -39,7 +42,10 @@ fn object_beside(
     let object = object_with(alloc, zones, &names, calendar)?;
     match check_object(alloc, octets, scan, &names, &object) {
         Ok(()) => Ok(object),
-        Err(fault) => Err(fault),
+        Err(fault) => {
+            let_go(object);
+            Err(fault)
+        }
     }
 }
 

@@ -230,6 +230,49 @@ fn keep_first(
     Ok(())
 }
 
+/// Keeps the first early date of a line and the first late one, unless there were some before.
+fn keep_of_line(
+    alloc: Global,
+    zones: &ZoneNames,
+    levels: &Stack<OpenKind>,
+    line: &Line,
+    early: &mut Option<FoundDate>,
+    late: &mut Option<FoundDate>,
+) -> Result<(), NoMemory>
+    requires { zones.now ≡ [] }
+    ensures early { OnOk result (early.new ≡ or_else early.old (option_map (spec.found_in line.now) (find faults.is_early (spec.dates_within levels.now line.now)))) }
+    ensures late { OnOk result (late.new ≡ or_else late.old (option_map (spec.found_in line.now) (find faults.is_late (spec.dates_within levels.now line.now)))) }
+{
+    let dates = dates_within(alloc, zones, levels, line)?;
+    let first = early_among(dates.as_slice()).copied();
+    keep_first(alloc, line, first, early)?;
+    let first = late_among(dates.as_slice()).copied();
+    keep_first(alloc, line, first, late)?;
+    Ok(())
+}
+
+/// Goes over lines, and keeps the first early date of them and the first late one.
+fn keep_of_lines(
+    alloc: Global,
+    zones: &ZoneNames,
+    lines: &[Line],
+    levels: &mut Stack<OpenKind>,
+    early: &mut Option<FoundDate>,
+    late: &mut Option<FoundDate>,
+) -> Result<(), NoMemory>
+    requires { zones.now ≡ [] }
+    ensures early { OnOk result (early.new ≡ or_else early.old (spec.first_early (spec.dates_from levels.old lines.now))) }
+    ensures late { OnOk result (late.new ≡ or_else late.old (spec.first_late (spec.dates_from levels.old lines.now))) }
+{
+    let mut rest = lines;
+    'lines: while let Some((line, behind)) = rest.split_first() {
+        keep_of_line(alloc, zones, levels, line, early, late)?;
+        go_over(levels, line)?;
+        rest = behind;
+    }
+    Ok(())
+}
+
 /// The first early date of lines, and the first late one.
 fn first_dates(
     alloc: Global,
@@ -243,24 +286,7 @@ fn first_dates(
     let mut levels = Stack::new(alloc);
     let mut early = None;
     let mut late = None;
-    let mut rest = lines;
-    'lines: while let Some((line, behind)) = rest.split_first() {
-        let dates = dates_within(alloc, zones, &levels, line)?;
-        keep_first(
-            alloc,
-            line,
-            early_among(dates.as_slice()).copied(),
-            &mut early,
-        )?;
-        keep_first(
-            alloc,
-            line,
-            late_among(dates.as_slice()).copied(),
-            &mut late,
-        )?;
-        go_over(&mut levels, line)?;
-        rest = behind;
-    }
+    keep_of_lines(alloc, zones, lines, &mut levels, &mut early, &mut late)?;
     Ok((early, late))
 }
 

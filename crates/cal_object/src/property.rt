@@ -1,5 +1,7 @@
 //! The properties whose values are looked at before anything else of a calendar (RFC 5545, 3.8).
-ghost use Rattle.std.specs.Prelude.{◌≡◌, ◌<◌};
+ghost use Rattle.std.specs.Prelude.{◌≡◌, ◌<◌, bytes_eq};
+ghost use Rattle.std.specs.Option.{option_copied};
+ghost use Rattle.cal_object.specs.Properties as spec;
 
 /// A property whose value is looked at, by the name of its lines.
 #[derive(Clone, Copy)]
@@ -40,59 +42,74 @@ pub enum Property {
     OffsetTo,
 }
 
-impl Property {
-    ghost use Rattle.cal_object.specs.Properties as spec;
+/// All of them, in the order of their numbers.
+const ALL: [Property; 17] = [
+    Property::Start,
+    Property::End,
+    Property::Due,
+    Property::Duration,
+    Property::Rule,
+    Property::Dates,
+    Property::Except,
+    Property::RecurrenceId,
+    Property::Completed,
+    Property::Created,
+    Property::TimeStamp,
+    Property::LastModified,
+    Property::FreeBusy,
+    Property::Trigger,
+    Property::Repeat,
+    Property::OffsetFrom,
+    Property::OffsetTo,
+];
 
+/// The name of a property's lines, in upper case.
+fn name_of(property: Property) -> &'static [u8]
+    ensures { result.now ≡ spec.name_of property }
+{
+    match property {
+        Property::Start => b"DTSTART",
+        Property::End => b"DTEND",
+        Property::Due => b"DUE",
+        Property::Duration => b"DURATION",
+        Property::Rule => b"RRULE",
+        Property::Dates => b"RDATE",
+        Property::Except => b"EXDATE",
+        Property::RecurrenceId => b"RECURRENCE-ID",
+        Property::Completed => b"COMPLETED",
+        Property::Created => b"CREATED",
+        Property::TimeStamp => b"DTSTAMP",
+        Property::LastModified => b"LAST-MODIFIED",
+        Property::FreeBusy => b"FREEBUSY",
+        Property::Trigger => b"TRIGGER",
+        Property::Repeat => b"REPEAT",
+        Property::OffsetFrom => b"TZOFFSETFROM",
+        Property::OffsetTo => b"TZOFFSETTO",
+    }
+}
+
+/// Whether a property has a name, which is in upper case.
+fn is_named(property: Property, name: &[u8]) -> bool
+    ensures { result ≡ bytes_eq name.now (spec.name_of property) }
+{
+    name == name_of(property)
+}
+
+/// The first of some properties that has a name, which is in upper case.
+fn first_named<'p>(properties: &'p [Property], name: &[u8]) -> Option<&'p Property>
+    ensures { option_copied result ≡ spec.first_named properties.now name.now }
+{
+    properties
+        .iter()
+        .find(|property| is_named(**property, name))
+}
+
+impl Property {
     /// The property of a name, which is in upper case.
     pub fn named(name: &[u8]) -> Option<Property>
         ensures { result ≡ spec.property_named name.now }
     {
-        if name == b"DTSTART".as_slice() {
-            Some(Property::Start)
-        } else if name == b"DTEND".as_slice() {
-            Some(Property::End)
-        } else if name == b"DUE".as_slice() {
-            Some(Property::Due)
-        } else if name == b"DURATION".as_slice() {
-            Some(Property::Duration)
-        } else if name == b"RRULE".as_slice() {
-            Some(Property::Rule)
-        } else if name == b"RDATE".as_slice() {
-            Some(Property::Dates)
-        } else if name == b"EXDATE".as_slice() {
-            Some(Property::Except)
-        } else if name == b"RECURRENCE-ID".as_slice() {
-            Some(Property::RecurrenceId)
-        } else {
-            Property::named_further(name)
-        }
-    }
-
-    /// The same of the names that are no dates of a component.
-    fn named_further(name: &[u8]) -> Option<Property>
-        ensures { result ≡ spec.named_in spec.further_properties name.now }
-    {
-        if name == b"COMPLETED".as_slice() {
-            Some(Property::Completed)
-        } else if name == b"CREATED".as_slice() {
-            Some(Property::Created)
-        } else if name == b"DTSTAMP".as_slice() {
-            Some(Property::TimeStamp)
-        } else if name == b"LAST-MODIFIED".as_slice() {
-            Some(Property::LastModified)
-        } else if name == b"FREEBUSY".as_slice() {
-            Some(Property::FreeBusy)
-        } else if name == b"TRIGGER".as_slice() {
-            Some(Property::Trigger)
-        } else if name == b"REPEAT".as_slice() {
-            Some(Property::Repeat)
-        } else if name == b"TZOFFSETFROM".as_slice() {
-            Some(Property::OffsetFrom)
-        } else if name == b"TZOFFSETTO".as_slice() {
-            Some(Property::OffsetTo)
-        } else {
-            None
-        }
+        first_named(&ALL, name).copied()
     }
 
     /// Whether it may stand more than once in a component.
