@@ -1,8 +1,10 @@
 //! The octets of all that a session asks. Each request is written, and then read as a session reads
 //! it: so it is known that the octets ask for what is meant.
-ghost use Rattle.std.specs.Prelude.{◌≡◌, ℕ, ◌≤◌, ◌<◌, ◌∷◌, [], ◌++◌, List, IfOk, OnOk, length};
+ghost use Rattle.std.specs.Prelude.{◌≡◌, ℕ, ◌≤◌, ◌<◌, ◌∷◌, [], ◌++◌, List, IfOk, IsTrue, OnOk, length};
 ghost use Rattle.cal_model.specs.declared.request.Request.{Request};
 ghost use Rattle.cal_model.specs.Load.LoadRequests as spec;
+ghost use Rattle.cal_model.specs.Requests.AskedRequests.{asked, asked_of};
+ghost use Rattle.cal_model.specs.Streams.WireLimits.{body_limit};
 ghost use Rattle.cal_model.specs.Users.UsersFile.{User};
 ghost use Rattle.load_requests.specs.DrawnEvents.{IsDrawn, busy_year, events_of_march};
 ghost use Rattle.load_requests.specs.Meanings.{meant_by};
@@ -201,17 +203,34 @@ fn if_asks(asker: &Asker<'_>, wire: &WireRequest, meaning: &Meaning<'_>) -> Resu
     requires session { asker.now.session < 100 }
     ensures { OnOk result (Means asker.now.users.now asker.now.session (meant_by asker.now.session meaning.now) wire.now) }
 {
-    if !is_plain(wire) || wire.body.len() > BODY_LIMIT {
-        return Err(NoMemory);
+    if is_plain(wire) && wire.body.len() <= BODY_LIMIT && asks(asker, wire, meaning) {
+        Ok(())
+    } else {
+        Err(NoMemory)
     }
-    match read_request(asker.alloc, wire, asker.users) {
+}
+
+/// Whether a request as it came is read as the one that is meant, of the user who asks.
+fn asks(asker: &Asker<'_>, wire: &WireRequest, meaning: &Meaning<'_>) -> bool
+    requires session { asker.now.session < 100 }
+    requires body { length wire.now.body ≤ body_limit }
+    ensures { IsTrue result → asked_of asker.now.users.now wire.now ≡ asked asker.now.session (meant_by asker.now.session meaning.now) }
+{
+    let read = read_request(asker.alloc, wire, asker.users);
+    let asks = is_asked(&read, asker.session, meaning);
+    drop(read);
+    asks
+}
+
+/// Whether what was read is the request that is meant, of the user of a session.
+fn is_asked(read: &Asked, session: u32, meaning: &Meaning<'_>) -> bool
+    requires session { session < 100 }
+    ensures { IsTrue result → read.now ≡ Asked.Request session (meant_by session meaning.now) }
+{
+    match read {
         Asked::Request { who, request } => {
-            if who == asker.session && is_meant(&request, &user_name(asker.session), meaning) {
-                Ok(())
-            } else {
-                Err(NoMemory)
-            }
+            *who == session && is_meant(request, &user_name(session), meaning)
         }
-        _ => Err(NoMemory),
+        _ => false,
     }
 }
