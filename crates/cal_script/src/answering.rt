@@ -76,8 +76,11 @@ pub(crate) fn answer_arrival<B: Desk, O: Sink, L: Ledger>(
             },
             Due::Request(before, wire) => {
                 match answer_request(alloc, desk, users, arrival, before, &wire, output, steps) {
-                    Ok(()) => {}
-                    Err(stop) => return Err(stop),
+                    Ok(()) => drop(wire),
+                    Err(stop) => {
+                        drop(wire);
+                        return Err(stop);
+                    }
                 }
             }
         }

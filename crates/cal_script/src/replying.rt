@@ -56,7 +56,9 @@ fn reply_to<B: Desk, L: Ledger>(
                 moment: seconds(arrival.moment),
                 request,
             };
-            desk.ask(alloc, &event, steps)
+            let told = desk.ask(alloc, &event, steps);
+            drop(event);
+            told
         }
         Asked::Refused(reply) => Told::Reply(reply),
         Asked::NoMemory => Told::Reply(bare_reply(alloc, 503)),
@@ -87,8 +89,14 @@ pub(crate) fn answer<B: Desk, L: Ledger>(
     match reply_to(alloc, desk, users, arrival, wire, steps) {
         Told::Reply(reply) => {
             match write_answer(alloc, before, wire, &reply, seconds(arrival.moment)) {
-                Ok(octets) => Ok(octets),
-                Err(NoMemory) => Err(Stop::Unwritten(Unwritten::NoMemory)),
+                Ok(octets) => {
+                    drop(reply);
+                    Ok(octets)
+                }
+                Err(NoMemory) => {
+                    drop(reply);
+                    Err(Stop::Unwritten(Unwritten::NoMemory))
+                }
             }
         }
         Told::Broken(fault) => Err(Stop::Broken(fault)),

@@ -11,35 +11,35 @@ use Rattle.cal_script.proofs.replying.reply_to.Goals as goal
 pub returns-in-Request-clause-answer : goal.returns-in-Request-clause-answer
 returns-in-Request-clause-answer g c =
     let fits : FitsSigned w64 c.seconds.result = search (rules, c.seconds.type_inv) in
-    told_answer c.ask.result c.args.users.now (g.B.Desk.book c.args.desk.now) (g.B.Desk.book c.ask.new.self) _ _ _ _ _ c.journals_follow.ensures c.requires.book c.in-Request.ensures.asked c.in-Request.ensures.bookable
-    (told_booked c.ask.result c.args.users.now (g.B.Desk.book c.args.desk.now) (g.B.Desk.book c.reserve.new.self) (g.B.Desk.book c.ask.new.self) _ _ c.args.arrival.moment (to_z w64 (of_z w64 c.seconds.result)) _ (to_z-of_z w64 c.seconds.result fits ∙ c.seconds.ensures.value)
-    c.requires.book.users_are c.reserve.ensures.users c.reserve.ensures.work c.ask.ensures.users c.ask.ensures.reply c.ask.ensures.work c.ask.ensures.busy)
+    told_answer c.ask-told.result c.args.users.now (g.B.Desk.book c.args.desk.now) (g.B.Desk.book c.ask-told.new.self) _ _ _ _ _ c.journals_follow.ensures c.requires.book c.in-Request.ensures.asked c.in-Request.ensures.bookable
+    (told_booked c.ask-told.result c.args.users.now (g.B.Desk.book c.args.desk.now) (g.B.Desk.book c.reserve.new.self) (g.B.Desk.book c.ask-told.new.self) _ _ c.args.arrival.moment (to_z w64 (of_z w64 c.seconds.result)) _ (to_z-of_z w64 c.seconds.result fits ∙ c.seconds.ensures.value)
+    c.requires.book.users_are c.reserve.ensures.users c.reserve.ensures.work c.ask-told.ensures.users c.ask-told.ensures.reply c.ask-told.ensures.work c.ask-told.ensures.busy)
 
 pub returns-in-Request-clause-known : goal.returns-in-Request-clause-known
 returns-in-Request-clause-known g c =
     let fits : FitsSigned w64 c.seconds.result = search (rules, c.seconds.type_inv) in
-    told_reason c.ask.result c.args.users.now _ _ _ _ _ (g.B.Desk.book c.ask.new.self) c.replies_have_reasons.ensures c.in-Request.ensures.bookable
-    (told_booked c.ask.result c.args.users.now (g.B.Desk.book c.args.desk.now) (g.B.Desk.book c.reserve.new.self) (g.B.Desk.book c.ask.new.self) _ _ c.args.arrival.moment (to_z w64 (of_z w64 c.seconds.result)) _ (to_z-of_z w64 c.seconds.result fits ∙ c.seconds.ensures.value)
-    c.requires.book.users_are c.reserve.ensures.users c.reserve.ensures.work c.ask.ensures.users c.ask.ensures.reply c.ask.ensures.work c.ask.ensures.busy)
+    told_reason c.ask-told.result c.args.users.now _ _ _ _ _ (g.B.Desk.book c.ask-told.new.self) c.replies_have_reasons.ensures c.in-Request.ensures.bookable
+    (told_booked c.ask-told.result c.args.users.now (g.B.Desk.book c.args.desk.now) (g.B.Desk.book c.reserve.new.self) (g.B.Desk.book c.ask-told.new.self) _ _ c.args.arrival.moment (to_z w64 (of_z w64 c.seconds.result)) _ (to_z-of_z w64 c.seconds.result fits ∙ c.seconds.ensures.value)
+    c.requires.book.users_are c.reserve.ensures.users c.reserve.ensures.work c.ask-told.ensures.users c.ask-told.ensures.reply c.ask-told.ensures.work c.ask-told.ensures.busy)
 
 pub returns-in-Request-clause-book : goal.returns-in-Request-clause-book
 returns-in-Request-clause-book g c =
     let users_are = c.reserve.ensures.users ∙ c.requires.book.users_are in
-    record { users_are = c.ask.ensures.users ∙ users_are; legal = subst (λ (users : List User). IsLegal (directory_of users) (g.B.Desk.book c.ask.new.self).work.journal) users_are c.ask.ensures.legal }
+    record { users_are = c.ask-told.ensures.users ∙ users_are; legal = subst (λ (users : List User). IsLegal (directory_of users) (g.B.Desk.book c.ask-told.new.self).work.journal) users_are c.ask-told.ensures.legal }
 
 pub returns-in-Request-clause-goes_on : goal.returns-in-Request-clause-goes_on
 returns-in-Request-clause-goes_on g c =
     let fits : FitsSigned w64 c.seconds.result = search (rules, c.seconds.type_inv) in
-    told_on c.ask.result c.args.users.now (g.B.Desk.book c.args.desk.now) (g.B.Desk.book c.reserve.new.self) (g.B.Desk.book c.ask.new.self) _ _ c.args.arrival.moment (to_z w64 (of_z w64 c.seconds.result)) _ _ _ _
+    told_on c.ask-told.result c.args.users.now (g.B.Desk.book c.args.desk.now) (g.B.Desk.book c.reserve.new.self) (g.B.Desk.book c.ask-told.new.self) _ _ c.args.arrival.moment (to_z w64 (of_z w64 c.seconds.result)) _ _ _ _
     (to_z-of_z w64 c.seconds.result fits ∙ c.seconds.ensures.value) c.in-Request.ensures.asked (c.reserve.ensures.users ∙ c.requires.book.users_are) c.reserve.ensures.work
-    (told_booked c.ask.result c.args.users.now (g.B.Desk.book c.args.desk.now) (g.B.Desk.book c.reserve.new.self) (g.B.Desk.book c.ask.new.self) _ _ c.args.arrival.moment (to_z w64 (of_z w64 c.seconds.result)) _ (to_z-of_z w64 c.seconds.result fits ∙ c.seconds.ensures.value)
-    c.requires.book.users_are c.reserve.ensures.users c.reserve.ensures.work c.ask.ensures.users c.ask.ensures.reply c.ask.ensures.work c.ask.ensures.busy)
-    c.ask.ensures.breaks (λ broken. (c.ask.ensures.stays_broken broken).1)
+    (told_booked c.ask-told.result c.args.users.now (g.B.Desk.book c.args.desk.now) (g.B.Desk.book c.reserve.new.self) (g.B.Desk.book c.ask-told.new.self) _ _ c.args.arrival.moment (to_z w64 (of_z w64 c.seconds.result)) _ (to_z-of_z w64 c.seconds.result fits ∙ c.seconds.ensures.value)
+    c.requires.book.users_are c.reserve.ensures.users c.reserve.ensures.work c.ask-told.ensures.users c.ask-told.ensures.reply c.ask-told.ensures.work c.ask-told.ensures.busy)
+    c.ask-told.ensures.breaks (λ broken. (c.ask-told.ensures.stays_broken broken).1)
 
 pub returns-in-Request-clause-broken : goal.returns-in-Request-clause-broken
 returns-in-Request-clause-broken g c =
-    told_by c.ask.result _ _ (g.B.Desk.broken c.reserve.new.self) _ _ _ _ c.reserve.ensures.broken_kept c.reserve.ensures.never_falls c.ask.ensures.never_falls c.ask.ensures.told_broken c.ask.ensures.breaks
-    (λ broken. (c.ask.ensures.stays_broken broken).0)
+    told_by c.ask-told.result _ _ (g.B.Desk.broken c.reserve.new.self) _ _ _ _ c.reserve.ensures.broken_kept c.reserve.ensures.never_falls c.ask-told.ensures.never_falls c.ask-told.ensures.told_broken c.ask-told.ensures.breaks
+    (λ broken. (c.ask-told.ensures.stays_broken broken).0)
 
 pub returns-in-Refused-clause-known : goal.returns-in-Refused-clause-known
 returns-in-Refused-clause-known g c = c.replies_have_reasons.ensures.refused_before _ _ _ c.in-Refused.ensures.asked
