@@ -104,7 +104,9 @@ fn answer_next<B: Desk, L: Link, C: Clock, R: Wait, G: Ledger>(
         Next::NoMemory => Due::Stops(Stop::Ended(How::NoMemory)),
         Next::Fault(why) => Due::Stops(Stop::Ended(refuse(hall, why, link, clock))),
         Next::Request(request) => {
-            match answer_request(hall, pass, &request, turns, link, clock, steps) {
+            let answered = answer_request(hall, pass, &request, turns, link, clock, steps);
+            drop(request);
+            match answered {
                 Ok(()) => Due::Answered,
                 Err(stop) => Due::Stops(stop),
             }
@@ -165,7 +167,9 @@ fn answer_request<B: Desk, L: Link, C: Clock, R: Wait, G: Ledger>(
                 moment,
                 status: reply.status,
             });
-            match send_reply(hall.alloc, before, wire, &reply, moment, link) {
+            let sent = send_reply(hall.alloc, before, wire, &reply, moment, link);
+            drop(reply);
+            match sent {
                 Some(how) => Err(Stop::Ended(how)),
                 None => go_on_behind(before, wire),
             }
@@ -202,6 +206,7 @@ fn reply_to<B: Desk, R: Wait, G: Ledger>(
                 request,
             };
             let (at, told) = ask_once(hall, pass, &event, steps);
+            drop(event);
             match told {
                 Told::Reply(reply) => Ok((at, reply)),
                 Told::Broken(fault) => Err(fault),

@@ -1,8 +1,8 @@
 use Rattle.cal_session.proofs.AnswerLaws.{waits, wants_memory}
 use Rattle.cal_session.proofs.answering.answer_next.Goals as goal
 
-pub answer_request-requires-clause-body : goal.answer_request-requires-clause-body
-answer_request-requires-clause-body g c κs within = (c.in-Request.ensures c.requires.stands.0 c.requires.stands.1).3
+pub answer_request-answered-requires-clause-body : goal.answer_request-answered-requires-clause-body
+answer_request-answered-requires-clause-body g c κs within = (c.in-Request.ensures c.requires.stands.0 c.requires.stands.1).3
 
 pub returns-in-Need-clause-session : goal.returns-in-Need-clause-session
 returns-in-Need-clause-session g c start before on w = waits c.args.hall.now.users.now _ start _ before _ _ c.args.wire.now c.next.new.self w (c.in-Need.ensures w.rest w.stands)
@@ -19,7 +19,7 @@ returns-in-Ok-clause-session g c start before on w =
     let next = c.in-Request.ensures w.rest w.stands in
     record { stream = w.stream; rest = next.0; reached = c.in-Ok.ensures.session start before w.stream w.rest next.0 on w.reached next.1; stands = next.2 }
 
-pub returns-clause-session : goal.returns-clause-session
-returns-clause-session g c start before on w =
+pub returns-in-Err-clause-session : goal.returns-in-Err-clause-session
+returns-in-Err-clause-session g c start before on w =
     let next = c.in-Request.ensures w.rest w.stands in
     c.in-Err.ensures.session start before w.stream w.rest next.0 on w.reached next.1
