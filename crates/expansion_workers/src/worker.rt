@@ -1,11 +1,13 @@
 //! A worker.
-ghost use Rattle.std.specs.Prelude.{◌≡◌, ◌≤◌, ◌<◌, ◌+◌, ◌∷◌, ◌^◌, false, length};
+ghost use Rattle.std.specs.Prelude.{◌≡◌, ◌≤◌, ◌<◌, ◌+◌, ◌∷◌, ◌^◌, false, length, IsSome};
+ghost use Rattle.cal_book.specs.Publishing.{IsClaimIn};
+ghost use Rattle.cal_model.specs.History.LiveObjects.{live_at};
 ghost use Rattle.expansion_workers.specs.Work.{IsCounted, stale_of};
 ghost use Rattle.turn_lock.specs.Journals.{IsFollowedByOthers, entries_by};
 
 use crate::turns::{give_up, publish_rows, take_claim};
 use cal_base::{Gate, NoMemory, Steps};
-use cal_book::{Book, Desk, Publish, expand};
+use cal_book::{Book, Claim, Desk, Publish, expand};
 use std::alloc::Global;
 use std::marker::Brand;
 use std::sync::Wait;
@@ -113,6 +115,26 @@ fn take_turn<B: Desk, G: Gate, R: Wait, L: Ledger>(
         return Turn::Idle;
     };
     gate.pass(rt, claim.origin);
+    end_claim(rt, alloc, lock, pass, claim, steps)
+}
+
+/// Expands what was claimed and publishes it, or gives it up, in a turn of its own.
+fn end_claim<B: Desk, R: Wait, L: Ledger>(
+    rt: &R,
+    alloc: Global,
+    lock: &TurnLock<B>,
+    pass: &mut Pass<B>,
+    claim: Claim,
+    steps: &mut Steps<L>,
+) -> Turn
+    requires same { pass.old.lock ≡ lock.now }
+    requires free { pass.old.holds_turn ≡ false }
+    requires claim { IsClaimIn pass.old.seen claim }
+    requires live { IsSome (live_at pass.old.seen claim.origin) }
+    ensures pass { pass.new ≡ record pass.old { seen = pass.new.seen; looks = pass.new.looks } }
+    ensures others { IsFollowedByOthers B.author (pass.old.number ∷ pass.old.gone) pass.old.seen pass.new.seen }
+    ensures stale { stale_of result + length pass.old.seen ≤ length pass.new.seen }
+{
     match expand(alloc, claim, steps) {
         Ok(expanded) => match publish_rows(rt, lock, pass, expanded, steps) {
             Publish::Published => Turn::Published,
