@@ -1,5 +1,6 @@
 //! The elements that are open at a place.
-ghost use Rattle.std.specs.Prelude.{◌≡◌, [], ◌++◌, map, IfOk};
+ghost use Rattle.std.specs.Prelude.{◌≡◌, [], ◌++◌, ◌∷◌, map, IfOk};
+ghost use Rattle.cal_base.specs.declared.element.Item.TheVariants.{Element as InnerElement};
 ghost use Rattle.cal_base.specs.Xml.XmlScopes.{outer_scope, space_of};
 ghost use Rattle.cal_base.specs.Xml.XmlBodies.{text_items};
 ghost use Rattle.dav_body.specs.Reading.{whole, with_child, scope_of};
@@ -95,6 +96,15 @@ pub fn whole(inner: OpenElement<'_>) -> Result<Element, NoMemory>
     })
 }
 
+/// The items, the text behind them if it is not empty, and an element.
+fn with_item(items: List<Item>, text: Octets, element: Element) -> Result<List<Item>, NoMemory>
+    ensures { IfOk result (λ those. those ≡ items ++ text_items text ++ InnerElement element ∷ []) }
+{
+    let mut items = with_text(items, text)?;
+    items.push(Item::Element(element))?;
+    Ok(items)
+}
+
 /// An element with one more in it.
 pub fn with_element<'a>(
     alloc: Global,
@@ -103,8 +113,7 @@ pub fn with_element<'a>(
 ) -> Result<OpenElement<'a>, NoMemory>
     ensures { IfOk result (λ after. open_part after ≡ with_child (open_part outer.entry) element) }
 {
-    let mut items = with_text(outer.items, outer.text)?;
-    items.push(Item::Element(element))?;
+    let items = with_item(outer.items, outer.text, element)?;
     Ok(OpenElement {
         tag: outer.tag,
         space: outer.space,

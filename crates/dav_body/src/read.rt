@@ -1,10 +1,10 @@
 //! Reading a body.
-ghost use Rattle.std.specs.Prelude.{◌≡◌, ℕ, ◌≤◌, ◌+◌, ◌<◌, ◌^◌, [], length, drop, filter_map, None, Some, List, ◌∷◌, option_map, IfOk, IfErr};
-ghost use Rattle.cal_base.specs.Xml.XmlMarkup.{markups, markup_of};
-ghost use Rattle.cal_base.specs.Xml.XmlFaults.{body_fault};
+ghost use Rattle.std.specs.Prelude.{◌≡◌, ℕ, ◌≤◌, ◌+◌, ◌<◌, ◌^◌, [], length, drop, filter_map, None, Some, List, ◌∷◌, option_map, IfOk, IfErr, IfSome};
+ghost use Rattle.cal_base.specs.Xml.XmlMarkup.{Markup, markups, markup_of};
+ghost use Rattle.cal_base.specs.Xml.XmlFaults.{body_fault, references_fault};
 ghost use Rattle.cal_base.specs.Xml.XmlBodies.{IsBody, body_element};
 ghost use Rattle.cal_base.specs.Xml.XmlSizes.{element_size};
-ghost use Rattle.dav_body.specs.Keeping.{IsStep, behind, fault_with, element_with};
+ghost use Rattle.dav_body.specs.Keeping.{Kept, IsStep, IsMarkupStep, behind, fault_with, element_with};
 ghost use Rattle.dav_body.specs.Kept.{kept_of};
 ghost use Rattle.dav_body.specs.Faults.{IsFaultOf};
 
@@ -18,8 +18,45 @@ use crate::tag_references::{no_markup_fault, references_fault};
 use cal_base::Element;
 use std::alloc::Global;
 
+/// The fault of a text that is no markup.
+#[tactic(auto, using(crate::proofs::TextStops::text_without_markup))]
+fn without_markup(alloc: Global, end: u64, place: u64, text: &[u8]) -> BodyFault
+    requires some { 0 < length text.now }
+    requires within { place + length text.now < 2 ^ 64 }
+    requires none { None ≡ markup_of text.now }
+    ensures { (before : Kept) → (texts : List (List ℕ)) → IsFaultOf (fault_with end before place (text.now ∷ texts)) result }
+{
+    match no_markup_fault(alloc, end, place, text) {
+        Ok(fault) => BodyFault::At {
+            place: fault.place,
+            why: fault.why,
+        },
+        Err(_) => BodyFault::NoMemory,
+    }
+}
+
+/// The fault of the references in a text, if one is bad or there is no memory.
+#[tactic(auto, using(crate::proofs::TextStops::text_with_bad_reference))]
+fn stop_of_references(alloc: Global, place: u64, text: &[u8]) -> Option<BodyFault>
+    requires within { place + length text.now < 2 ^ 64 }
+    ensures none { result ≡ None → None ≡ references_fault place text.now }
+    ensures stop { IfSome result (λ fault. (end : ℕ) → (before : Kept) → (after : Kept) → (markup : Markup) → Some markup ≡ markup_of text.now → IsMarkupStep before markup after → (texts : List (List ℕ)) → IsFaultOf (fault_with end before place (text.now ∷ texts)) fault) }
+{
+    match references_fault(alloc, place, text) {
+        Ok(None) => None,
+        Ok(Some(fault)) => Some(BodyFault::At {
+            place: fault.place,
+            why: fault.why,
+        }),
+        Err(_) => Some(BodyFault::NoMemory),
+    }
+}
+
+/// Lets go what was read so far.
+fn let_go(_progress: Progress<'_>) {}
+
 /// One markup more, by its text.
-#[tactic(auto, using(crate::proofs::TextStops::text_without_markup, crate::proofs::TextStops::text_stopped, crate::proofs::TextStops::text_with_bad_reference, crate::proofs::TextStops::text_stands))]
+#[tactic(auto, using(crate::proofs::TextStops::text_stopped, crate::proofs::TextStops::text_stands))]
 fn with_text<'a>(
     alloc: Global,
     room: &mut usize,
@@ -33,21 +70,22 @@ fn with_text<'a>(
     ensures step { IfOk result (λ after. IsStep end place (kept_of progress.entry) text.now (kept_of after)) }
     ensures stop { IfErr result (λ fault. (texts : List (List ℕ)) → IsFaultOf (fault_with end (kept_of progress.entry) place (text.now ∷ texts)) fault) }
 {
-    match markup_of(alloc, text)? {
-        None => {
-            let fault = no_markup_fault(alloc, end, place, text)?;
-            Err(BodyFault::At {
-                place: fault.place,
-                why: fault.why,
-            })
+    match markup_of(alloc, text) {
+        Err(_) => {
+            let_go(progress);
+            Err(BodyFault::NoMemory)
         }
-        Some(markup) => {
+        Ok(None) => {
+            let_go(progress);
+            Err(without_markup(alloc, end, place, text))
+        }
+        Ok(Some(markup)) => {
             let after = with_markup(alloc, room, progress, place, markup)?;
-            match references_fault(alloc, place, text)? {
-                Some(fault) => Err(BodyFault::At {
-                    place: fault.place,
-                    why: fault.why,
-                }),
+            match stop_of_references(alloc, place, text) {
+                Some(fault) => {
+                    let_go(after);
+                    Err(fault)
+                }
                 None => Ok(after),
             }
         }
