@@ -51,9 +51,16 @@ fn unless_bad(content: Content) -> Content
 {
     match content {
         Content::Bad(refusal) => Content::Bad(refusal),
-        _ => bad_request(),
+        sound => {
+            let_go(sound);
+            bad_request()
+        }
     }
 }
+
+/// Lets go of a content in whose place a refusal comes. What the drop of a content does is proved here
+/// once, and not again at each of those places.
+fn let_go(_content: Content) {}
 
 fn with_depth(
     alloc: Global,
@@ -89,8 +96,14 @@ fn at_depth(alloc: Global, depth: &Option<Octets>, content: Content) -> Result<C
 {
     match said_depth(depth) {
         DepthWord::Finite => Ok(content),
-        DepthWord::Infinite => dav_refusal(alloc, b"<D:propfind-finite-depth/>"),
-        DepthWord::Other => Ok(bad_request()),
+        DepthWord::Infinite => {
+            let_go(content);
+            dav_refusal(alloc, b"<D:propfind-finite-depth/>")
+        }
+        DepthWord::Other => {
+            let_go(content);
+            Ok(bad_request())
+        }
     }
 }
 
