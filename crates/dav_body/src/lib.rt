@@ -11,6 +11,7 @@ mod blanks;
 mod characters;
 mod cut;
 mod ends;
+mod exits;
 mod fault;
 mod front;
 mod markup;

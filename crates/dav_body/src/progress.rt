@@ -1,6 +1,6 @@
 //! What the markup so far makes up.
 ghost use Rattle.std.specs.Prelude.{◌≡◌, true, false, [], map, IfOk, IfErr};
-ghost use Rattle.cal_base.specs.Xml.XmlMarkup.{opening, closing, reference};
+ghost use Rattle.cal_base.specs.Xml.XmlMarkup.{opening, closing, character, section, reference};
 ghost use Rattle.dav_body.specs.Reading.{whole};
 ghost use Rattle.cal_base.specs.Xml.XmlFaults.{markup_fault};
 ghost use Rattle.dav_body.specs.Keeping.{IsMarkupStep, nothing, behind, inside, ended, kept_around, kept_tags, is_rooted};
@@ -10,6 +10,7 @@ ghost use Rattle.dav_body.specs.OpenParts.{open_part};
 ghost use Rattle.dav_body.specs.Shown.{shown};
 
 use crate::blanks::are_blanks;
+use crate::exits::let_go;
 use crate::fault::{BodyFault, Why};
 use crate::markup::Markup;
 use crate::names::WrittenName;
@@ -65,9 +66,16 @@ fn opened<'a>(
     ensures stop { IfErr result (λ fault. IsWhyOf place (markup_fault (kept_tags (kept_around (map open_part around.entry))) (is_rooted (kept_around (map open_part around.entry))) (opening tag.entry)) fault) }
 {
     let is_empty = tag.is_empty();
-    match resolve_tag(alloc, room, tag, &around)? {
-        Resolved::Fault(why) => Err(BodyFault::At { place, why }),
-        Resolved::Open(inner) => {
+    match resolve_tag(alloc, room, tag, &around) {
+        Err(_) => {
+            let_go(around);
+            Err(BodyFault::NoMemory)
+        }
+        Ok(Resolved::Fault(why)) => {
+            let_go(around);
+            Err(BodyFault::At { place, why })
+        }
+        Ok(Resolved::Open(inner)) => {
             if is_empty {
                 Ok(closed(alloc, inner, around)?)
             } else {
@@ -91,6 +99,8 @@ fn end_tag<'a>(
     if inner.tag.tag().name().is_same(&name) {
         Ok(closed(alloc, inner, around)?)
     } else {
+        let_go(inner);
+        let_go(around);
         Err(BodyFault::At {
             place,
             why: Why::Syntax,
@@ -110,23 +120,51 @@ fn with_reference<'a>(
     ensures stop { IfErr result (λ fault. IsWhyOf place (markup_fault (kept_tags (inside (open_part inner.entry) (map open_part around.entry))) true (reference name.now)) fault) }
 {
     match referenced(name) {
-        Some(character) => {
-            push_character(&mut inner.text, character)?;
-            Ok(Progress::Within { inner, around })
+        Some(character) => match push_character(&mut inner.text, character) {
+            Ok(()) => Ok(Progress::Within { inner, around }),
+            Err(_) => {
+                let_go(inner);
+                let_go(around);
+                Err(BodyFault::NoMemory)
+            }
+        },
+        None => {
+            let_go(inner);
+            let_go(around);
+            Err(BodyFault::At {
+                place,
+                why: Why::Entity,
+            })
         }
-        None => Err(BodyFault::At {
-            place,
-            why: Why::Entity,
-        }),
+    }
+}
+
+/// Characters or a section within an element.
+#[tactic(auto, using(crate::proofs::KeptSteps::step_character, crate::proofs::KeptSteps::step_section))]
+fn with_said<'a>(
+    mut inner: OpenElement<'a>,
+    around: Stack<OpenElement<'a>>,
+    text: &[u8],
+) -> Result<Progress<'a>, NoMemory>
+    ensures characters { IfOk result (λ after. IsMarkupStep (inside (open_part inner.entry) (map open_part around.entry)) (character text.now) (kept_of after)) }
+    ensures section { IfOk result (λ after. IsMarkupStep (inside (open_part inner.entry) (map open_part around.entry)) (section text.now) (kept_of after)) }
+{
+    match push_with_line_feeds(&mut inner.text, text) {
+        Ok(()) => Ok(Progress::Within { inner, around }),
+        Err(error) => {
+            let_go(inner);
+            let_go(around);
+            Err(error)
+        }
     }
 }
 
 /// A markup within an element.
-#[tactic(auto, using(crate::proofs::KeptSteps::step_character, crate::proofs::KeptSteps::step_section, crate::proofs::KeptSteps::step_skipped))]
+#[tactic(auto, using(crate::proofs::KeptSteps::step_skipped))]
 fn within<'a>(
     alloc: Global,
     room: &mut usize,
-    mut inner: OpenElement<'a>,
+    inner: OpenElement<'a>,
     mut around: Stack<OpenElement<'a>>,
     place: u64,
     markup: Markup<'a>,
@@ -140,14 +178,8 @@ fn within<'a>(
             opened(alloc, room, place, tag, around)
         }
         Markup::Closing(name) => end_tag(alloc, inner, around, place, name),
-        Markup::Character(text) => {
-            push_with_line_feeds(&mut inner.text, text)?;
-            Ok(Progress::Within { inner, around })
-        }
-        Markup::Section(text) => {
-            push_with_line_feeds(&mut inner.text, text)?;
-            Ok(Progress::Within { inner, around })
-        }
+        Markup::Character(text) => Ok(with_said(inner, around, text)?),
+        Markup::Section(text) => Ok(with_said(inner, around, text)?),
         Markup::Reference(name) => with_reference(inner, around, place, name),
         Markup::Skipped => Ok(Progress::Within { inner, around }),
     }

@@ -9,6 +9,7 @@ ghost use Rattle.dav_body.specs.Kept.{kept_of};
 ghost use Rattle.dav_body.specs.Faults.{IsFaultOf};
 
 use crate::cut::first_markup;
+use crate::exits::let_go;
 use crate::fault::{BodyFault, Why};
 use crate::front::front_size;
 use crate::markup::markup_of;
@@ -51,9 +52,6 @@ fn stop_of_references(alloc: Global, place: u64, text: &[u8]) -> Option<BodyFaul
         Err(_) => Some(BodyFault::NoMemory),
     }
 }
-
-/// Lets go what was read so far.
-fn let_go(_progress: Progress<'_>) {}
 
 /// One markup more, by its text.
 #[tactic(auto, using(crate::proofs::TextStops::text_stopped, crate::proofs::TextStops::text_stands))]

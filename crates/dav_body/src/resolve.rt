@@ -12,6 +12,7 @@ ghost use Rattle.dav_body.specs.Faults.{why_told};
 
 use crate::attributes::WrittenAttribute;
 use crate::bindings::{declared, has_bad_binding, is_declaration};
+use crate::exits::let_go;
 use crate::fault::Why;
 use crate::open_elements::{OpenElement, bound};
 use crate::repeats::has_repeat;
@@ -269,6 +270,21 @@ fn element_space<'x>(
     }
 }
 
+/// The namespace and the local name of a tag's element.
+fn element_name<'x>(
+    alloc: Global,
+    room: &mut usize,
+    tag: &ScopedTag<'x>,
+    around: &Stack<OpenElement<'x>>,
+) -> Result<(Octets, Octets), NoMemory>
+    ensures space { IfOk result (λ name. name.0 ≡ unwrap_or (space_of (scope_within tag.now around.now) tag.now.name.prefix) []) }
+    ensures local { IfOk result (λ name. name.1 ≡ tag.now.name.local) }
+{
+    let space = element_space(alloc, room, tag, around)?;
+    let local = Octets::of(alloc, tag.tag().name().local())?;
+    Ok((space, local))
+}
+
 /// The element of a tag that can stand, with its attributes and without content.
 fn open_element<'a>(
     alloc: Global,
@@ -280,16 +296,21 @@ fn open_element<'a>(
     requires { attrs ≡ attributes_in (scope_within tag around.now) tag }
     ensures { IfOk result (λ open_one. open_part open_one ≡ opened tag.entry (map open_part around.now)) }
 {
-    let space = element_space(alloc, room, &tag, around)?;
-    let name = Octets::of(alloc, tag.tag().name().local())?;
-    Ok(OpenElement {
-        tag,
-        space,
-        name,
-        attrs,
-        items: List::new(alloc),
-        text: Octets::new(alloc),
-    })
+    match element_name(alloc, room, &tag, around) {
+        Err(error) => {
+            let_go(tag);
+            let_go(attrs);
+            Err(error)
+        }
+        Ok((space, name)) => Ok(OpenElement {
+            tag,
+            space,
+            name,
+            attrs,
+            items: List::new(alloc),
+            text: Octets::new(alloc),
+        }),
+    }
 }
 
 /// A tag whose declarations and written names are good.
@@ -305,9 +326,18 @@ fn resolve_scoped<'a>(
     ensures { IfOk result (λ found. IsResolved around.now tag.entry found) }
 {
     let attrs = attributes_in(alloc, room, &tag, around)?;
-    match scoped_fault(alloc, &tag, around, attrs.as_slice())? {
-        Some(why) => Ok(Resolved::Fault(why)),
-        None => Ok(Resolved::Open(open_element(alloc, room, tag, around, attrs)?)),
+    match scoped_fault(alloc, &tag, around, attrs.as_slice()) {
+        Err(error) => {
+            let_go(tag);
+            let_go(attrs);
+            Err(error)
+        }
+        Ok(Some(why)) => {
+            let_go(tag);
+            let_go(attrs);
+            Ok(Resolved::Fault(why))
+        }
+        Ok(None) => Ok(Resolved::Open(open_element(alloc, room, tag, around, attrs)?)),
     }
 }
 
