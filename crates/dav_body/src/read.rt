@@ -102,10 +102,14 @@ fn finished(progress: Progress<'_>, end: u64) -> Result<Element, BodyFault>
             place: end,
             why: Why::Cut,
         }),
-        Progress::Within { .. } => Err(BodyFault::At {
-            place: end,
-            why: Why::Cut,
-        }),
+        Progress::Within { inner, around } => {
+            let_go(inner);
+            let_go(around);
+            Err(BodyFault::At {
+                place: end,
+                why: Why::Cut,
+            })
+        }
     }
 }
 

@@ -351,8 +351,16 @@ pub fn resolve_tag<'a>(
 ) -> Result<Resolved<'a>, NoMemory>
     ensures { IfOk result (λ found. IsResolved around.now tag.entry found) }
 {
-    let bindings = declared(alloc, tag.attributes())?;
+    let bindings = match declared(alloc, tag.attributes()) {
+        Ok(bindings) => bindings,
+        Err(error) => {
+            let_go(tag);
+            return Err(error);
+        }
+    };
     if has_bad_binding(bindings.as_slice()) || has_repeat_written(alloc, tag.attributes())? {
+        let_go(tag);
+        let_go(bindings);
         Ok(Resolved::Fault(Why::Syntax))
     } else {
         let scoped = ScopedTag::of(alloc, tag, bindings)?;
