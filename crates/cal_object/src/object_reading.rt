@@ -18,9 +18,6 @@ use cal_base::{List, Node};
 use cal_model::{Object, ZoneTable};
 use std::alloc::Global;
 
-/// Lets an object go.
-fn let_go(_object: Object) {}
-
 /// The object that a calendar is beside its zones, or what keeps it from being one.
 fn object_beside(
     alloc: Global,
@@ -43,7 +40,7 @@ fn object_beside(
     match check_object(alloc, octets, scan, &names, &object) {
         Ok(()) => Ok(object),
         Err(fault) => {
-            let_go(object);
+            drop(object);
             Err(fault)
         }
     }

@@ -11,7 +11,6 @@ mod blanks;
 mod characters;
 mod cut;
 mod ends;
-mod exits;
 mod fault;
 mod front;
 mod markup;

@@ -10,7 +10,6 @@ ghost use Rattle.dav_body.specs.OpenParts.{open_part};
 ghost use Rattle.dav_body.specs.Shown.{shown};
 
 use crate::blanks::are_blanks;
-use crate::exits::let_go;
 use crate::fault::{BodyFault, Why};
 use crate::markup::Markup;
 use crate::names::WrittenName;
@@ -68,11 +67,11 @@ fn opened<'a>(
     let is_empty = tag.is_empty();
     match resolve_tag(alloc, room, tag, &around) {
         Err(_) => {
-            let_go(around);
+            drop(around);
             Err(BodyFault::NoMemory)
         }
         Ok(Resolved::Fault(why)) => {
-            let_go(around);
+            drop(around);
             Err(BodyFault::At { place, why })
         }
         Ok(Resolved::Open(inner)) => {
@@ -99,8 +98,8 @@ fn end_tag<'a>(
     if inner.tag.tag().name().is_same(&name) {
         Ok(closed(alloc, inner, around)?)
     } else {
-        let_go(inner);
-        let_go(around);
+        drop(inner);
+        drop(around);
         Err(BodyFault::At {
             place,
             why: Why::Syntax,
@@ -123,14 +122,14 @@ fn with_reference<'a>(
         Some(character) => match push_character(&mut inner.text, character) {
             Ok(()) => Ok(Progress::Within { inner, around }),
             Err(_) => {
-                let_go(inner);
-                let_go(around);
+                drop(inner);
+                drop(around);
                 Err(BodyFault::NoMemory)
             }
         },
         None => {
-            let_go(inner);
-            let_go(around);
+            drop(inner);
+            drop(around);
             Err(BodyFault::At {
                 place,
                 why: Why::Entity,
@@ -152,8 +151,8 @@ fn with_said<'a>(
     match push_with_line_feeds(&mut inner.text, text) {
         Ok(()) => Ok(Progress::Within { inner, around }),
         Err(error) => {
-            let_go(inner);
-            let_go(around);
+            drop(inner);
+            drop(around);
             Err(error)
         }
     }

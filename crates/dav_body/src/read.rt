@@ -9,7 +9,6 @@ ghost use Rattle.dav_body.specs.Kept.{kept_of};
 ghost use Rattle.dav_body.specs.Faults.{IsFaultOf};
 
 use crate::cut::first_markup;
-use crate::exits::let_go;
 use crate::fault::{BodyFault, Why};
 use crate::front::front_size;
 use crate::markup::markup_of;
@@ -70,18 +69,18 @@ fn with_text<'a>(
 {
     match markup_of(alloc, text) {
         Err(_) => {
-            let_go(progress);
+            drop(progress);
             Err(BodyFault::NoMemory)
         }
         Ok(None) => {
-            let_go(progress);
+            drop(progress);
             Err(without_markup(alloc, end, place, text))
         }
         Ok(Some(markup)) => {
             let after = with_markup(alloc, room, progress, place, markup)?;
             match stop_of_references(alloc, place, text) {
                 Some(fault) => {
-                    let_go(after);
+                    drop(after);
                     Err(fault)
                 }
                 None => Ok(after),
@@ -103,8 +102,8 @@ fn finished(progress: Progress<'_>, end: u64) -> Result<Element, BodyFault>
             why: Why::Cut,
         }),
         Progress::Within { inner, around } => {
-            let_go(inner);
-            let_go(around);
+            drop(inner);
+            drop(around);
             Err(BodyFault::At {
                 place: end,
                 why: Why::Cut,

@@ -12,7 +12,6 @@ ghost use Rattle.dav_body.specs.Faults.{why_told};
 
 use crate::attributes::WrittenAttribute;
 use crate::bindings::{declared, has_bad_binding, is_declaration};
-use crate::exits::let_go;
 use crate::fault::Why;
 use crate::open_elements::{OpenElement, bound};
 use crate::repeats::has_repeat;
@@ -298,8 +297,8 @@ fn open_element<'a>(
 {
     match element_name(alloc, room, &tag, around) {
         Err(error) => {
-            let_go(tag);
-            let_go(attrs);
+            drop(tag);
+            drop(attrs);
             Err(error)
         }
         Ok((space, name)) => Ok(OpenElement {
@@ -328,13 +327,13 @@ fn resolve_scoped<'a>(
     let attrs = attributes_in(alloc, room, &tag, around)?;
     match scoped_fault(alloc, &tag, around, attrs.as_slice()) {
         Err(error) => {
-            let_go(tag);
-            let_go(attrs);
+            drop(tag);
+            drop(attrs);
             Err(error)
         }
         Ok(Some(why)) => {
-            let_go(tag);
-            let_go(attrs);
+            drop(tag);
+            drop(attrs);
             Ok(Resolved::Fault(why))
         }
         Ok(None) => Ok(Resolved::Open(open_element(alloc, room, tag, around, attrs)?)),
@@ -354,13 +353,13 @@ pub fn resolve_tag<'a>(
     let bindings = match declared(alloc, tag.attributes()) {
         Ok(bindings) => bindings,
         Err(error) => {
-            let_go(tag);
+            drop(tag);
             return Err(error);
         }
     };
     if has_bad_binding(bindings.as_slice()) || has_repeat_written(alloc, tag.attributes())? {
-        let_go(tag);
-        let_go(bindings);
+        drop(tag);
+        drop(bindings);
         Ok(Resolved::Fault(Why::Syntax))
     } else {
         let scoped = ScopedTag::of(alloc, tag, bindings)?;

@@ -52,15 +52,11 @@ fn unless_bad(content: Content) -> Content
     match content {
         Content::Bad(refusal) => Content::Bad(refusal),
         sound => {
-            let_go(sound);
+            drop(sound);
             bad_request()
         }
     }
 }
-
-/// Lets go of a content in whose place a refusal comes. What the drop of a content does is proved here
-/// once, and not again at each of those places.
-fn let_go(_content: Content) {}
 
 fn with_depth(
     alloc: Global,
@@ -97,11 +93,11 @@ fn at_depth(alloc: Global, depth: &Option<Octets>, content: Content) -> Result<C
     match said_depth(depth) {
         DepthWord::Finite => Ok(content),
         DepthWord::Infinite => {
-            let_go(content);
+            drop(content);
             dav_refusal(alloc, b"<D:propfind-finite-depth/>")
         }
         DepthWord::Other => {
-            let_go(content);
+            drop(content);
             Ok(bad_request())
         }
     }
