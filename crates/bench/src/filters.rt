@@ -8,6 +8,7 @@ ghost use Rattle.bench.specs.Entries.{IsEntry};
 
 use crate::objects::{LIMIT, print_fault};
 use crate::parts;
+use crate::requests::let_content_go;
 use cal_base::{Element, List, NoMemory, Octets, SharedList, Steps};
 use cal_model::{Content, Filter, Object, ReportRequest, Row, ZoneTable};
 use cal_object::{ReadFault, read_object};
@@ -271,13 +272,27 @@ fn filter_of(content: &Content) -> Option<&Filter> {
     }
 }
 
+/// The same of the filter of a calendar-query.
+fn measure_content(
+    rt: &HostRuntime,
+    content: &Content,
+    texts: &[u8],
+    rounds: u32,
+) -> io::Result<()> {
+    match filter_of(content) {
+        Some(filter) => measure_filter(rt, filter, texts, rounds),
+        None => println!(rt; "no query"),
+    }
+}
+
 /// The same of the filter that a body has.
 fn measure_root(rt: &HostRuntime, root: &Element, texts: &[u8], rounds: u32) -> io::Result<()> {
     match read_report(rt.alloc(), root) {
-        Ok(content) => match filter_of(&content) {
-            Some(filter) => measure_filter(rt, filter, texts, rounds),
-            None => println!(rt; "no query"),
-        },
+        Ok(content) => {
+            let printed = measure_content(rt, &content, texts, rounds);
+            let_content_go(content);
+            printed
+        }
         Err(NoMemory) => println!(rt; "out of memory"),
     }
 }

@@ -106,13 +106,27 @@ fn measure_rule(rt: &HostRuntime, name: &str, freq: Freq, timed: bool) -> io::Re
         day: -357_875,
         second: 32_400,
     };
-    let rule = plain(rt.alloc(), freq);
-    let plainly = found(&DayFilter, &rule, start);
-    let stepping = found(&PeriodStep, &rule, start);
+    measure_steps(rt, name, &plain(rt.alloc(), freq), start, timed)
+}
+
+/// One rule with both bodies, from a moment on.
+fn measure_steps(
+    rt: &HostRuntime,
+    name: &str,
+    rule: &Rule,
+    start: Local,
+    timed: bool,
+) -> io::Result<()>
+    requires start { IsWritten start }
+    requires rule { IsUsable rule.now }
+    requires coarse { is_fine rule.now.freq ≡ false }
+{
+    let plainly = found(&DayFilter, rule, start);
+    let stepping = found(&PeriodStep, rule, start);
     println!(rt; "{name}: {plainly} and {stepping} moments")?;
     if timed {
-        let plainly = nanoseconds(rt, &DayFilter, &rule, start)?;
-        let stepping = nanoseconds(rt, &PeriodStep, &rule, start)?;
+        let plainly = nanoseconds(rt, &DayFilter, rule, start)?;
+        let stepping = nanoseconds(rt, &PeriodStep, rule, start)?;
         println!(rt; "{name}: {plainly} and {stepping} ns a step")?;
     }
     Ok(())
@@ -125,9 +139,11 @@ fn yearly(alloc: Global, month: u8, part: DayPart) -> Result<Rule, NoMemory>
     ensures usable { IfOk result IsUsable }
     ensures coarse { IfOk result (λ rule. is_fine rule.freq ≡ false) }
 {
+    let by_month = List::of(alloc, &[month])?;
+    let by_day = List::of(alloc, &[part])?;
     let mut rule = plain(alloc, Freq::Yearly);
-    rule.by_month = List::of(alloc, &[month])?;
-    rule.by_day = List::of(alloc, &[part])?;
+    rule.by_month = by_month;
+    rule.by_day = by_day;
     Ok(rule)
 }
 

@@ -42,12 +42,22 @@ fn read_stream(
     size: usize,
     read: &mut Read,
 ) -> Result<&'static str, NoMemory> {
-    let mut wire = Wire::new(alloc);
+    read_pieces(alloc, &mut Wire::new(alloc), stream, size, read)
+}
+
+/// The same over a wire.
+fn read_pieces(
+    alloc: Global,
+    wire: &mut Wire,
+    stream: &[u8],
+    size: usize,
+    read: &mut Read,
+) -> Result<&'static str, NoMemory> {
     for piece in stream.chunks(at_least_one(size)) {
         wire.feed(alloc, piece)?;
-        take_requests(alloc, &mut wire, read)?;
+        take_requests(alloc, wire, read)?;
     }
-    take_requests(alloc, &mut wire, read)
+    take_requests(alloc, wire, read)
 }
 
 /// A piece has an octet at least.
