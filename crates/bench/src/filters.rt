@@ -8,7 +8,6 @@ ghost use Rattle.bench.specs.Entries.{IsEntry};
 
 use crate::objects::{LIMIT, print_fault};
 use crate::parts;
-use crate::requests::let_content_go;
 use cal_base::{Element, List, NoMemory, Octets, SharedList, Steps};
 use cal_model::{Content, Filter, Object, ReportRequest, Row, ZoneTable};
 use cal_object::{ReadFault, read_object};
@@ -145,9 +144,6 @@ fn entry_with(alloc: Global, object: Object, rows: List<Row>) -> Entry
     Entry { object, rows }
 }
 
-/// Lets an object go: its drop is proved here, and not where an error is handed on.
-fn let_go(_object: Object) {}
-
 /// The object of a text with its rows.
 fn entry_of(alloc: Global, text: &[u8]) -> Result<Entry, ReadFault>
     ensures { IfOk result IsEntry }
@@ -159,7 +155,7 @@ fn entry_of(alloc: Global, text: &[u8]) -> Result<Entry, ReadFault>
         Ok(object) => match rows_of(alloc, &object) {
             Ok(rows) => Ok(entry_with(alloc, object, rows)),
             Err(NoMemory) => {
-                let_go(object);
+                drop(object);
                 Err(ReadFault::NoMemory)
             }
         },
@@ -290,7 +286,7 @@ fn measure_root(rt: &HostRuntime, root: &Element, texts: &[u8], rounds: u32) -> 
     match read_report(rt.alloc(), root) {
         Ok(content) => {
             let printed = measure_content(rt, &content, texts, rounds);
-            let_content_go(content);
+            drop(content);
             printed
         }
         Err(NoMemory) => println!(rt; "out of memory"),

@@ -79,15 +79,12 @@ pub fn measure(rt: &HostRuntime, body: &[u8], word: &str) -> io::Result<()> {
     }
 }
 
-/// Lets a content go: its drop is proved here, and not where one was read.
-pub fn let_content_go(_content: Content) {}
-
 /// Prints what a body asks for, and how much of it there is, or that it is refused.
 fn print_content(rt: &HostRuntime, kind: Kind, root: &Element) -> io::Result<()> {
     match content_of(rt.alloc(), kind, root) {
         Ok(content) => {
             let (what, count) = told(&content);
-            let_content_go(content);
+            drop(content);
             println!(rt; "{count} {what}")
         }
         Err(NoMemory) => println!(rt; "out of memory"),

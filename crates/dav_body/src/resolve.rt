@@ -350,16 +350,8 @@ pub fn resolve_tag<'a>(
 ) -> Result<Resolved<'a>, NoMemory>
     ensures { IfOk result (λ found. IsResolved around.now tag.entry found) }
 {
-    let bindings = match declared(alloc, tag.attributes()) {
-        Ok(bindings) => bindings,
-        Err(error) => {
-            drop(tag);
-            return Err(error);
-        }
-    };
+    let bindings = declared(alloc, tag.attributes())?;
     if has_bad_binding(bindings.as_slice()) || has_repeat_written(alloc, tag.attributes())? {
-        drop(tag);
-        drop(bindings);
         Ok(Resolved::Fault(Why::Syntax))
     } else {
         let scoped = ScopedTag::of(alloc, tag, bindings)?;
