@@ -2,7 +2,7 @@
 ghost use Rattle.std.specs.Prelude.{◌≡◌, IfOk, IsSome, option_map};
 ghost use Rattle.std.specs.Option.{option_copied};
 ghost use Rattle.cal_model.specs.History.KeptChanges.{kept_change};
-ghost use Rattle.cal_model.specs.History.LiveObjects.{live_at, placed_by};
+ghost use Rattle.cal_model.specs.History.LiveObjects.{live_at, placed_at, placed_by};
 ghost use Rattle.cal_model.specs.Refusals.Preconditions.{IsServable};
 ghost use Rattle.cal_book.specs.ClaimsOut.{IsMadeAt, placed_of};
 
@@ -21,6 +21,16 @@ fn stored_in(entry: &Entry) -> Option<&Arc<Stored>>
     }
 }
 
+/// The object that the entry of a number puts.
+fn made_by(history: &History, origin: u64) -> Option<&Arc<Stored>>
+    ensures { placed_at history.now.journal origin ≡ option_map placed_of (option_copied result) }
+{
+    match history.entry(origin) {
+        Some(entry) => stored_in(entry),
+        None => None,
+    }
+}
+
 /// The object that an entry made and that is still there, shared once more.
 pub(crate) fn share(history: &History, origin: u64) -> Result<Arc<Stored>, NoMemory>
     requires live { IsSome (live_at history.now.journal origin) }
@@ -28,11 +38,8 @@ pub(crate) fn share(history: &History, origin: u64) -> Result<Arc<Stored>, NoMem
     ensures servable { IfOk result (λ stored. IsServable stored.octets) }
 {
     let _entries = history.entries();
-    match history.entry(origin) {
-        Some(entry) => match stored_in(entry) {
-            Some(stored) => Arc::try_clone(stored),
-            None => unreachable!(),
-        },
+    match made_by(history, origin) {
+        Some(stored) => Arc::try_clone(stored),
         None => unreachable!(),
     }
 }

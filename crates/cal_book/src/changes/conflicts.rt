@@ -1,8 +1,9 @@
 //! Conflicts of UIDs (RFC 4791, 5.3.2.1).
-ghost use Rattle.std.specs.Prelude.{◌≡◌, bytes_eq, codes, if◌then◌else◌, List, ℕ, IfOk, Some, None};
+ghost use Rattle.std.specs.Prelude.{◌≡◌, ◌++◌, bytes_eq, codes, if◌then◌else◌, List, ℕ, IfOk, OnOk, Some, None};
 ghost use Rattle.std.specs.Option.{option_copied};
 ghost use Rattle.cal_model.specs.Refusals.Preconditions.{uid_conflict, uid_of};
 ghost use Rattle.cal_model.specs.Refusals.RefusalReplies.{refusal_reply};
+ghost use Rattle.cal_model.specs.Replies.Hrefs.{href};
 ghost use Rattle.cal_model.specs.Replies.ReplyElements.{href_element};
 ghost use Rattle.cal_model.specs.Replies.XmlText.{element};
 ghost use Rattle.cal_model.specs.State.ServerState.{Calendar};
@@ -81,11 +82,23 @@ fn conflict_refusal(alloc: Global, target: &Target<'_>, name: &[u8]) -> Result<R
 fn conflict_with(alloc: Global, target: &Target<'_>, name: &[u8]) -> Result<Octets, NoMemory>
     ensures { IfOk result (λ text. text ≡ element (codes "C:no-uid-conflict") (href_element (path_beside target.now name.now))) }
 {
-    let path = path_of(alloc, target, name)?;
     let mut text = Octets::of(alloc, b"<C:no-uid-conflict><D:href>")?;
-    append_path(&path, &mut text)?;
+    append_beside(alloc, target, name, &mut text)?;
     text.extend_from_slice(b"</D:href></C:no-uid-conflict>")?;
     Ok(text)
+}
+
+/// Appends the path of an object in the same calendar.
+fn append_beside(
+    alloc: Global,
+    target: &Target<'_>,
+    name: &[u8],
+    text: &mut Octets,
+) -> Result<(), NoMemory>
+    ensures { OnOk result (text.new ≡ text.old ++ href (path_beside target.now name.now)) }
+{
+    let path = path_of(alloc, target, name)?;
+    append_path(&path, text)
 }
 
 /// The path of an object in the same calendar.

@@ -86,10 +86,14 @@ fn make_fine(
     ensures { IsTold (full_row (has_all_calendars_at (shown_state view.now) home || is_full_at (shown_state view.now) home size) ∷ []) (make_at home name.now sets.now size) reply result }
 {
     if has_all_calendars(view, home) || is_full(view, home, size) {
+        drop(reply);
         return no_room(alloc);
     }
     match copy_settings_of(alloc, name, sets) {
         Ok((name, sets)) => ChangeCheck::Made(Change::Make(home, name, sets, size), reply),
-        Err(NoMemory) => ChangeCheck::NoMemory,
+        Err(NoMemory) => {
+            drop(reply);
+            ChangeCheck::NoMemory
+        }
     }
 }

@@ -56,10 +56,14 @@ fn patch_fine(
     ensures { IsTold (full_row (is_full_at (shown_state view.now) place.now.home size) ∷ []) (patch_at place.now.home place.now.calendar.now sets.now size) reply result }
 {
     if is_full(view, place.home, size) {
+        drop(reply);
         return no_room(alloc);
     }
     match copy_settings_of(alloc, place.calendar, sets) {
         Ok((name, sets)) => ChangeCheck::Made(Change::Patch(place.home, name, sets, size), reply),
-        Err(NoMemory) => ChangeCheck::NoMemory,
+        Err(NoMemory) => {
+            drop(reply);
+            ChangeCheck::NoMemory
+        }
     }
 }

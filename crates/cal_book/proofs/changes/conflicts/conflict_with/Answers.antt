@@ -4,6 +4,7 @@ use Rattle.cal_model.specs.declared.path.Path.TheVariants.{Object}
 use Rattle.cal_model.specs.Replies.Hrefs.{href}
 use Rattle.cal_model.specs.Replies.ReplyElements.{href_element}
 use Rattle.cal_model.specs.Replies.XmlText.{element}
+use Rattle.cal_book.specs.Checking.Places.{path_beside}
 use Rattle.dav_write.proofs.ErrorLemmas.{href_plain}
 use Rattle.cal_book.proofs.changes.conflicts.conflict_with.Goals as goal
 
@@ -19,5 +20,5 @@ pub returns : goal.returns
 returns c =
     let target = c.args.target.now in
     c.in_ok-extend_from_slice.ensures.ok
-    ∙ ap (λ text. text ++ codes "</D:href></C:no-uid-conflict>") (c.in_ok-append_path.ensures.ok ∙ (λ i. c.in_ok-text.ensures i ++ href (c.in_ok-path.ensures i)))
+    ∙ ap (λ text. text ++ codes "</D:href></C:no-uid-conflict>") (c.in_ok-append_beside.ensures ∙ ap (λ text. text ++ href (path_beside target c.args.name.now)) c.in_ok-text.ensures)
     ∙ sym (condition target.user.now target.place.calendar.now c.args.name.now)
