@@ -133,7 +133,11 @@ fn has_options(stream: &TcpStream, time: Option<Duration>) -> io::Result<bool> {
 }
 
 /// Whether a link sets the options of its connection, as a second handle of it shows.
-fn sets_options<C: std::rt::Clock + Copy + Drop>(clock: &C, stream: TcpStream, twin: &TcpStream) -> bool {
+fn sets_options<C: std::rt::Clock + Copy + Drop>(
+    clock: &C,
+    stream: TcpStream,
+    twin: &TcpStream,
+) -> bool {
     let time = Some(Duration::from_secs(LINK_TIMEOUT_SECONDS));
     let before = has_options(twin, time).ok();
     let _link = TcpLink::new(clock, stream);
