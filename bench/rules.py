@@ -1,0 +1,112 @@
+#!/usr/bin/env python3
+"""Looks whether what docs/RULES.md names is there: each definition, body, page and heading.
+
+A line for each that is not, and status 1; else how many rows there are. The page says at its top how
+its columns are written. Needs Python 3 and nothing else; it is run from anywhere.
+"""
+
+import pathlib
+import re
+import sys
+
+TOP = pathlib.Path(__file__).resolve().parent.parent
+INDEX = TOP / "docs" / "RULES.md"
+HEAD = ["Rule", "Definition", "Body", "Page"]
+WITHOUT = "–"
+
+
+def rows(text):
+    """The rows of the tables, each with the number of its line and its cells, but for the heads."""
+    for number, line in enumerate(text.splitlines(), 1):
+        cells = [cell.strip() for cell in line.strip().strip("|").split("|")]
+        is_head = cells[1:] == HEAD or set("".join(cells)) == {"-"}
+        if line.startswith("|") and not is_head:
+            yield number, cells
+
+
+def names_in(cell):
+    """The names in a cell, which stand in backticks with commas between, or none."""
+    if cell == WITHOUT:
+        return []
+    names = re.findall(r"`([^`]+)`", cell)
+    if ", ".join(f"`{name}`" for name in names) != cell:
+        raise ValueError(f"no list of names: {cell}")
+    return names
+
+
+def definition_is_there(name):
+    """`Chapter/Module.name` of cal_model, or `crate::Chapter/Module.name`."""
+    crate, _, rest = name.rpartition("::")
+    module, _, word = rest.rpartition(".")
+    path = TOP / "crates" / (crate or "cal_model") / "specs" / f"{module}.antt"
+    declared = rf"^\s*(?:unfoldable |abbrev )?pub (?:data |record )?{re.escape(word)}(?:\s|$)"
+    return path.is_file() and re.search(declared, path.read_text(), re.MULTILINE) is not None
+
+
+def module_of(crate, parts):
+    """The file of the module to which the first of some names lead, and the other names."""
+    source = TOP / "crates" / crate / "src"
+    for count in range(len(parts) - 1, 0, -1):
+        path = source.joinpath(*parts[:count]).with_suffix(".rt")
+        if path.is_file():
+            return path, parts[count:]
+    return source / "lib.rt", parts
+
+
+def implemented_for(name, text):
+    """What a text implements for a type of a name."""
+    block = rf"^impl\b[^{{;]*\b{re.escape(name)}\b[^{{;]*\{{.*?^\}}"
+    return "\n".join(re.findall(block, text, re.MULTILINE | re.DOTALL))
+
+
+def body_is_there(name):
+    """`crate::module::name`, of a function, a constant or a type, or `crate::module::Type::name`."""
+    crate, *parts = name.split("::")
+    path, (*kind, word) = module_of(crate, parts or [""])
+    if not path.is_file() or not word or len(kind) > 1:
+        return False
+    text = implemented_for(kind[0], path.read_text()) if kind else path.read_text()
+    kinds = "fn|const|struct|enum|trait|type"
+    declared = rf"^\s*(?:pub(?:\([a-z]+\))? )?(?:{kinds}) {re.escape(word)}\b"
+    return re.search(declared, text, re.MULTILINE) is not None
+
+
+def anchors(page):
+    """The anchors of a page's headings."""
+    heads = re.findall(r"^#+ (.*)$", re.sub(r"```.*?```", "", page, flags=re.DOTALL), re.MULTILINE)
+    return {re.sub(r"[^\w\- ]", "", head.lower()).strip().replace(" ", "-") for head in heads}
+
+
+def heading_is_there(cell):
+    """One link to a heading of a page beside the index."""
+    link = re.fullmatch(r"\[[^\]]+\]\(([A-Z_]+\.md)#([^)]+)\)", cell)
+    page = INDEX.parent / link[1] if link else None
+    return link is not None and page.is_file() and link[2] in anchors(page.read_text())
+
+
+def missing(cells):
+    """What a row names and is not there."""
+    if len(cells) != 1 + len(HEAD):
+        raise ValueError(f"{len(cells)} cells")
+    _, _, definitions, bodies, page = cells
+    gone = [name for name in names_in(definitions) if not definition_is_there(name)]
+    gone += [name for name in names_in(bodies) if not body_is_there(name)]
+    return gone + ([] if heading_is_there(page) else [page])
+
+
+def main():
+    found = list(rows(INDEX.read_text()))
+    lines = []
+    for number, cells in found:
+        try:
+            lines += [f"docs/RULES.md:{number}: {name} is not there" for name in missing(cells)]
+        except ValueError as fault:
+            lines.append(f"docs/RULES.md:{number}: {fault}")
+    if not found:
+        lines.append("docs/RULES.md: no rows")
+    print("\n".join(lines or [f"{len(found)} rows, and all that they name is there"]))
+    return 1 if lines else 0
+
+
+if __name__ == "__main__":
+    sys.exit(main())
