@@ -1278,7 +1278,7 @@ def with_part(text, kind, cases):
     """An input or an output of the program with other cases of a kind, which stand behind the line `@KIND` up to the next `@`."""
     front, head, rest = text.partition(b"@%s\n" % kind.encode())
     if not head or b"@" in cases:
-        sys.exit(f"no room for {kind}")
+        sys.exit(f"no part @{kind}, or an @ in its cases")
     _, sign, rest = rest.partition(b"@")
     return front + head + cases + sign + rest
 

@@ -10,12 +10,13 @@ What is shown here no contract says: that there is memory and a network, that a 
 the program ends once its connections were served. What is wanted comes from docs/: COMMANDS.md (words, statuses, lines
 on standard error), REPLIES.md (replies, entity tags) and XML.md (the body of a report). The digests of `load` were worked
 out by a second program, from LOAD.md alone."""
-import base64, contextlib, copy, email.utils, hashlib, os, re, socket, subprocess, sys, tempfile, threading, time
+import contextlib, copy, email.utils, hashlib, os, re, socket, subprocess, sys, tempfile, threading, time
+
+sys.dont_write_bytecode = True
+from workers import KEY, USERS, free_port
 
 TOP = os.path.dirname(os.path.dirname(os.path.abspath(__file__)))
-USERS = b"user alice ba7816bf8f01cfea414140de5dae2223b00361a396177a9cb410ff61f20015ad\n"  # the password is abc
-KEY = base64.b64encode(b"alice:abc").decode()
-WAIT = 60  # seconds for what takes a moment on a quiet machine
+WAIT = 120  # seconds for what takes a moment on a quiet machine
 
 # One event for each of four sessions; ten for each of three, and the queries behind them.
 ONE_EACH = "sessions 4\nrequests 4\naccepted 4\noctets 616\nsha256 b893486846227676cde4933e4594d6e4c7b4048c40a5bffafe6cc26d9f740cb7\n"
@@ -85,7 +86,7 @@ class Program:
         return other
 
     def start(self, words, output=subprocess.PIPE):
-        how = {"stdin": subprocess.DEVNULL, "stdout": output, "stderr": subprocess.PIPE, "cwd": self.folder, "env": self.environment}
+        how = {"bufsize": 0, "stdin": subprocess.DEVNULL, "stdout": output, "stderr": subprocess.PIPE, "cwd": self.folder, "env": self.environment}
         return subprocess.Popen([*self.begin, *words], **how)
 
     def ended(self, words, output=subprocess.PIPE):
@@ -143,12 +144,6 @@ class Server:
                     raise Wrong(f"{' '.join(self.words)}: ended with {self.process.returncode}, {wrote}, {told}")
         finally:
             self.stop()
-
-
-def free_port():
-    with socket.socket() as link:
-        link.bind(("127.0.0.1", 0))
-        return link.getsockname()[1]
 
 
 def request(method, path, media, body, more=""):
@@ -218,10 +213,9 @@ def silent_connections(program):
 
 
 def no_descriptor(program):
-    """A connection that could not be taken counts: with its address the server has as many open files as it may."""
-    port = free_port()
-    words = f"serve --users users --listen 127.0.0.1:{port} --sessions 1 --workers 0 --connections 1".split()
-    program.with_files(4).has_to_end(words, 0, "", f"listening on 127.0.0.1:{port}\n")
+    """A connection that cannot be taken counts: with its address the server has as many open files as it may."""
+    with Server(program.with_files(4), 1, "--sessions", "1", "--workers", "0") as server, contextlib.suppress(OSError):
+        server.connect().close()
 
 
 def taken_port(program):
@@ -233,8 +227,11 @@ def taken_port(program):
 
 
 def full_output(program):
-    with open("/dev/full", "wb") as output:
+    output = os.open("/dev/full", os.O_WRONLY)  # not made where there is none
+    try:
         program.has_to_end("load --number 1 --sessions 1".split(), 5, "", "output fault\n", output=output)
+    finally:
+        os.close(output)
 
 
 def look(program):
@@ -265,6 +262,8 @@ def fault(path, more=None):
             return str(wrong)
         except OSError as end:
             return f"a connection is not served, or the program does not start: {end}"
+        except (ValueError, TypeError) as end:
+            return f"a reply cannot be read: {end}"
     return None
 
 

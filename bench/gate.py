@@ -245,7 +245,8 @@ def main():
         status = started.wait()
     if gate:
         share = shares()
-        print("\n".join(["", *table(gate, share), "", *told(gate, share)]))
+        none = [] if share else ["bench/README.md has no table of shares."]
+        print("\n".join(["", *table(gate, share), "", *told(gate, share), *none]))
     sys.exit(status)
 
 

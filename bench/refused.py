@@ -340,7 +340,7 @@ def of_walk(walk):
     def what_of(status, output):
         if status != 0:
             return None
-        if output in (b"the input was not read\n", b"# w\nout of memory\n", b""):
+        if output in (b"the input was not read\n", b"@books\n# w\nout of memory\n", b""):
             return "not begun"
         text = b"\n" + output.partition(b"\n# w\n")[2]
         steps = re.split(rb"\n(?=answered |claimed |\d+ rows|stale|published|room|no room|out of memory|no request|no claim|no rows|nothing is open|\d+ entries)", text)[1:]
