@@ -1,0 +1,4 @@
+pub mod Disks
+pub mod Files
+pub mod Keepers
+pub mod Steps

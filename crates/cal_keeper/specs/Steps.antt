@@ -1,0 +1,7 @@
+-- What the private functions promise one another, on the way to the public contracts, which cite none of it.
+-- Given: the disk (Disks) and the file (Files). WriteRuns and Committing are for appending; HeaderSteps for making and opening; RecordSteps and Decoding for reading.
+pub mod WriteRuns
+pub mod Committing
+pub mod HeaderSteps
+pub mod RecordSteps
+pub mod Decoding
