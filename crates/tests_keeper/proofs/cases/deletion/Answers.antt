@@ -1,0 +1,15 @@
+use Rattle.std.proofs.Common.{◌≡◌, ℕ, List, codes, pos, refl, sym, subst, lit<, lit≤}
+use Rattle.cal_model.specs.History.Journal.{Entry}
+use Rattle.cal_model.specs.State.Changes.{delete_calendar}
+use Rattle.cal_keeper.specs.Files.Payloads.{HasForm}
+use Rattle.tests_keeper.proofs.cases.deletion.Goals as goal
+
+abbrev deletion_of : List ℕ → Entry
+deletion_of name = record { session = 7; who = 1; moment = pos 1_741_600_000; change = delete_calendar 1 name; status = 204 }
+
+deletion-has_form : (name : List ℕ) → name ≡ codes "calendar" → HasForm 3 (deletion_of name)
+deletion-has_form name is =
+    subst (λ (n : List ℕ). HasForm 3 (deletion_of n)) (sym is) (record { who = lit< tt; home = lit< tt; moment = refl; to_9999 = lit≤ tt; status = lit< tt; calendar = refl; change = tt; short = lit≤ tt })
+
+pub returns : goal.returns
+returns c = deletion-has_form _ cc
