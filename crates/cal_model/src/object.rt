@@ -103,6 +103,10 @@ pub struct Component {
     pub stored_busy: List<(Option<Class>, Period)>,
     /// Its VALARMs that have a TRIGGER, in order.
     pub alarms: List<Alarm>,
+    /// It moves all later instances too (RFC 5545, 3.2.13): its RECURRENCE-ID has
+    /// RANGE=THISANDFUTURE, and its DTSTART is there and of the kind of the object's ids, a DATE, a
+    /// floating time or an instant.
+    pub future: bool,
 }
 
 /// A calendar object: what a calendar stores under one name.
@@ -142,6 +146,4 @@ pub enum NotResource {
     ZoneMissing,
     /// A component has an EXRULE.
     ExRule,
-    /// A RECURRENCE-ID stands for all later instances too.
-    ThisAndFuture,
 }

@@ -7,7 +7,7 @@ use cal_base::Octets;
 pub enum Path {
     /// `/`.
     Root,
-    /// `/principals/U/`, of a user's name.
+    /// `/principals/U/`, of the name of a user or a group.
     Principal(Octets),
     /// `/calendars/U/`, of a user's name.
     Home(Octets),

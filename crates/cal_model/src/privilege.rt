@@ -11,6 +11,8 @@ pub enum Who {
     Owner,
     /// The user of that number.
     Principal(u32),
+    /// The members of the group of that number.
+    Group(u32),
 }
 
 /// A set of privileges: nine bits, one for each.

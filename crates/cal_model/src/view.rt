@@ -2,7 +2,7 @@
 ghost use Rattle.std.specs.Prelude.{◌≡◌, ◌<◌, ℕ, false, List, length, Option, Some, ℤ, IfSome, OnOk, OnErr};
 ghost use Rattle.std.specs.Borrow.{Bor};
 ghost use Rattle.std.specs.Option.{option_copied, option_map};
-ghost use Rattle.cal_model.specs.State.ServerState.{Directory, ServerState, octets_at, user_name as name_of_user, user_number};
+ghost use Rattle.cal_model.specs.State.ServerState.{Directory, ServerState, octets_at, user_name as name_of_user, user_number, group_name as name_of_group, group_number, is_member as is_in};
 ghost use Rattle.cal_model.specs.State.Changes.{effect};
 ghost use Rattle.cal_model.specs.State.SoundStates.{IsSound, IsSoundChange};
 ghost use Rattle.cal_model.specs.State.UserNames.{AreToldApart};
@@ -19,11 +19,11 @@ use crate::store::CalendarData;
 use crate::stored::Stored;
 use cal_base::{Arc, List, NoMemory};
 
-/// A state of the server with its users, as it is looked at. An object's origin is the number of the
+/// A state of the server with its users and groups, as it is looked at. An object's origin is the number of the
 /// journal's entry that made it, counted from 0. No call takes memory, and each takes about the
 /// logarithm of what there is.
 pub trait View {
-    /// The users.
+    /// The users and the groups.
     ghost directory: { Self → Directory };
 
     /// The state that is shown.
@@ -66,6 +66,29 @@ pub trait View {
     fn find_user(&self, name: &[u8]) -> Option<u32>
         ensures number { result ≡ user_number (directory self.now) name.now }
         ensures told { AreToldApart (directory self.now) };
+
+    /// How many users and groups there are.
+    fn user_count(&self) -> u32
+        ensures { result ≡ length (directory self.now).names };
+
+    fn group_count(&self) -> u32
+        ensures { result ≡ length (directory self.now).groups };
+
+    /// The number of the group of a name.
+    fn find_group(&self, name: &[u8]) -> Option<u32>
+        ensures number { result ≡ group_number (directory self.now) name.now }
+        ensures told { AreToldApart (directory self.now) };
+
+    /// The name of the group of a number.
+    fn group_name(&self, group: u32) -> &[u8]
+        requires known { group < length (directory self.now).groups }
+        ensures name { result.now ≡ name_of_group (directory self.now) group };
+
+    /// Whether a user is in a group.
+    fn is_member(&self, group: u32, who: u32) -> bool
+        requires group { group < length (directory self.now).groups }
+        requires known { who < length (directory self.now).names }
+        ensures { result ≡ is_in (directory self.now) group who };
 }
 
 /// What changes can be made in.

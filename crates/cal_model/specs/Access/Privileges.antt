@@ -1,12 +1,12 @@
 -- The privileges on a calendar: which there are and what each contains, and which of them a user holds (RFC 3744, 3, 5.3 and 5.5; RFC 4791, 6.1.1).
 -- A set of privileges is a sum of their bits, and what is held is a union over all grants, whatever their order. Who asks is the number of a user and the numbers
--- of the groups that the user is in (RFC 3744, 2); so far no grant is to a group.
+-- of the groups that the user is in (RFC 3744, 2).
 use Rattle.std.specs.Prelude.{ℕ, Bool, true, false, not, ◌&&◌, ◌||◌, ◌==◌, ◌≤◌, if◌then◌else◌, List, [], ◌∷◌, ◌++◌, map, filter, fold, bit_and, bit_or, bytes_eq, Option, Some, None, codes}
 use Rattle.std.specs.Int.{bit_at}
 use Rattle.std.specs.List.{list_any}
 use Rattle.cal_model.specs.declared.privilege.Grant.{Grant}
 use Rattle.cal_model.specs.declared.privilege.Who.{Who}
-use Rattle.cal_model.specs.declared.privilege.Who.TheVariants.{Everyone, Owner, Principal}
+use Rattle.cal_model.specs.declared.privilege.Who.TheVariants.{Everyone, Owner, Principal, Group}
 use Rattle.cal_model.specs.declared.property.PropName.{PropName}
 use Rattle.cal_model.specs.Words.Namespaces.{dav, caldav}
 use Rattle.cal_model.specs.Words.Lists.{is_empty}
@@ -93,6 +93,7 @@ abbrev pub fits_user : List ℕ → ℕ → Who → Bool
 fits_user groups user Everyone = true
 fits_user groups user Owner = false
 fits_user groups user (Principal number) = number == user
+fits_user groups user (Group number) = list_any (λ group. number == group) groups
 
 -- what the grants give to a user
 abbrev pub granted : List ℕ → List Grant → ℕ → ℕ

@@ -14,7 +14,7 @@ use Rattle.cal_model.specs.declared.request.Content.TheVariants.{None as NoConte
 use Rattle.cal_model.specs.Bodies.AclBodies.{acl_content}
 use Rattle.cal_model.specs.Bodies.PropertyBodies.{find_content, patch_content, make_content}
 use Rattle.cal_model.specs.Bodies.ReportBodies.{report_content}
-use Rattle.cal_model.specs.Users.UsersFile.{User}
+use Rattle.cal_model.specs.Users.UsersFile.{Users}
 
 -- the octets of a value that may be absent
 abbrev pub octets_in : Option (List ℕ) → ℕ
@@ -73,4 +73,4 @@ abbrev pub ReportsFit : Type 0
 ReportsFit = (root : Element) → ContentFits (element_size root) (report_content root)
 
 abbrev pub AclsFit : Type 0
-AclsFit = (users : List User) (root : Element) → ContentFits (element_size root) (acl_content users root)
+AclsFit = (users : Users) (root : Element) → ContentFits (element_size root) (acl_content users root)

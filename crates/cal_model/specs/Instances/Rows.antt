@@ -1,6 +1,6 @@
--- The instances of an object as rows: overrides, ids, order, and the rows of a window. From RFC 5545, 3.8.4.4, and RFC 4791, 4.1.
+-- The instances of an object as rows: overrides, ids, order, and the rows of a window. From RFC 5545, 3.2.13 and 3.8.4.4, and RFC 4791, 4.1.
 -- One list of all rows. A window is a filter over it; that a part of the instances is enough to find the rows of one window is `merged-part` (`proofs/Instances/MergedParts`). Each definition takes the list of moments over which rules are taken: the rows themselves are those over `every_moment`.
-use Rattle.std.specs.Prelude.{ℕ, ◌+◌, Bool, true, false, not, nat_le, if◌then◌else◌, List, [], ◌∷◌, ◌++◌, map, filter, filter_map, flat_map, option_to_list, option_and_then, slice_get, ℤ, pos, int_lt, Option, Some, None, is_some, is_none}
+use Rattle.std.specs.Prelude.{ℕ, ◌+◌, Bool, true, false, not, ◌&&◌, nat_le, if◌then◌else◌, List, [], ◌∷◌, ◌++◌, map, filter, filter_map, flat_map, option_to_list, option_and_then, slice_get, ℤ, pos, ◌+ℤ◌, ◌-ℤ◌, int_le, int_lt, Option, Some, None, is_some, is_none}
 use Rattle.std.specs.Int.{int_div_euclid}
 use Rattle.std.specs.List.{list_any}
 use Rattle.cal_moment.specs.declared.stamp.Stamp.{Stamp}
@@ -10,10 +10,11 @@ use Rattle.cal_model.specs.declared.object.Object.{Object}
 use Rattle.cal_model.specs.declared.row.Row.{Row}
 use Rattle.cal_model.specs.declared.row.RowKind.{RowKind}
 use Rattle.cal_model.specs.declared.row.RowKind.TheVariants as kind
+use Rattle.cal_model.specs.Words.Limits.{first_date, last_date}
 use Rattle.cal_model.specs.Words.Integers.{same_int}
 use Rattle.cal_model.specs.Words.Lists.{first_or_else}
 use Rattle.cal_model.specs.Recurrence.RecurrenceSet.{every_moment}
-use Rattle.cal_model.specs.Instances.Alignment.{Aligned, at, on_day, align, reading_of, value_of, kind_of, names_start}
+use Rattle.cal_model.specs.Instances.Alignment.{Aligned, at, on_day, align, reading_of, value_of, kind_of, written_value, names_start}
 pub use Rattle.cal_model.specs.Instances.Starts.{is_date, start_or_due, own_start, end_from, end_of_extent, end_of_instance, starts_of, ascending, has_fine_rule}
 
 -- Components by number: the place in the object, counted from 0.
@@ -90,9 +91,61 @@ abbrev pub master_row : List ℕ → Object → Stamp → ℤ → Numbered → L
 master_row moments object ids r n =
     map (λ s. row_of r r (end_of_instance moments object.zones s n.component r) n.number (kind_of ids) (kind_of s)) (option_to_list (own_start n.component))
 
--- the row of a start, as far as no override names it. RANGE=THISANDFUTURE changes this one definition, to `later_row_at`
+-- Starts that an override governs (RFC 5545, 3.2.13).
+
+-- an override that moves all later instances: the id of its own row, and the stamp from which it starts. One whose own row is Undated moves none.
+pub record Governor : Type 0 where
+  pub id : ℤ
+  pub start : Stamp
+  pub override : Numbered
+
+abbrev pub governors_by : Object → Stamp → List ℤ → Numbered → List Governor
+governors_by object ids all n =
+    flat_map (λ s. map (λ x. record { id = id_of_override object ids all x; start = s; override = n }) (named_by object.zones ids n)) (option_to_list (own_start n.component))
+
+abbrev pub moves_later : Numbered → Bool
+moves_later n = n.component.future
+
+abbrev pub governors : Object → Stamp → List ℤ → List Governor
+governors object ids all = flat_map (governors_by object ids all) (filter moves_later (overrides object))
+
+-- the one with the greatest id, of several with that id the last
+abbrev pub greatest_id : Governor → List Governor → Governor
+greatest_id g [] = g
+greatest_id g (h ∷ hs) = greatest_id (if int_le g.id h.id then h else g) hs
+
+-- by how many local digits it moves a start: from those of its id to those that its own start is written with
+abbrev pub move_of : List ZoneTable → Governor → ℤ
+move_of zones g = written_value g.start -ℤ (reading_of zones g.start).local g.id
+
+-- the digits of a start that is moved so, by the clock of the override's start
+abbrev pub moved_digits : List ZoneTable → Governor → ℤ → ℤ
+moved_digits zones g r = (reading_of zones g.start).local r +ℤ move_of zones g
+
+-- digits of the dates that are served
+abbrev pub are_served : ℤ → Bool
+are_served l = int_le first_date l && int_le l last_date
+
+-- the row of a start that an override governs: moved, with the override's own length; none where its digits leave the dates that are served
+abbrev pub moved_row : Object → Stamp → ℤ → Governor → List Row
+moved_row object ids r g =
+    let digits = moved_digits object.zones g r in
+    let start = (reading_of object.zones g.start).instant digits in
+    if are_served digits then row_of r start (end_from object.zones g.override.component start) g.override.number (kind_of ids) (kind_of g.start) ∷ [] else []
+
+abbrev pub master_rows : List ℕ → Object → Stamp → ℤ → List Row
+master_rows moments object ids r = flat_map (master_row moments object ids r) (masters object)
+
+-- governed by the override with the greatest id, else by the master
+abbrev pub governed_row : List ℕ → Object → Stamp → ℤ → List Governor → List Row
+governed_row moments object ids r [] = master_rows moments object ids r
+governed_row moments object ids r (g ∷ gs) = moved_row object ids r (greatest_id g gs)
+
+-- The row of a start, beside all starts. One that an override names is not governed: the override's row takes the place of the master's.
 abbrev pub row_at : List ℕ → Object → Stamp → List ℤ → ℤ → List Row
-row_at moments object ids all r = flat_map (master_row moments object ids r) (masters object)
+row_at moments object ids all r =
+    if is_named object ids r then master_rows moments object ids r
+    else governed_row moments object ids r (filter (λ (g : Governor). int_lt g.id r) (governors object ids all))
 
 -- the row of an override, if it has a start of its own: from that start, with its own length
 abbrev pub override_row_from : Object → Stamp → List ℤ → Numbered → Stamp → ℤ → List Row
@@ -121,7 +174,7 @@ abbrev pub merged : Object → Stamp → List ℤ → List Row → List Row
 merged object ids all instances =
     in_order (flat_map (override_row object ids all) (overrides object) ++ filter (λ (r : Row). not (is_named object ids r.id)) instances)
 
--- The same over all instances, whose ids are their starts (`dated_rows-merged` in `proofs/Instances/RowsInOrder`). Over some of them it is another list: an override by a local day takes its id from the instances that it is given.
+-- The same over all instances, whose ids are their starts (`dated_rows-merged` in `proofs/Instances/RowsInOrder`); these may be rows of overrides that govern. Over some of them it is another list: an override by a local day takes its id from the instances that it is given.
 abbrev pub merged_with : Object → List Row → List Row
 merged_with object instances =
     flat_map (λ ids. merged object ids (map (λ (r : Row). r.id) instances) instances) (option_to_list (ids_start object))

@@ -22,7 +22,7 @@ replies directory state session (request ∷ more) =
     let event = load_event session request in reply_to directory state event ∷ replies directory (state_after directory state event) session more
 
 abbrev pub load_users : ℕ → Directory
-load_users sessions = record { names = map load_user (range_with_len 0 sessions) }
+load_users sessions = record { names = map load_user (range_with_len 0 sessions); groups = [] }
 
 abbrev pub replies_of : ℕ → ℕ → ℕ → List Reply
 replies_of puts sessions session = replies (load_users sessions) (opening_state (load_users sessions)) session (requests_of puts session)

@@ -1,7 +1,9 @@
 -- A component of the four kinds as its lines and alarms say it (RFC 5545, 3.6.1 to 3.6.4 and 3.6.6).
 -- One record, a table for its end and one for how busy it is.
-use Rattle.std.specs.Prelude.{ℕ, Bool, false, ◌||◌, if◌then◌else◌, List, [], ◌∷◌, map, filter, filter_map, flat_map, bytes_eq, Option, Some, None, option_map, option_and_then, unwrap_or, codes, pos}
+use Rattle.std.specs.Prelude.{ℕ, Bool, false, ◌&&◌, ◌||◌, if◌then◌else◌, List, [], ◌∷◌, map, filter, filter_map, flat_map, bytes_eq, Option, Some, None, option_map, option_and_then, unwrap_or, codes, pos}
+use Rattle.std.specs.List.{list_any}
 use Rattle.cal_base.specs.declared.line.Line.{Line}
+use Rattle.cal_base.specs.declared.line.Param.{Param}
 use Rattle.cal_base.specs.declared.line.Node.{Node}
 use Rattle.cal_base.specs.Texts.Text.{raised_all}
 use Rattle.cal_moment.specs.declared.stamp.Length.{Length}
@@ -20,7 +22,7 @@ use Rattle.cal_model.specs.declared.object.Trigger.{Trigger}
 use Rattle.cal_model.specs.Values.ValueTexts.{length_of, moment_of}
 use Rattle.cal_model.specs.Values.StampTexts.{param_value, trigger_of, repeat_of}
 use Rattle.cal_model.specs.Values.RuleTexts.{word_of}
-use Rattle.cal_model.specs.Objects.ComponentLines.{all_of, one_of, lines_of, children_of, is_named}
+use Rattle.cal_model.specs.Objects.ComponentLines.{has_name, all_of, one_of, lines_of, children_of, is_named}
 use Rattle.cal_model.specs.Objects.LineValues.{stamps_at, periods_in, periods_at, stamp_at, value_at, rules_of}
 
 -- Ends
@@ -97,9 +99,19 @@ alarm_of node = option_map (alarm_with (lines_of node)) (option_and_then trigger
 abbrev pub is_alarm : Node → Bool
 is_alarm node = is_named (codes "VALARM") node
 
+-- All later instances
+
+-- RANGE=THISANDFUTURE (RFC 5545, 3.2.13)
+abbrev pub is_future : Param → Bool
+is_future param = bytes_eq param.name (codes "RANGE") && list_any (λ value. bytes_eq (raised_all value) (codes "THISANDFUTURE")) param.values
+
+-- a RECURRENCE-ID has it
+abbrev pub has_future : List Line → Bool
+has_future lines = list_any (λ (line : Line). has_name (codes "RECURRENCE-ID") line && list_any is_future line.params) lines
+
 -- The component
 
--- one of a kind that is the child of a number, beside the names of the object's zones
+-- one of a kind that is the child of a number, beside the names of the object's zones. Whether it moves all later instances depends on the other components too (`settled`).
 abbrev pub component_of : List (List ℕ) → ℕ → Kind → Node → Component
 component_of zones number kind node =
     let lines = lines_of node in
@@ -118,4 +130,5 @@ component_of zones number kind node =
       busy = busy_of kind lines;
       stored_busy = stored_busy_of zones lines;
       alarms = filter_map alarm_of (filter is_alarm (children_of node));
+      future = has_future lines;
     }

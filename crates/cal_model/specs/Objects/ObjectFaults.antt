@@ -3,9 +3,7 @@
 use Rattle.std.specs.Prelude.{ℕ, ◌+◌, ◌%◌, Bool, true, false, not, ◌&&◌, ◌||◌, ◌==◌, nat_lt, if◌then◌else◌, List, [], ◌∷◌, ◌++◌, map, length, get_or, take, filter, filter_map, flat_map, find, bytes_eq, Option, Some, None, is_some, option_map, unwrap_or, codes, pos, int_lt, nat_abs}
 use Rattle.std.specs.List.{list_any, enumerate_from}
 use Rattle.cal_base.specs.declared.line.Line.{Line}
-use Rattle.cal_base.specs.declared.line.Param.{Param}
 use Rattle.cal_base.specs.declared.line.Node.{Node}
-use Rattle.cal_base.specs.Texts.Text.{raised_all}
 use Rattle.cal_base.specs.Lines.ContentLines.{Placed}
 use Rattle.cal_base.specs.Lines.ComponentTrees.{is_begin, depth, innermost, name_at, first, or_else}
 use Rattle.cal_moment.specs.declared.stamp.Length.{Length}
@@ -17,7 +15,7 @@ use Rattle.cal_moment.specs.declared.stamp.Stamp.TheVariants.{Date, Floating, Ut
 use Rattle.cal_model.specs.declared.object.Component.{Component}
 use Rattle.cal_model.specs.declared.object.Kind.TheVariants.{Event}
 use Rattle.cal_model.specs.declared.object.NotResource.{NotResource}
-use Rattle.cal_model.specs.declared.object.NotResource.TheVariants.{Method, NoComponent, MixedKinds, NoUid, MixedUids, TwoMasters, SameRecurrenceId, ZoneMissing, ExRule, ThisAndFuture}
+use Rattle.cal_model.specs.declared.object.NotResource.TheVariants.{Method, NoComponent, MixedKinds, NoUid, MixedUids, TwoMasters, SameRecurrenceId, ZoneMissing, ExRule}
 use Rattle.cal_model.specs.declared.object.Object.{Object}
 use Rattle.cal_model.specs.declared.object.Trigger.{Trigger}
 use Rattle.cal_model.specs.declared.object.Trigger.TheVariants.{At as AtMoment}
@@ -217,13 +215,6 @@ dated_stamps zones line =
 abbrev pub lacks_zone : List (List ℕ) → List Line → Bool
 lacks_zone zones lines = list_any (λ stamp. not (is_known zones stamp)) (flat_map (dated_stamps zones) lines)
 
--- RANGE=THISANDFUTURE (RFC 5545, 3.2.13)
-abbrev pub is_future : Param → Bool
-is_future param = bytes_eq param.name (codes "RANGE") && list_any (λ value. bytes_eq (raised_all value) (codes "THISANDFUTURE")) param.values
-
-abbrev pub has_future : List Line → Bool
-has_future lines = list_any (λ (line : Line). has_name (codes "RECURRENCE-ID") line && list_any is_future line.params) lines
-
 -- some component has this of its lines
 abbrev pub some_has : (List Line → Bool) → List Child → Bool
 some_has test children = list_any (λ (child : Child). test (lines_of child.tree)) children
@@ -240,7 +231,6 @@ resource_faults object children =
     ∷ (has_repeat (aligned_ids object), SameRecurrenceId)
     ∷ (some_has (lacks_zone (zone_names object.zones)) children, ZoneMissing)
     ∷ (some_has (has (codes "EXRULE")) children, ExRule)
-    ∷ (some_has has_future children, ThisAndFuture)
     ∷ []
 
 -- its first row that holds

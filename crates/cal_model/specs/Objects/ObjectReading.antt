@@ -1,20 +1,23 @@
 -- The calendar object that octets are, or the first fault (RFC 5545, 3.4 to 3.6; RFC 4791, 4.1), and the zone that a text is.
 -- One table of faults, read from its top. As with zones, each definition takes the list of moments over which rules are taken; the reading itself is over `every_moment`.
-use Rattle.std.specs.Prelude.{ℕ, if◌then◌else◌, List, [], ◌∷◌, ◌++◌, filter_map, Option, Some, None, Result, Ok, Err, option_map, slice_get, codes}
+use Rattle.std.specs.Prelude.{ℕ, Bool, false, ◌&&◌, if◌then◌else◌, List, [], ◌∷◌, ◌++◌, map, filter_map, Option, Some, None, Result, Ok, Err, option_map, slice_get, codes}
 use Rattle.cal_base.specs.declared.line.Node.{Node}
 use Rattle.cal_base.specs.Lines.ContentLines.{Placed, placed_lines, line_fault}
 use Rattle.cal_base.specs.Lines.ComponentTrees.{NestingFault, unclosed, wrong_end, too_deep, nesting_fault, tree_of, first}
 use Rattle.cal_moment.specs.declared.stamp.Stamp.{Stamp}
+use Rattle.cal_model.specs.declared.object.Component.{Component}
 use Rattle.cal_model.specs.declared.object.Kind.{Kind}
 use Rattle.cal_model.specs.declared.object.NotResource.{NotResource}
 use Rattle.cal_model.specs.declared.object.NotResource.TheVariants.{ZoneMissing}
 use Rattle.cal_model.specs.declared.object.Object.{Object}
 use Rattle.cal_model.specs.declared.zone.ZoneTable.{ZoneTable}
 use Rattle.cal_model.specs.Recurrence.RecurrenceSet.{every_moment}
+use Rattle.cal_model.specs.Instances.Alignment.{kind_of}
+use Rattle.cal_model.specs.Instances.Rows.{ids_start}
 use Rattle.cal_model.specs.Objects.ComponentLines.{is_named}
 use Rattle.cal_model.specs.Objects.LineValues.{lines_in, own_fault}
 use Rattle.cal_model.specs.Objects.ZoneReading.{zones_of, zone_names}
-use Rattle.cal_model.specs.Objects.ObjectFaults.{children_in, zones_among, kinds_among, object_of, zone_fault, component_fault, resource_fault, stamp_outside}
+use Rattle.cal_model.specs.Objects.ObjectFaults.{children_in, zones_among, kinds_among, object_of, same_kind, zone_fault, component_fault, resource_fault, stamp_outside}
 
 -- why octets are not read: they are no calendar, by the place of the fault; it cannot be stored; or a date of an object of a kind lies outside
 pub data Unread : Type 0 where
@@ -49,6 +52,17 @@ calendar_faults moments placed calendar =
 abbrev pub object_in : List ℕ → List Placed → Node → Object
 object_in moments placed calendar = object_of (zones_of moments calendar) calendar (kinds_among (children_in placed calendar))
 
+-- A component moves all later instances where its RECURRENCE-ID says so and its DTSTART is there, of the kind of the ids.
+abbrev pub is_like : Option Stamp → Option Stamp → Bool
+is_like (Some ids) (Some start) = same_kind (kind_of start) (kind_of ids)
+is_like ids start = false
+
+abbrev pub settled_component : Option Stamp → Component → Component
+settled_component ids c = record c { future = c.future && is_like ids c.start }
+
+abbrev pub settled : Object → Object
+settled object = record object { components = map (settled_component (ids_start object)) object.components }
+
 -- what keeps a calendar from being an object
 abbrev pub object_faults : List Placed → Node → Object → List (Option Unread)
 object_faults placed calendar object =
@@ -65,7 +79,7 @@ read_tree moments placed calendar =
     let object = object_in moments placed calendar in
     elim (first_there (calendar_faults moments placed calendar ++ object_faults placed calendar object)) [
       | Some fault ↦ Err fault
-      | None ↦ Ok object
+      | None ↦ Ok (settled object)
     ]
 
 -- the first zone

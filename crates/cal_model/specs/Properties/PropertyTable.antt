@@ -8,8 +8,8 @@ use Rattle.cal_model.specs.Words.Namespaces.{dav, caldav}
 use Rattle.cal_model.specs.Access.Privileges.{has_all, read, read_acl, read_held, same_name}
 use Rattle.cal_model.specs.State.PropertyTexts.{Texts}
 use Rattle.cal_model.specs.Sight.Views.{Contents}
-use Rattle.cal_model.specs.Sight.Resources.{Resource, held_of, any_resource, is_principal, is_calendar, is_object, is_named, is_owned, Asker, calendar}
-use Rattle.cal_model.specs.Properties.PropertyValues.{Value, always, resource_type, asking_principal, principal_href, home_href, privileges_held_here, text_value, display_value, of_octets, shown_data, kinds_value, acl_value, data_type, report_elements}
+use Rattle.cal_model.specs.Sight.Resources.{Resource, held_of, any_resource, is_user, is_group, is_principal, is_calendar, is_object, is_named, is_owned, Asker, calendar}
+use Rattle.cal_model.specs.Properties.PropertyValues.{Value, always, resource_type, asking_principal, principal_href, home_href, group_members, group_memberships, privileges_held_here, text_value, display_value, of_octets, shown_data, kinds_value, acl_value, data_type, report_elements}
 use Rattle.cal_model.specs.Refusals.RequestLimits.{resource_limit, instances_limit}
 use Rattle.cal_model.specs.Busy.FreeBusyText.{utc_text}
 use Rattle.cal_model.specs.Words.Limits.{first_date, last_date}
@@ -60,7 +60,7 @@ text_row name listed setting = row name is_calendar read listed setting (text_va
 abbrev pub fixed_row : PropName → List ℕ → Property
 fixed_row name content = row name is_calendar read in_names protected (always content)
 
--- Each property that isn't a text, in the order in which they are listed. Groups of principals are two rows more, and another test in that of calendar-home-set.
+-- Each property that isn't a text, in the order in which they are listed.
 unfoldable pub properties : List Property
 properties =
     row (in_dav (codes "resourcetype")) any_resource 0 in_both protected resource_type
@@ -69,7 +69,9 @@ properties =
     ∷ row (in_dav (codes "current-user-privilege-set")) is_calendar read_held in_names protected privileges_held_here
     ∷ row (in_dav (codes "displayname")) is_named read in_both text (display_value (in_dav (codes "displayname")))
     ∷ row (in_dav (codes "principal-URL")) is_principal 0 in_names protected principal_href
-    ∷ row (in_caldav (codes "calendar-home-set")) is_principal 0 in_names protected home_href
+    ∷ row (in_caldav (codes "calendar-home-set")) is_user 0 in_names protected home_href
+    ∷ row (in_dav (codes "group-member-set")) is_group 0 in_names protected group_members
+    ∷ row (in_dav (codes "group-membership")) is_principal 0 in_names protected group_memberships
     ∷ row (in_dav (codes "getetag")) is_object read in_both protected (of_octets (λ octets. etag_text (etag_of octets)))
     ∷ row (in_dav (codes "getcontenttype")) is_object read in_both protected (of_octets (λ octets. codes "text/calendar; charset=utf-8"))
     ∷ row (in_dav (codes "getcontentlength")) is_object read in_both protected (of_octets (λ octets. decimal (length octets)))

@@ -1,20 +1,21 @@
 -- The contents of properties, as they are written, where they are there (RFC 4918, 15; RFC 3744, 4 and 5; RFC 4791, 5.2 and 6.2.1; RFC 5397, 3).
 -- Given: who asks, and a resource as the caller sees it. Which property has which content, and who may see it, is `PropertyTable`.
-use Rattle.std.specs.Prelude.{ℕ, if◌then◌else◌, List, [], ◌∷◌, ◌++◌, filter, flat_map, Option, Some, None, option_map, option_and_then, codes}
+use Rattle.std.specs.Prelude.{ℕ, if◌then◌else◌, List, [], ◌∷◌, ◌++◌, filter, flat_map, Option, Some, None, option_map, option_and_then, option_to_list, slice_get, codes}
 use Rattle.cal_base.specs.Xml.CanonicalXml.{attribute, element_with}
 use Rattle.cal_model.specs.declared.path.Path.TheVariants.{Principal, Home}
 use Rattle.cal_model.specs.declared.privilege.Grant.{Grant}
 use Rattle.cal_model.specs.declared.privilege.Who.{Who}
-use Rattle.cal_model.specs.declared.privilege.Who.TheVariants.{Everyone, Owner, Principal as ToPrincipal}
+use Rattle.cal_model.specs.declared.privilege.Who.TheVariants.{Everyone, Owner, Principal as ToPrincipal, Group as ToGroup}
 use Rattle.cal_model.specs.declared.property.PropName.{PropName}
 use Rattle.cal_model.specs.Words.Namespaces.{dav}
 use Rattle.cal_model.specs.Access.Privileges.{privileges, has_all, all, write}
 use Rattle.cal_model.specs.Replies.XmlText.{element, xml_text}
 use Rattle.cal_model.specs.State.PropertyTexts.{text_at}
-use Rattle.cal_model.specs.State.ServerState.{Directory, user_name}
+use Rattle.cal_model.specs.State.ServerState.{Directory, user_name, user_number, group_name, group_number, groups_of}
+use Rattle.cal_model.specs.Users.UsersFile.{Group}
 use Rattle.cal_model.specs.Sight.Views.{Sight, Contents}
 use Rattle.cal_model.specs.Replies.ReplyElements.{privilege_element, href_element}
-use Rattle.cal_model.specs.Sight.Resources.{Resource, held_of, Asker, root, principal, home, calendar, object}
+use Rattle.cal_model.specs.Sight.Resources.{Resource, held_of, Asker, root, principal, group, home, calendar, object}
 
 -- the content of a property's element, where the property is there
 abbrev pub Value : Type 0
@@ -29,6 +30,7 @@ empty_named name = element name []
 -- RFC 4918, 15.9; RFC 3744, 4; RFC 4791, 4.2
 abbrev pub resource_type : Value
 resource_type asker (principal user) = Some (empty_named (codes "D:collection") ++ empty_named (codes "D:principal"))
+resource_type asker (group name) = Some (empty_named (codes "D:collection") ++ empty_named (codes "D:principal"))
 resource_type asker (calendar owner name sight) = Some (empty_named (codes "D:collection") ++ empty_named (codes "C:calendar"))
 resource_type asker (object owner within name sight octets) = Some []
 resource_type asker other = Some (empty_named (codes "D:collection"))
@@ -37,10 +39,11 @@ resource_type asker other = Some (empty_named (codes "D:collection"))
 abbrev pub asking_principal : Value
 asking_principal asker resource = Some (href_element (Principal (user_name asker.directory asker.who)))
 
--- the name of the user whose home a resource is in
+-- the name of the user whose home a resource is in, or of the principal itself
 abbrev pub owner_of : Resource → List ℕ
 owner_of root = []
 owner_of (principal user) = user
+owner_of (group name) = name
 owner_of (home owner) = owner
 owner_of (calendar owner name sight) = owner
 owner_of (object owner within name sight octets) = owner
@@ -52,6 +55,24 @@ principal_href asker resource = Some (href_element (Principal (owner_of resource
 -- RFC 4791, 6.2.1
 abbrev pub home_href : Value
 home_href asker resource = Some (href_element (Home (owner_of resource)))
+
+-- RFC 3744, 4.3: the members of a group, by their numbers
+abbrev pub members_of : Directory → ℕ → List ℕ
+members_of directory number =
+    flat_map (λ (found : Group). flat_map (λ user. href_element (Principal (user_name directory user))) found.members) (option_to_list (slice_get directory.groups number))
+
+abbrev pub group_members : Value
+group_members asker (group name) = option_map (members_of asker.directory) (group_number asker.directory name)
+group_members asker other = None
+
+-- RFC 3744, 4.4: the groups that a user is in, by their numbers; a group is in none
+abbrev pub memberships_of : Directory → ℕ → List ℕ
+memberships_of directory user = flat_map (λ number. href_element (Principal (group_name directory number))) (groups_of directory user)
+
+abbrev pub group_memberships : Value
+group_memberships asker (principal user) = option_map (memberships_of asker.directory) (user_number asker.directory user)
+group_memberships asker (group name) = Some []
+group_memberships asker other = None
 
 -- each privilege whose bit is in a set
 abbrev pub bit_elements : ℕ → List ℕ
@@ -78,6 +99,7 @@ text_value name asker other = None
 -- RFC 4918, 15.2: the name of a principal, or what was set on a calendar
 abbrev pub display_value : PropName → Value
 display_value name asker (principal user) = Some (xml_text user)
+display_value name asker (group of) = Some (xml_text of)
 display_value name asker other = text_value name asker other
 
 -- of an object's octets
@@ -111,6 +133,7 @@ abbrev pub grantee : Directory → Who → List ℕ
 grantee directory Everyone = empty_named (codes "D:all")
 grantee directory Owner = owner_element
 grantee directory (ToPrincipal user) = href_element (Principal (user_name directory user))
+grantee directory (ToGroup number) = href_element (Principal (group_name directory number))
 
 abbrev pub ace : List ℕ → List ℕ → List ℕ → List ℕ
 ace who granted protection =

@@ -1,12 +1,14 @@
 -- What it costs to find the rows of an object in a window, and how far from its start a row can meet a range. Beside RFC 4791, 7.8 and 9.9; which windows a report needs stands in `NeededWindows`.
 -- A count over the whole list of moments, and a sum of three lengths. No walk over periods or windows is retraced.
-use Rattle.std.specs.Prelude.{ℕ, suc, ◌+◌, ◌*◌, Bool, false, ◌&&◌, nat_le, if◌then◌else◌, List, [], ◌∷◌, map, filter_map, flat_map, option_to_list, length, sum, count_by, max, ℤ, pos, negsuc, ◌+ℤ◌, ◌-ℤ◌, ◌*ℤ◌, int_lt, unsigned_abs, Option, Some, None}
+use Rattle.std.specs.Prelude.{ℕ, suc, ◌+◌, ◌*◌, ◌/◌, Bool, true, false, ◌&&◌, nat_le, nat_lt, nat_abs, if◌then◌else◌, List, [], ◌∷◌, map, filter, filter_map, flat_map, option_to_list, length, sum, count_by, max, ℤ, pos, negsuc, ◌+ℤ◌, ◌-ℤ◌, ◌*ℤ◌, int_lt, unsigned_abs, Option, Some, None}
+use Rattle.std.specs.List.{list_any, list_all}
 use Rattle.cal_moment.specs.Calendar.{epoch_day}
 use Rattle.cal_moment.specs.declared.stamp.Stamp.{Stamp}
 use Rattle.cal_moment.specs.declared.stamp.Period.{Period}
 use Rattle.cal_moment.specs.declared.stamp.PeriodEnd.{PeriodEnd}
 use Rattle.cal_moment.specs.declared.stamp.PeriodEnd.TheVariants.{At, After}
 use Rattle.cal_model.specs.declared.rule.Rule.{Rule}
+use Rattle.cal_model.specs.declared.zone.Onset.{Onset}
 use Rattle.cal_model.specs.declared.zone.ZoneTable.{ZoneTable}
 use Rattle.cal_model.specs.declared.object.Component.{Component}
 use Rattle.cal_model.specs.declared.object.Object.{Object}
@@ -21,7 +23,7 @@ use Rattle.cal_model.specs.Recurrence.Passing.{passes, period_number}
 use Rattle.cal_model.specs.Recurrence.RecurrenceSet.{every_moment}
 use Rattle.cal_model.specs.Instances.Alignment.{Aligned, at, on_day, value_of, written_moment}
 use Rattle.cal_model.specs.Ranges.Overlap.{seconds_of}
-use Rattle.cal_model.specs.Instances.Rows.{is_date, own_start, overrides, ids_start, named_by, window_seconds}
+use Rattle.cal_model.specs.Instances.Rows.{is_date, own_start, overrides, ids_start, named_by, starts, Governor, governors, moves_later, move_of, window_seconds}
 
 -- Cost.
 
@@ -68,16 +70,55 @@ greatest (n ∷ ns) = max n (greatest ns)
 abbrev pub last_of_window : ℤ → ℕ
 last_of_window window = number_of_day (window *ℤ pos 64 +ℤ pos 63)
 
--- the last day on which a period may begin. RANGE=THISANDFUTURE changes this one definition, to `later_last_day`
-abbrev pub last_day : Object → ℤ → ℕ
-last_day object window = max (last_of_window window) (greatest (days_named_from object (ids_start object)))
+-- Overrides that move later instances.
+
+-- the days, rounded up, by which a move goes to earlier digits; none where it goes to later ones
+abbrev pub days_earlier : ℤ → ℕ
+days_earlier (pos n) = 0
+days_earlier (negsuc n) = (n + 86400) / 86400
+
+-- all of them, beside all starts
+abbrev pub all_governors : List ℕ → Object → List Governor
+all_governors moments object = flat_map (λ ids. governors object ids (starts moments object)) (option_to_list (ids_start object))
+
+-- by how many days at most they move a start to earlier
+abbrev pub greatest_move : List ℕ → Object → ℕ
+greatest_move moments object = greatest (map (λ g. days_earlier (move_of object.zones g)) (all_governors moments object))
+
+-- offsets below 18 hours in size, as all places of the world have them
+abbrev pub is_common : ℤ → Bool
+is_common offset = nat_lt (nat_abs offset) 64800
+
+abbrev pub has_common_offsets : ZoneTable → Bool
+has_common_offsets zone = is_common zone.before && list_all (λ (o : Onset). is_common o.offset) zone.onsets
+
+-- a RECURRENCE-ID that names one moment
+abbrev pub is_moment : Aligned → Bool
+is_moment (at v) = true
+is_moment (on_day midnight) = false
+
+abbrev pub names_moments : Object → Option Stamp → Bool
+names_moments object None = true
+names_moments object (Some ids) = list_all is_moment (flat_map (named_by object.zones ids) (filter moves_later (overrides object)))
+
+-- How many days a start can lie beside the window that its row is moved to, the move aside: three, as four offsets lie between; and nine, whatever the offsets are and where such an override names a local day.
+abbrev pub days_apart : Object → ℕ
+days_apart object = if list_all has_common_offsets object.zones && names_moments object (ids_start object) then 3 else 9
+
+-- the last day on which a period may begin: that of the window, where some override moves later instances so many days after it and those by which one moves to earlier, and each day that a RECURRENCE-ID names
+abbrev pub last_moved : List ℕ → Object → ℤ → ℕ
+last_moved moments object window =
+    if list_any moves_later (overrides object) then last_of_window window + (days_apart object + greatest_move moments object) else last_of_window window
+
+abbrev pub last_day : List ℕ → Object → ℤ → ℕ
+last_day moments object window = max (last_moved moments object window) (greatest (days_named_from object (ids_start object)))
 
 -- one, and what each component counts up to a day
 abbrev pub cost_up_to : List ℕ → Object → ℕ → ℕ
 cost_up_to moments object day = suc (sum (map (component_cost moments day) object.components))
 
 abbrev pub cost_over : List ℕ → Object → ℤ → ℕ
-cost_over moments object window = cost_up_to moments object (last_day object window)
+cost_over moments object window = cost_up_to moments object (last_day moments object window)
 
 abbrev pub cost : Object → ℤ → ℕ
 cost = cost_over every_moment

@@ -27,10 +27,14 @@ IsNear n x y = (x <ℤ (y +ℤ pos n)) × (y <ℤ (x +ℤ pos n))
 abbrev pub IsWithin : ℤ → ℤ → ℤ → Type 0
 IsWithin start end t = (start ≤ℤ t) × (t <ℤ end)
 
--- each offset of a zone is below a day in size
-pub record HasShortOffsets (table : ZoneTable) : Type 0 where
-  pub before : IsNear 86400 table.before (pos 0)
-  pub after : All (λ (o : Onset). IsNear 86400 o.offset (pos 0)) table.onsets
+-- each offset of a zone is below so many seconds in size
+pub record HasOffsetsBelow (n : ℕ) (table : ZoneTable) : Type 0 where
+  pub before : IsNear n table.before (pos 0)
+  pub after : All (λ (o : Onset). IsNear n o.offset (pos 0)) table.onsets
+
+-- below a day
+abbrev pub HasShortOffsets : ZoneTable → Type 0
+HasShortOffsets = HasOffsetsBelow 86400
 
 abbrev pub end_is_date : PeriodEnd → Bool
 end_is_date (At e) = is_date e

@@ -20,8 +20,9 @@ use Rattle.cal_model.specs.Replies.BareReplies.{bare_reply}
 use Rattle.cal_model.specs.Replies.ReplyForms.{tagged_reply}
 use Rattle.cal_model.specs.Refusals.RefusalReplies.{when, refusal_reply, need_privileges}
 use Rattle.cal_model.specs.Sight.Scenes.{Scene, held_in, object_in}
+use Rattle.cal_model.specs.State.ServerState.{group_number}
 
--- 404 (RFC 9110, 15.5.5): an unknown user, a hidden home, a hidden or absent calendar
+-- 404 (RFC 9110, 15.5.5): a principal that is neither a user nor a group, an unknown user, a hidden home, a hidden or absent calendar
 
 -- these two may name a calendar that isn't there
 abbrev pub makes_or_asks : Method → Bool
@@ -34,7 +35,7 @@ is_calendar_missing method scene = is_none scene.home || (is_none scene.calendar
 
 abbrev pub is_missing : Method → Scene → Path → Bool
 is_missing method scene Root = false
-is_missing method scene (Principal user) = is_none scene.user
+is_missing method scene (Principal name) = is_none scene.user && is_none (group_number scene.directory name)
 is_missing method scene (Home user) = is_none scene.home
 is_missing method scene (Calendar user calendar) = is_calendar_missing method scene
 is_missing method scene (Object user calendar object) = is_calendar_missing method scene

@@ -21,7 +21,7 @@ use Rattle.cal_model.specs.Bodies.PropertyBodies.{find_content, find_all, patch_
 use Rattle.cal_model.specs.Bodies.Refusals.{bad_request, unsupported_media, dav_refusal}
 use Rattle.cal_model.specs.Bodies.ReportBodies.{report_content}
 use Rattle.cal_model.specs.Paths.TargetPaths.{target_path}
-use Rattle.cal_model.specs.Users.UsersFile.{User}
+use Rattle.cal_model.specs.Users.UsersFile.{Users}
 use Rattle.cal_model.specs.Requests.Methods.{method_of, has_method}
 use Rattle.cal_model.specs.Replies.BareReplies.{bare_reply}
 
@@ -49,7 +49,7 @@ abbrev pub is_deep : WireRequest → Bool
 is_deep wire = elim wire.depth [ None ↦ false | Some depth ↦ bytes_eq depth (codes "1") ]
 
 -- by the method
-abbrev pub body_content : List User → WireRequest → Method → Content
+abbrev pub body_content : Users → WireRequest → Method → Content
 body_content users wire Options = NoContent
 body_content users wire Get = NoContent
 body_content users wire Head = NoContent
@@ -95,7 +95,7 @@ with_depth wire Propfind content = unless_bad content (depth_refusal wire.depth 
 with_depth wire _ content = content
 
 -- The content, or the first refusal: the coding, the media type, the body, the two fields of tags, Depth.
-unfoldable pub content_of : List User → WireRequest → Method → Content
+unfoldable pub content_of : Users → WireRequest → Method → Content
 content_of users wire method =
     if is_plain_coding wire.coding then with_depth wire method (with_tags wire (body_content users wire method)) else Bad unsupported_media
 
@@ -110,7 +110,7 @@ pub data Asked : Type 0 where
 abbrev pub not_allowed : Path → Reply
 not_allowed path = record (bare_reply 405) { allow = Some path }
 
-abbrev pub request_at : List User → WireRequest → Method → Path → Request
+abbrev pub request_at : Users → WireRequest → Method → Path → Request
 request_at users wire method path = record {
   method = method;
   path = path;
@@ -121,16 +121,16 @@ request_at users wire method path = record {
 }
 
 -- a request of a user, with a method: 405 and 404 by the path's shape
-abbrev pub asked_by : List User → WireRequest → ℕ → Method → Asked
+abbrev pub asked_by : Users → WireRequest → ℕ → Method → Asked
 asked_by users wire user method = elim (target_path wire.target) [
   | None ↦ refused (bare_reply 404)
   | Some path ↦ if has_method path method then asked user (request_at users wire method path) else refused (not_allowed path)
 ]
 
 -- 501 for another method
-abbrev pub asked_with : List User → WireRequest → ℕ → Asked
+abbrev pub asked_with : Users → WireRequest → ℕ → Asked
 asked_with users wire user = elim (method_of wire.method) [ None ↦ refused (bare_reply 501) | Some method ↦ asked_by users wire user method ]
 
 -- What a wire request asks for, and who asks: 401 where nobody does.
-unfoldable pub asked_of : List User → WireRequest → Asked
+unfoldable pub asked_of : Users → WireRequest → Asked
 asked_of users wire = elim (authenticated users wire.authorization) [ None ↦ refused (bare_reply 401) | Some user ↦ asked_with users wire user ]

@@ -19,13 +19,13 @@ use Rattle.cal_model.specs.Requests.AskedRequests.{asked, asked_of}
 use Rattle.cal_model.specs.Requests.Methods.{has_method}
 use Rattle.cal_model.specs.Bodies.Refusals.{bad_request, unsupported_media, dav_refusal, caldav_refusal}
 use Rattle.cal_model.specs.Paths.TargetPaths.{is_path}
-use Rattle.cal_model.specs.Users.UsersFile.{User}
+use Rattle.cal_model.specs.Users.UsersFile.{Users}
 use Rattle.cal_model.specs.Streams.WireLimits.{body_limit}
 use Rattle.cal_model.specs.Bodies.SoundReports.{report_is_sound}
 use Rattle.cal_model.specs.Bodies.ContentSizes.{octets_in, values_size, names_asked, ContentFits}
 
--- Grants: to users of these, and sets of the nine privileges
-abbrev pub GrantsAmong : List User → Content → Type 0
+-- Grants: to users and groups of these, and sets of the nine privileges
+abbrev pub GrantsAmong : Users → Content → Type 0
 GrantsAmong users (Acl grants) = All (IsGrantAmong users) grants
 GrantsAmong users _ = Unit {0}
 
@@ -99,8 +99,8 @@ Suits method (Report report) = (method ≡ ReportMethod) × IsTrue (report_is_so
 Suits method (Bad refusal) = Contains (refusals_of method) refusal
 
 -- The conditions of `Book::request` on a request and on who asks, the moment aside.
-pub record IsBookable (users : List User) (who : ℕ) (request : Request) : Type 0 where
-  pub user : who < length users
+pub record IsBookable (users : Users) (who : ℕ) (request : Request) : Type 0 where
+  pub user : who < length users.people
   pub grants : GrantsAmong users request.content
   pub size : SizeIsTold request.size request.content
   pub zone : ZoneIsShort request.content
@@ -112,11 +112,11 @@ pub record IsBookable (users : List User) (who : ℕ) (request : Request) : Type
 -- What a wire request asks for can be booked.
 abbrev pub RequestsAreBookable : Type 0
 RequestsAreBookable =
-    (users : List User) (wire : WireRequest) (who : ℕ) (request : Request) → length wire.body ≤ body_limit →
+    (users : Users) (wire : WireRequest) (who : ℕ) (request : Request) → length wire.body ≤ body_limit →
     asked_of users wire ≡ asked who request → IsBookable users who request
 
 -- Its size is the length of the body, and its content lists no more than that.
 abbrev pub RequestsFit : Type 0
 RequestsFit =
-    (users : List User) (wire : WireRequest) (who : ℕ) (request : Request) → asked_of users wire ≡ asked who request →
+    (users : Users) (wire : WireRequest) (who : ℕ) (request : Request) → asked_of users wire ≡ asked who request →
     (request.size ≡ length wire.body) × ContentFits request.size request.content

@@ -24,12 +24,12 @@ use Rattle.cal_model.specs.Ranges.RowRanges.{row_in_range}
 use Rattle.cal_model.specs.Instances.Rows.{Numbered, overrides, masters, ids_start, named_by, id_of_override, end_from, is_dated, row_of}
 use Rattle.cal_model.specs.Values.StampTexts.{period_with, utc_stamp}
 
--- limit-recurrence-set: the master, and each override that itself or by its original instance overlaps the range
+-- limit-recurrence-set: the master, and each override of which its own row, one that it governs, or its original instance overlaps the range
 
 abbrev pub rows_of_override : List Row → Numbered → List Row
 rows_of_override rows n = filter (λ (row : Row). row.component == n.number) rows
 
--- The id of an override: that of its own dated row, which is the first of its rows; else its RECURRENCE-ID beside the start of the ids, where a local day is its midnight.
+-- The id of an override: that of its own dated row, which stands before those that it governs; else its RECURRENCE-ID beside the start of the ids, where a local day is its midnight.
 abbrev pub dated_ids : List Row → Numbered → List ℤ
 dated_ids rows n = map (λ (row : Row). row.id) (filter is_dated (rows_of_override rows n))
 

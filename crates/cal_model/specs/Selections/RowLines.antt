@@ -25,9 +25,9 @@ is_date_kind other = false
 
 -- A line with a new value
 
--- the parameters that go from each line with a new value; with RANGE=THISANDFUTURE also RANGE goes
+-- the parameters that go from each line with a new value
 abbrev pub dropped_names : List (List ℕ)
-dropped_names = codes "TZID" ∷ []
+dropped_names = codes "TZID" ∷ codes "RANGE" ∷ []
 
 -- the first value of a parameter is this word, without ASCII case
 abbrev pub param_says : List ℕ → Param → Bool

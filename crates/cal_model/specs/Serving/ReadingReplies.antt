@@ -1,6 +1,6 @@
 -- The replies to requests that only read (RFC 9110, 9.3.1, 9.3.2 and 9.3.7; RFC 4918, 9.1; RFC 3253, 3.6).
 -- Given: what the caller sees of the request's path, the moment, and the request. Each reply is a function of these, and of nothing else; the state is no argument.
-use Rattle.std.specs.Prelude.{ℕ, Bool, true, false, ◌&&◌, nat_lt, if◌then◌else◌, List, [], ◌∷◌, ◌++◌, length, map, flat_map, option_to_list, Option, Some, None, option_and_then, unwrap_or, ℤ, codes}
+use Rattle.std.specs.Prelude.{ℕ, Bool, true, false, ◌&&◌, nat_lt, if◌then◌else◌, List, [], ◌∷◌, ◌++◌, length, map, flat_map, option_to_list, is_some, Option, Some, None, option_and_then, unwrap_or, ℤ, codes}
 use Rattle.cal_base.specs.Lists.NameMap.{Named}
 use Rattle.cal_model.specs.declared.path.Path.{Path}
 use Rattle.cal_model.specs.declared.path.Path.TheVariants as path
@@ -16,11 +16,12 @@ use Rattle.cal_model.specs.declared.request.Method.TheVariants.{Options, Get, He
 use Rattle.cal_model.specs.declared.request.Request.{Request}
 use Rattle.cal_model.specs.Objects.ObjectReading.{first_there}
 use Rattle.cal_model.specs.Sight.Views.{Contents, Sight}
+use Rattle.cal_model.specs.State.ServerState.{group_number}
 use Rattle.cal_model.specs.Replies.BareReplies.{bare_reply}
 use Rattle.cal_model.specs.Replies.ReplyForms.{no_request, tagged_reply, options_reply}
 use Rattle.cal_model.specs.Refusals.RefusalReplies.{refusal_reply, when, refuse}
 use Rattle.cal_model.specs.Bodies.Refusals.{dav_refusal}
-use Rattle.cal_model.specs.Sight.Resources.{Resource, root, principal, home, calendar, object, Asker}
+use Rattle.cal_model.specs.Sight.Resources.{Resource, root, principal, group, home, calendar, object, Asker}
 use Rattle.cal_model.specs.Properties.PropertyReplies.{resource_response, multistatus_reply}
 use Rattle.cal_model.specs.Serving.ReportReplies.{Reported, zone_of_report, query_reply, multiget_reply, free_busy_reply}
 use Rattle.cal_model.specs.Refusals.ReportRefusals.{report_faults}
@@ -38,7 +39,7 @@ get_reply scene = elim scene.object [
 -- the resource at a path
 abbrev pub resources_at : Scene → Path → List Resource
 resources_at scene path.Root = root ∷ []
-resources_at scene (path.Principal user) = principal user ∷ []
+resources_at scene (path.Principal name) = (if is_some (group_number scene.directory name) then group name else principal name) ∷ []
 resources_at scene (path.Home user) = home user ∷ []
 resources_at scene (path.Calendar user name) = map (calendar user name) (option_to_list scene.calendar)
 resources_at scene (path.Object user within name) =

@@ -7,10 +7,11 @@ use Rattle.cal_model.specs.Access.Privileges.{all}
 use Rattle.cal_model.specs.State.ServerState.{Directory}
 use Rattle.cal_model.specs.Sight.Views.{Sight}
 
--- a resource as the caller sees it
+-- a resource as the caller sees it; the principals are those of users and of groups
 pub data Resource : Type 0 where
   root : Resource
   principal : (user : List ℕ) → Resource
+  group : (name : List ℕ) → Resource
   home : (owner : List ℕ) → Resource
   calendar : (owner name : List ℕ) (sight : Sight) → Resource
   object : (owner calendar name : List ℕ) (sight : Sight) (octets : List ℕ) → Resource
@@ -18,6 +19,7 @@ pub data Resource : Type 0 where
 abbrev pub path_of_resource : Resource → Path
 path_of_resource root = Root
 path_of_resource (principal user) = Principal user
+path_of_resource (group name) = Principal name
 path_of_resource (home owner) = Home owner
 path_of_resource (calendar owner name sight) = Calendar owner name
 path_of_resource (object owner within name sight octets) = Object owner within name
@@ -32,9 +34,16 @@ held_of other = all
 abbrev pub any_resource : Resource → Bool
 any_resource resource = true
 
+abbrev pub is_user : Resource → Bool
+is_user (principal user) = true
+is_user other = false
+
+abbrev pub is_group : Resource → Bool
+is_group (group name) = true
+is_group other = false
+
 abbrev pub is_principal : Resource → Bool
-is_principal (principal user) = true
-is_principal other = false
+is_principal resource = is_user resource || is_group resource
 
 abbrev pub is_calendar : Resource → Bool
 is_calendar (calendar owner name sight) = true
@@ -51,6 +60,7 @@ is_named resource = is_principal resource || is_calendar resource
 abbrev pub is_owned : Resource → Bool
 is_owned root = false
 is_owned (principal user) = false
+is_owned (group name) = false
 is_owned other = true
 
 -- who asks, and what a report shows of an object's octets

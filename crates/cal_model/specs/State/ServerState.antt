@@ -1,7 +1,8 @@
 -- What the server holds: homes, their calendars, and in these the octets of calendar objects (RFC 4791, 4.2 and 5.2).
--- Given: the users. Gives: what a state has, the state at the start, and look-ups in it. What can be computed from a state stands nowhere in it: objects are read from their octets,
+-- Given: the users and the groups. Gives: what a state has, the state at the start, and look-ups in it. What can be computed from a state stands nowhere in it: objects are read from their octets,
 -- a calendar's zone from its property, entity tags from octets. It holds no index, nothing of connections, and no time.
-use Rattle.std.specs.Prelude.{ℕ, ◌+◌, List, [], ◌∷◌, map, flat_map, position, bytes_eq, slice_get, slice_set, codes, Option, Some, None, option_and_then, option_to_list, unwrap_or}
+use Rattle.std.specs.Prelude.{ℕ, ◌+◌, Bool, ◌==◌, List, [], ◌∷◌, map, filter, flat_map, position, bytes_eq, slice_get, slice_set, codes, Option, Some, None, option_map, option_and_then, option_to_list, unwrap_or}
+use Rattle.std.specs.List.{list_any, enumerate_from}
 use Rattle.std.specs.Result.{result_ok}
 use Rattle.cal_base.specs.Lists.NameMap.{Named, value_at, with_value}
 use Rattle.cal_model.specs.declared.object.Object.{Object}
@@ -12,18 +13,23 @@ use Rattle.cal_model.specs.Words.Limits.{change_cost}
 use Rattle.cal_model.specs.Words.Namespaces.{dav, caldav}
 use Rattle.cal_model.specs.Objects.ObjectReading.{read_object, read_zone}
 use Rattle.cal_model.specs.State.PropertyTexts.{Texts, text_at}
-use Rattle.cal_model.specs.Users.UsersFile.{User}
+use Rattle.cal_model.specs.Users.UsersFile.{User, Group, Users}
 
--- Who may use the server: the users' names, in the order of their numbers from 0.
+-- Who may use the server: the users' names, in the order of their numbers from 0, and the groups in the order of theirs.
 pub record Directory : Type 0 where
   pub names : List (List ℕ)
+  pub groups : List Group
 
-abbrev pub directory_of : List User → Directory
-directory_of users = record { names = map (λ (user : User). user.name) users }
+abbrev pub directory_of : Users → Directory
+directory_of users = record { names = map (λ (user : User). user.name) users.people; groups = users.groups }
 
--- the groups that a user is in, by their numbers (RFC 3744, 2); so far there are none
+-- a user is in a group (RFC 3744, 2)
+abbrev pub has_member : ℕ → Group → Bool
+has_member user group = list_any (λ member. member == user) group.members
+
+-- the groups that a user is in, by their numbers
 abbrev pub groups_of : Directory → ℕ → List ℕ
-groups_of directory user = []
+groups_of directory user = map (λ (group : ℕ × Group). group.0) (filter (λ (group : ℕ × Group). has_member user group.1) (enumerate_from 0 directory.groups))
 
 -- a calendar
 pub record Calendar : Type 0 where
@@ -77,6 +83,16 @@ user_number directory name = position (bytes_eq name) directory.names
 
 abbrev pub user_name : Directory → ℕ → List ℕ
 user_name directory user = unwrap_or (slice_get directory.names user) []
+
+-- the same of a group
+abbrev pub group_number : Directory → List ℕ → Option ℕ
+group_number directory name = position (λ (group : Group). bytes_eq name group.name) directory.groups
+
+abbrev pub group_name : Directory → ℕ → List ℕ
+group_name directory group = unwrap_or (option_map (λ (found : Group). found.name) (slice_get directory.groups group)) []
+
+abbrev pub is_member : Directory → ℕ → ℕ → Bool
+is_member directory group user = list_any (has_member user) (option_to_list (slice_get directory.groups group))
 
 -- the object that stored octets are; each that is stored is one
 abbrev pub object_of : List ℕ → Option Object

@@ -8,16 +8,17 @@ use Rattle.std.specs.Map.{keys_of, values_of}
 use Rattle.cal_base.specs.Lists.NameMap.{Named, IsInOrder}
 use Rattle.cal_model.specs.declared.privilege.Grant.{Grant}
 use Rattle.cal_model.specs.declared.privilege.Who.{Who}
-use Rattle.cal_model.specs.declared.privilege.Who.TheVariants.{Principal}
+use Rattle.cal_model.specs.declared.privilege.Who.TheVariants.{Principal, Group}
 use Rattle.cal_model.specs.Paths.TargetPaths.{is_resource_name}
 use Rattle.cal_model.specs.State.PropertyTexts.{prop_order}
 use Rattle.cal_model.specs.State.ServerState.{Directory, Calendar, Home, ServerState}
 use Rattle.cal_model.specs.State.Changes.{Change, put, make, acl}
 use Rattle.cal_model.specs.Refusals.Preconditions.{IsServable}
 
--- a grant names a user that there is; groups are one row more here
+-- a grant names a user or a group that there is
 abbrev pub IsToUser : Directory → Who → Type 0
 IsToUser directory (Principal user) = user < length directory.names
+IsToUser directory (Group group) = group < length directory.groups
 IsToUser directory other = Unit {0}
 
 abbrev pub AreToUsers : Directory → List Grant → Type 0

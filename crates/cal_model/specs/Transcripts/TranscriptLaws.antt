@@ -3,10 +3,10 @@
 use Rattle.std.specs.Prelude.{◌≡◌, ℕ, List, [], ◌∷◌, ◌++◌}
 use Rattle.cal_model.specs.Transcripts.ScriptFrames.{Frame}
 use Rattle.cal_model.specs.Transcripts.Transcript.{Standing, Turn, Follows}
-use Rattle.cal_model.specs.Users.UsersFile.{User}
+use Rattle.cal_model.specs.Users.UsersFile.{Users}
 
 -- the output follows from the frames, and leaves the script there
-abbrev pub Leads : List User → Standing → List Frame → List ℕ → Standing → Type 0
+abbrev pub Leads : Users → Standing → List Frame → List ℕ → Standing → Type 0
 Leads users standing [] output after = (output ≡ []) × (after ≡ standing)
 Leads users standing (frame ∷ frames) output after =
     (printed : List ℕ) × (rest : List ℕ) × (next : Standing)
@@ -14,6 +14,6 @@ Leads users standing (frame ∷ frames) output after =
 
 -- it follows then, and one more frame goes on from where the script stands
 pub record ScriptsGoOn : Type 0 where
-  pub follows : (users : List User) (standing after : Standing) (frames : List Frame) (output : List ℕ) → Leads users standing frames output after → Follows users standing frames output
-  pub one_more : (users : List User) (standing after next : Standing) (frames : List Frame) (frame : Frame) (output printed : List ℕ)
+  pub follows : (users : Users) (standing after : Standing) (frames : List Frame) (output : List ℕ) → Leads users standing frames output after → Follows users standing frames output
+  pub one_more : (users : Users) (standing after next : Standing) (frames : List Frame) (frame : Frame) (output printed : List ℕ)
       → Leads users standing frames output after → Turn users after frame printed next → Leads users standing (frames ++ frame ∷ []) (output ++ printed) next

@@ -8,7 +8,7 @@ use Rattle.hex.specs.Hex.{encode_lower}
 use Rattle.sha2.specs.Sha256.{sha256}
 use Rattle.cal_base.specs.Texts.Octets.{space, colon}
 use Rattle.cal_model.specs.Words.Cuts.{cut_at}
-use Rattle.cal_model.specs.Users.UsersFile.{User, number_of}
+use Rattle.cal_model.specs.Users.UsersFile.{User, Users, number_of}
 
 abbrev pub without_spaces : List ℕ → List ℕ
 without_spaces [] = []
@@ -40,16 +40,16 @@ abbrev pub has_digest : List ℕ → List ℕ → Bool
 has_digest password digest = bytes_eq (encode_lower (sha256 password)) digest
 
 -- the number of the user whose name and password these are
-abbrev pub admitted_as : List User → List ℕ → User → ℕ → Option ℕ
+abbrev pub admitted_as : Users → List ℕ → User → ℕ → Option ℕ
 admitted_as users password user number = if has_digest password user.digest then Some number else None
 
-abbrev pub admitted_by : List User → List ℕ → ℕ → Option ℕ
-admitted_by users password number = option_and_then (λ user. admitted_as users password user number) (slice_get users number)
+abbrev pub admitted_by : Users → List ℕ → ℕ → Option ℕ
+admitted_by users password number = option_and_then (λ user. admitted_as users password user number) (slice_get users.people number)
 
-abbrev pub user_of_credentials : List User → Credentials → Option ℕ
+abbrev pub user_of_credentials : Users → Credentials → Option ℕ
 user_of_credentials users credentials = option_and_then (admitted_by users credentials.password) (number_of users credentials.name)
 
 -- the number of the user that a request without or with such a value is of
-unfoldable pub authenticated : List User → Option (List ℕ) → Option ℕ
+unfoldable pub authenticated : Users → Option (List ℕ) → Option ℕ
 authenticated users None = None
 authenticated users (Some value) = option_and_then (user_of_credentials users) (spelled_credentials value)
