@@ -12,5 +12,6 @@ pub mod ShortLengths
 pub mod AlarmBounds
 pub mod TimedPeriods
 pub mod ZoneParts
+pub mod SettledObjects
 pub mod ObjectFactLaws
 pub mod ObjectNearness

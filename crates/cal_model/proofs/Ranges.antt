@@ -6,3 +6,4 @@ pub mod NearRanges
 pub mod WindowLaws
 pub mod WindowStretches
 pub mod CostLaws
+pub mod MovedWindows

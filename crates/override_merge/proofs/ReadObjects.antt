@@ -4,7 +4,7 @@ use Rattle.std.specs.Prelude.{All, filter_map, flat_map, option_to_list, Option,
 use Rattle.std.specs.List.{AllByRecursion as Each}
 use Rattle.std.specs.Prelude.{codes}
 use Rattle.std.proofs.lemmas.Int.{ints}
-use Rattle.std.proofs.lemmas.List.Elements.{All-weaker, All-from_recursion, All-head, All-tail, All-nil, All-cons}
+use Rattle.std.proofs.lemmas.List.Elements.{All-weaker, All-map, All-from_recursion, All-head, All-tail, All-nil, All-cons}
 use Rattle.cal_base.specs.Lines.ContentLines.{placed_lines}
 use Rattle.cal_base.specs.declared.line.Line.{Line}
 use Rattle.cal_moment.specs.Texts.{signed}
@@ -25,6 +25,8 @@ use Rattle.cal_model.specs.TimeZones.TableBounds.{IsTable}
 use Rattle.cal_model.specs.Objects.ComponentLines.{lines_of, one_of}
 use Rattle.cal_model.specs.Objects.ZoneReading.{zone_names, zones_of}
 use Rattle.cal_model.specs.Objects.ObjectFaults.{Child, children_in, kinds_among, component_of_child, stamps_of_period}
+use Rattle.cal_model.specs.Instances.Rows.{ids_start}
+use Rattle.cal_model.specs.Objects.ObjectReading.{object_in, settled_component}
 use Rattle.cal_model.specs.Objects.ObjectFacts.{IsRead, IsReadComponent, IsZone, IsKnown, IsServed, IsShort, lengths_of_extent, stamps_of_extent, component_stamps}
 use Rattle.cal_model.proofs.Objects.ComponentStamps.{is_made}
 use Rattle.cal_model.proofs.Objects.ObjectFactLaws.{IsReadObject-read}
@@ -69,16 +71,23 @@ extent_one_signed names child component made =
     (extent_lengths IsOneSigned names source.kind (lines_of child.tree)
     (λ length is. let found = and_then_value (λ (line : Line). length_of line.value) (one_of (codes "DURATION") (lines_of child.tree)) length is in one_signed found.0.value length found.2))
 
+abbrev HasOneSigned : Component → Type 0
+HasOneSigned c = Each IsOneSigned (lengths_of_extent c.extent)
+
 lengths_one_signed : (object : Object) → IsRead object → All (λ (c : Component). Each IsOneSigned (lengths_of_extent c.extent)) object.components
 lengths_one_signed object read =
     let found = read_from every_moment read.octets object read.reading in
-    let P : Object → Type 0 = λ o. All (λ (c : Component). Each IsOneSigned (lengths_of_extent c.extent)) o.components in
-    subst P (sym found.1.is) (of_children (zones_of every_moment found.0) (kinds_among (children_in (placed_lines read.octets) found.0)))
+    let said = object_in every_moment (placed_lines read.octets) found.0 in
+    let P : Object → Type 0 = λ o. All HasOneSigned o.components in
+    subst P (sym found.1.is)
+    (All-map HasOneSigned (settled_component (ids_start said)) said.components
+    (All-weaker HasOneSigned (λ c. HasOneSigned (settled_component (ids_start said) c)) (λ c has. has) said.components
+    (of_children (zones_of every_moment found.0) (kinds_among (children_in (placed_lines read.octets) found.0)))))
   where
-    of_children : (zones : List ZoneTable) (children : List Child) → All (λ (c : Component). Each IsOneSigned (lengths_of_extent c.extent)) (filter_map (component_of_child (zone_names zones)) children)
+    of_children : (zones : List ZoneTable) (children : List Child) → All HasOneSigned (filter_map (component_of_child (zone_names zones)) children)
     of_children zones children =
-        All-from_recursion (λ (c : Component). Each IsOneSigned (lengths_of_extent c.extent)) (filter_map (component_of_child (zone_names zones)) children)
-        (each-filter_map (λ (child : Child). Unit {0}) (λ (c : Component). Each IsOneSigned (lengths_of_extent c.extent)) (component_of_child (zone_names zones)) (λ child component any made. extent_one_signed (zone_names zones) child component made) children (all_untested children))
+        All-from_recursion HasOneSigned (filter_map (component_of_child (zone_names zones)) children)
+        (each-filter_map (λ (child : Child). Unit {0}) HasOneSigned (component_of_child (zone_names zones)) (λ child component any made. extent_one_signed (zone_names zones) child component made) children (all_untested children))
 
 -- Stamps.
 

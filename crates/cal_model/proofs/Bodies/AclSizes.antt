@@ -14,7 +14,7 @@ use Rattle.cal_model.specs.Words.Namespaces.{dav}
 use Rattle.cal_model.specs.Bodies.AclBodies.{grant_limit, Meant, someone, nobody, other_form, is_form, meant_by, meant, who_of, lacks_part, is_kept, aces, ace_rows, ace_refusals, grants_of, bits_of, acl_by, acl_content}
 use Rattle.cal_model.specs.Bodies.ElementParts.{children, has_name, named, first_named}
 use Rattle.cal_model.specs.Bodies.Refusals.{bad_request, Row, first_row}
-use Rattle.cal_model.specs.Users.UsersFile.{User}
+use Rattle.cal_model.specs.Users.UsersFile.{Users}
 use Rattle.cal_model.specs.Bodies.ContentSizes.{ContentFits, AclsFit}
 use Rattle.cal_model.proofs.Bodies.ElementSizes.{filter_sizes, named_sizes}
 use Rattle.cal_model.proofs.Bodies.BodySizes.{count_sizes}
@@ -29,7 +29,7 @@ first_few : {X : Type 0} (xs : List X) → length (take 1 xs) ≤ 1
 first_few [] = omega arith
 first_few (x ∷ xs) = omega arith
 
-one_grant : (users : List User) (ace : Element) → length (grants_of users ace) ≤ 1
+one_grant : (users : Users) (ace : Element) → length (grants_of users ace) ≤ 1
 one_grant users ace =
     let grant : Who → Grant = λ who. record { who = who; held = record { 0 = bits_of ace } } in
     omega (
@@ -40,7 +40,7 @@ one_grant users ace =
       first_few (named dav (codes "principal") ace),
     )
 
-few_grants : (users : List User) (kept : List Element) → length (flat_map (grants_of users) kept) ≤ length kept
+few_grants : (users : Users) (kept : List Element) → length (flat_map (grants_of users) kept) ≤ length kept
 few_grants users [] = omega arith
 few_grants users (ace ∷ kept) = omega (arith, length-append (grants_of users ace) (flat_map (grants_of users) kept), one_grant users ace, few_grants users kept)
 
@@ -62,21 +62,21 @@ none_listed : {X : Type 0} (found : Option X) (rest : List X) → option_to_list
 none_listed None rest e = (refl, e)
 none_listed (Some x) rest e = absurd cc
 
-still_room : (users : List User) (before : ℕ) (ace : Element) → first_row (ace_rows users before ace) ≡ None → before < 64
+still_room : (users : Users) (before : ℕ) (ace : Element) → first_row (ace_rows users before ace) ≡ None → before < 64
 still_room users before ace e =
     leb-false 64 before (none_holds (ace_rows users before ace) e).1.1.1.1.1.0
 
-few_aces : (users : List User) (before : ℕ) (kept : List Element) → before ≤ 64 →
+few_aces : (users : Users) (before : ℕ) (kept : List Element) → before ≤ 64 →
     flat_map (λ (ace : ℕ × Element). option_to_list (first_row (ace_rows users ace.0 ace.1))) (enumerate_from before kept) ≡ [] → before + length kept ≤ 64
 few_aces users before [] h e = omega arith
 few_aces users before (ace ∷ kept) h e =
     let both = none_listed (first_row (ace_rows users before ace)) _ e in
     omega (arith, few_aces users (before + 1) kept (omega (arith, still_room users before ace both.0)) both.1)
 
-pub grants_are_few : (users : List User) (root : Element) → ace_refusals users (aces root) ≡ [] → length (flat_map (grants_of users) (aces root)) ≤ grant_limit
+pub grants_are_few : (users : Users) (root : Element) → ace_refusals users (aces root) ≡ [] → length (flat_map (grants_of users) (aces root)) ≤ grant_limit
 grants_are_few users root e = omega (arith, few_grants users (aces root), few_aces users 0 (aces root) (omega arith) e)
 
-grants_fit : (users : List User) (root : Element) → 4 * length (flat_map (grants_of users) (aces root)) ≤ element_size root
+grants_fit : (users : Users) (root : Element) → 4 * length (flat_map (grants_of users) (aces root)) ≤ element_size root
 grants_fit users root =
     omega (arith, few_grants users (aces root), count_sizes (aces root), filter_sizes is_kept (named dav (codes "ace") root), named_sizes dav (codes "ace") root)
 

@@ -1,6 +1,6 @@
--- What an ACL body grants is granted to the server's users, and is a set of the nine privileges.
+-- What an ACL body grants is granted to the server's users and groups, and is a set of the nine privileges.
 use Rattle.std.proofs.Common.{◌≡◌, ℕ, ◌<◌, ◌^◌, Bool, true, false, cond, ◌||◌, List, [], ◌∷◌, ◌++◌, map, length, Option, Some, None, All, refl, sym, ap, subst, arith, ⊎_elim}
-use Rattle.std.specs.Prelude.{filter, fold, flat_map, bit_or, bytes_eq, option_and_then, codes, not}
+use Rattle.std.specs.Prelude.{filter, fold, flat_map, bit_or, bytes_eq, option_map, option_and_then, unwrap_or, codes, not}
 use Rattle.std.specs.List.{filter_map, cons_option, list_any}
 use Rattle.std.proofs.lemmas.Bool.{false≢true}
 use Rattle.std.proofs.lemmas.List.{map-append}
@@ -9,12 +9,14 @@ use Rattle.std.proofs.lemmas.List.Elements.{All-nil, All-cons, All-append}
 use Rattle.std.proofs.lemmas.List.Quantifiers.{position-Some}
 use Rattle.std.proofs.lemmas.Nat.{or_lt}
 use Rattle.cal_base.specs.declared.element.Element.{Element}
+use Rattle.cal_base.specs.Lines.ComponentTrees.{or_else}
 use Rattle.cal_model.specs.Words.Lists.{is_empty}
 use Rattle.cal_model.specs.Access.Privileges.{privileges, aggregates, united, same_name, sets_named, set_named}
 use Rattle.cal_model.specs.declared.path.Path.{Path}
 use Rattle.cal_model.specs.declared.path.Path.TheVariants.{Root, Principal as PrincipalPath, Home, Calendar, Object}
 use Rattle.cal_model.specs.declared.privilege.Grant.{Grant}
-use Rattle.cal_model.specs.declared.privilege.Who.TheVariants.{Everyone, Owner, Principal}
+use Rattle.cal_model.specs.declared.privilege.Who.{Who}
+use Rattle.cal_model.specs.declared.privilege.Who.TheVariants.{Everyone, Owner, Principal, Group}
 use Rattle.cal_model.specs.declared.property.PropName.{PropName}
 use Rattle.cal_model.specs.declared.reply.Refusal.{Refusal}
 use Rattle.cal_model.specs.declared.request.Content.{Content}
@@ -26,7 +28,7 @@ use Rattle.cal_model.specs.Bodies.Refusals.{bad_request}
 use Rattle.cal_model.specs.Bodies.AskedProperties.{property_name}
 use Rattle.cal_model.specs.Paths.TargetPaths.{target_path}
 use Rattle.cal_model.specs.Bodies.AclLaws.{IsAmong, IsGrantAmong, GrantsAreAmong}
-use Rattle.cal_model.specs.Users.UsersFile.{User}
+use Rattle.cal_model.specs.Users.UsersFile.{User, Group as GroupOf, Users, number_of, group_number_of}
 use Rattle.cal_model.proofs.Streams.StreamFronts.{bool_cases, none_some}
 
 -- Sets of privileges
@@ -79,30 +81,38 @@ bits_small : (ace : Element) → Small (bits_of ace)
 unfolding Small
 bits_small ace = union_small (filter_map (λ (set : Option ℕ). set) (granted_sets ace)) 0 (omega arith) (found_small property_name (flat_map children (granted_elements ace)))
 
--- Users
+-- Users and groups
 
-IsMeant : List User → Meant → Type 0
+IsMeant : Users → Meant → Type 0
 IsMeant users (someone who) = IsAmong users who
 IsMeant users nobody = Unit {0}
 IsMeant users other_form = Unit {0}
 
-principal_within : (users : List User) (o : Option Path) (number : ℕ) → option_and_then (principal_at users) o ≡ Some number → number < length users
-principal_within users None number e = none_some number e
-principal_within users (Some Root) number e = none_some number e
-principal_within users (Some (PrincipalPath name)) number e = (position-Some (λ (user : User). bytes_eq name user.name) users number (record { name = []; digest = [] }) e).0
-principal_within users (Some (Home user)) number e = none_some number e
-principal_within users (Some (Calendar user calendar)) number e = none_some number e
-principal_within users (Some (Object user calendar object)) number e = none_some number e
-
-named_among : (users : List User) (href : List ℕ) → IsMeant users (named_by users href)
-unfolding IsMeant
-named_among users href = by (option_and_then (principal_at users) (target_path href)) (λ n h. principal_within users (target_path href) n h)
+principal_among : (users : Users) (o : Option Path) (who : Who) → option_and_then (principal_at users) o ≡ Some who → IsAmong users who
+principal_among users None who e = none_some who e
+principal_among users (Some Root) who e = none_some who e
+principal_among users (Some (PrincipalPath name)) who e = by (number_of users name) refl (group_number_of users name) refl e
   where
-    by : (o : Option ℕ) → ((n : ℕ) → o ≡ Some n → n < length users) → IsMeant users (elim o [ None ↦ nobody | Some number ↦ someone (Principal number) ])
-    by None h = tt
-    by (Some n) h = h n refl
+    some_who : (a b : Who) → Some a ≡ Some b → a ≡ b
+    some_who a b same = ap (λ o. unwrap_or o a) same
 
-form_among : (users : List User) (form : Element) → IsMeant users (meant_by_form users form)
+    by : (user : Option ℕ) → number_of users name ≡ user → (group : Option ℕ) → group_number_of users name ≡ group → or_else (option_map Principal user) (option_map Group group) ≡ Some who → IsAmong users who
+    by (Some n) is group other same = subst (IsAmong users) (some_who (Principal n) who same) (position-Some (λ (user : User). bytes_eq name user.name) users.people n (record { name = []; digest = [] }) is).0
+    by None is (Some n) other same = subst (IsAmong users) (some_who (Group n) who same) (position-Some (λ (group : GroupOf). bytes_eq name group.name) users.groups n (record { name = []; members = [] }) other).0
+    by None is None other same = none_some who same
+principal_among users (Some (Home user)) who e = none_some who e
+principal_among users (Some (Calendar user calendar)) who e = none_some who e
+principal_among users (Some (Object user calendar object)) who e = none_some who e
+
+named_among : (users : Users) (href : List ℕ) → IsMeant users (named_by users href)
+unfolding IsMeant
+named_among users href = by (option_and_then (principal_at users) (target_path href)) (λ who h. principal_among users (target_path href) who h)
+  where
+    by : (o : Option Who) → ((who : Who) → o ≡ Some who → IsAmong users who) → IsMeant users (elim o [ None ↦ nobody | Some who ↦ someone who ])
+    by None h = tt
+    by (Some who) h = h who refl
+
+form_among : (users : Users) (form : Element) → IsMeant users (meant_by_form users form)
 unfolding IsMeant
 form_among users form =
     choose (has_name dav (codes "href") form) (named_by users (own_text form)) (cond (has_name dav (codes "property") form) (cond (holds (codes "owner") form) (someone Owner) other_form) (someone Everyone)) (named_among users (own_text form))
@@ -112,20 +122,20 @@ form_among users form =
     choose true x y h k = h
     choose false x y h k = k
 
-meant_among : (users : List User) (forms : List Element) → IsMeant users (meant_by users forms)
+meant_among : (users : Users) (forms : List Element) → IsMeant users (meant_by users forms)
 unfolding IsMeant
 meant_among users [] = tt
 meant_among users (form ∷ more) = form_among users form
 
 -- Grants
 
-one_grant : (users : List User) (m : Meant) (bits : ℕ) → IsMeant users m → Small bits → All (IsGrantAmong users) (map (λ who. record { who = who; held = record { 0 = bits } }) (who_of m))
+one_grant : (users : Users) (m : Meant) (bits : ℕ) → IsMeant users m → Small bits → All (IsGrantAmong users) (map (λ who. record { who = who; held = record { 0 = bits } }) (who_of m))
 unfolding IsMeant Small
 one_grant users (someone who) bits h k = All-cons (IsGrantAmong users) (record { who = who; held = record { 0 = bits } }) [] (h, omega (arith, k)) (All-nil (IsGrantAmong users))
 one_grant users nobody bits h k = All-nil (IsGrantAmong users)
 one_grant users other_form bits h k = All-nil (IsGrantAmong users)
 
-some_grants : (users : List User) (principals : List Element) (bits : ℕ) → Small bits → All (IsGrantAmong users) (map (λ who. record { who = who; held = record { 0 = bits } }) (flat_map who_of (map (λ principal. meant_by users (filter is_form (children principal))) principals)))
+some_grants : (users : Users) (principals : List Element) (bits : ℕ) → Small bits → All (IsGrantAmong users) (map (λ who. record { who = who; held = record { 0 = bits } }) (flat_map who_of (map (λ principal. meant_by users (filter is_form (children principal))) principals)))
 some_grants users [] bits k = All-nil (IsGrantAmong users)
 some_grants users (principal ∷ principals) bits k =
     let m = meant_by users (filter is_form (children principal)) in
@@ -134,7 +144,7 @@ some_grants users (principal ∷ principals) bits k =
     (All-append (IsGrantAmong users) (map (λ who. record { who = who; held = record { 0 = bits } }) (who_of m)) (map (λ who. record { who = who; held = record { 0 = bits } }) rest)
     (one_grant users m bits (meant_among users (filter is_form (children principal))) k) (some_grants users principals bits k))
 
-all_grants : (users : List User) (kept : List Element) → All (IsGrantAmong users) (flat_map (grants_of users) kept)
+all_grants : (users : Users) (kept : List Element) → All (IsGrantAmong users) (flat_map (grants_of users) kept)
 all_grants users [] = All-nil (IsGrantAmong users)
 all_grants users (ace ∷ kept) =
     All-append (IsGrantAmong users) (grants_of users ace) (flat_map (grants_of users) kept)

@@ -1,16 +1,16 @@
 -- A merge over a part of the instances gives the rows of a window, if the part has the instances of the window and those on the days that overrides name.
 use Rattle.std.proofs.Common.{◌≡◌, List, [], ◌∷◌, ◌++◌, refl, ap, sym, ◌∙◌, Bool, true, inl, inr, ℤ}
-use Rattle.std.specs.Prelude.{All, AllPairs, filter, map, flat_map, option_to_list, not, Option, None, Some}
+use Rattle.std.specs.Prelude.{All, AllPairs, filter, map, flat_map, not}
 use Rattle.std.proofs.lemmas.Bool.{cases_Bool}
-use Rattle.std.proofs.lemmas.List.Elements.{All-head, All-tail, filter-append}
+use Rattle.std.proofs.lemmas.List.Elements.{All-weaker, filter-append}
 use Rattle.cal_moment.specs.declared.stamp.Stamp.{Stamp}
 use Rattle.cal_model.specs.declared.object.Object.{Object}
 use Rattle.cal_model.specs.declared.row.Row.{Row}
 use Rattle.cal_model.specs.Words.Lists.{first_or_else}
-use Rattle.cal_model.specs.Instances.Alignment.{Aligned, at, on_day, reading_of, value_of, kind_of, names_start}
-use Rattle.cal_model.specs.Instances.Rows.{Numbered, overrides, named_by, is_named, id_of_override, override_row, override_row_from, own_start, end_from, row_of, in_order, merged, lies_in_window}
+use Rattle.cal_model.specs.Instances.Alignment.{Aligned, at, on_day, reading_of, names_start}
+use Rattle.cal_model.specs.Instances.Rows.{Numbered, overrides, named_by, is_named, id_of_override, override_row, in_order, merged, lies_in_window}
 use Rattle.cal_model.proofs.Instances.RisingLists.{HasOtherKey}
-use Rattle.cal_model.proofs.Instances.RowsInOrder.{filter-in_order}
+use Rattle.cal_model.proofs.Instances.RowsInOrder.{GiveSameId, same_own_rows, filter-in_order}
 
 -- each row on a named day is in the part
 abbrev pub HasDay : Object → Stamp → (Row → Bool) → Aligned → Type 0
@@ -36,29 +36,6 @@ same_id : (object : Object) (ids : Stamp) (q : Row → Bool) (rows : List Row) (
 same_id object ids q rows (at v) h = refl
 same_id object ids q rows (on_day m) h =
     ap (first_or_else ((reading_of object.zones ids).instant m)) (same_days (λ r. names_start (reading_of object.zones ids) r (on_day m)) q rows h)
-
-map_same : {X Y : Type 0} (f g : X → Y) (xs : List X) → All (λ x. f x ≡ g x) xs → map f xs ≡ map g xs
-map_same f g [] h = refl
-map_same f g (x ∷ xs) h =
-    ap (λ y. y ∷ map f xs) (All-head (λ x. f x ≡ g x) x xs h) ∙ ap (λ ys. g x ∷ ys) (map_same f g xs (All-tail (λ x. f x ≡ g x) x xs h))
-
-flat_map_same : {X Y : Type 0} (f g : X → List Y) (xs : List X) → All (λ x. f x ≡ g x) xs → flat_map f xs ≡ flat_map g xs
-flat_map_same f g [] h = refl
-flat_map_same f g (x ∷ xs) h =
-    ap (λ y. y ++ flat_map f xs) (All-head (λ x. f x ≡ g x) x xs h) ∙ ap (λ ys. g x ++ ys) (flat_map_same f g xs (All-tail (λ x. f x ≡ g x) x xs h))
-
-All-map : {X : Type 0} (P Q : X → Type 0) → ((x : X) → P x → Q x) → (xs : List X) → All P xs → All Q xs
-All-map P Q f xs h = λ k d lt. f _ (h k d lt)
-
-same_override : (object : Object) (ids : Stamp) (q : Row → Bool) (rows : List Row) (n : Numbered) → All (HasDay object ids q) (named_by object.zones ids n) → (own : Option Stamp) →
-    flat_map (λ s. override_row_from object ids (map (λ (r : Row). r.id) (filter q rows)) n s (value_of object.zones s)) (option_to_list own)
-    ≡ flat_map (λ s. override_row_from object ids (map (λ (r : Row). r.id) rows) n s (value_of object.zones s)) (option_to_list own)
-same_override object ids q rows n h None = refl
-same_override object ids q rows n h (Some s) =
-    let make : ℤ → Row = λ id. row_of id (value_of object.zones s) (end_from object.zones n.component (value_of object.zones s)) n.number (kind_of ids) (kind_of s) in
-    ap (λ ys. ys ++ [])
-    (map_same (λ x. make (id_of_override object ids (map (λ (r : Row). r.id) (filter q rows)) x)) (λ x. make (id_of_override object ids (map (λ (r : Row). r.id) rows) x)) (named_by object.zones ids n)
-    (All-map (HasDay object ids q) _ (λ x k. ap make (same_id object ids q rows x k)) (named_by object.zones ids n) h))
 
 within : {X : Type 0} (p n q : X → Bool) → ((x : X) → p x ≡ true → q x ≡ true) → (xs : List X) → filter p (filter n (filter q xs)) ≡ filter p (filter n xs)
 within p n q h [] = refl
@@ -91,8 +68,9 @@ pub merged-part : (object : Object) (ids : Stamp) (window : ℤ) (q : Row → Bo
     ≡ filter (lies_in_window object window) (merged object ids (map (λ (r : Row). r.id) rows) rows)
 merged-part object ids window q rows inside days apart apart_part =
     let own_same : flat_map (override_row object ids (map (λ (r : Row). r.id) (filter q rows))) (overrides object) ≡ flat_map (override_row object ids (map (λ (r : Row). r.id) rows)) (overrides object) =
-    flat_map_same (override_row object ids (map (λ (r : Row). r.id) (filter q rows))) (override_row object ids (map (λ (r : Row). r.id) rows)) (overrides object)
-    (All-map (λ n. All (HasDay object ids q) (named_by object.zones ids n)) _ (λ n h. same_override object ids q rows n h (own_start n.component)) (overrides object) days) in
+    same_own_rows object ids (map (λ (r : Row). r.id) (filter q rows)) (map (λ (r : Row). r.id) rows)
+    (All-weaker (λ n. All (HasDay object ids q) (named_by object.zones ids n)) (GiveSameId object ids (map (λ (r : Row). r.id) (filter q rows)) (map (λ (r : Row). r.id) rows))
+    (λ n h. All-weaker (HasDay object ids q) (λ x. id_of_override object ids (map (λ (r : Row). r.id) (filter q rows)) x ≡ id_of_override object ids (map (λ (r : Row). r.id) rows) x) (same_id object ids q rows) (named_by object.zones ids n) h) (overrides object) days) in
     let unnamed : Row → Bool = λ r. not (is_named object ids r.id) in
     filter-in_order (lies_in_window object window) (to_merge object ids (filter q rows)) apart_part
     ∙ ap in_order

@@ -1,6 +1,6 @@
 -- Each start and each dated row of an object that was read lies within three days of the stated dates, so between 1599 and 2102, and in a window of theirs.
 use Rattle.std.proofs.Common.{◌≡◌, ℕ, ◌+◌, ◌≤◌, List, [], ◌∷◌, ◌++◌, map, refl, sym, subst, arith, Bool, true, false, ℤ, pos, neg_ℤ, ◌+ℤ◌, ◌-ℤ◌, ◌≤ℤ◌, inl, inr, ap}
-use Rattle.std.specs.Prelude.{All, Contains, filter, flat_map, not, nat_le, slice_get, option_to_list, option_and_then, is_none, unwrap_or, if◌then◌else◌, Option, Some, None}
+use Rattle.std.specs.Prelude.{All, Contains, filter, flat_map, not, nat_le, int_le, slice_get, option_to_list, option_and_then, is_none, unwrap_or, if◌then◌else◌, Option, Some, None}
 use Rattle.std.specs.Int.{int_div_euclid}
 use Rattle.std.proofs.lemmas.Int.{ints}
 use Rattle.std.proofs.lemmas.Bool.{cases_Bool, leb-true}
@@ -27,11 +27,12 @@ use Rattle.cal_model.specs.Objects.ObjectFacts.{IsServed, IsReadComponent, IsRea
 use Rattle.cal_model.specs.Objects.ObjectFaults.{stamps_of_period, stamps_of_end}
 use Rattle.cal_model.specs.Instances.Alignment.{Aligned, reading_of, value_of, kind_of, written_value, written_moment, midnight_of}
 use Rattle.cal_model.specs.Instances.Starts.{own_start, own_start_of, recurs, is_excepted, rule_starts, date_start, period_starts, plain_starts, ascending, starts_from, starts_of, is_date, end_from, end_of_instance}
-use Rattle.cal_model.specs.Instances.Rows.{Numbered, numbered, has_id, masters, overrides, ids_start, id_of_override, named_by, is_named, row_of, undated_row, undated_rows, is_dated, starts, master_row, row_at, override_row, override_row_from, dated_rows, rows_by, rows_over, rows, nominal_beside, nominal_start, window_of, window_seconds}
+use Rattle.cal_model.specs.Instances.Rows.{Numbered, numbered, has_id, masters, overrides, ids_start, id_of_override, named_by, is_named, row_of, undated_row, undated_rows, is_dated, starts, master_row, Governor, moved_digits, are_served, moved_row, row_at, override_row, override_row_from, dated_rows, rows_by, rows_over, rows, nominal_beside, nominal_start, window_of, window_seconds}
 use Rattle.cal_model.specs.Ranges.Nearness.{IsNear, HasShortOffsets}
 use Rattle.cal_model.specs.Reports.NeededWindows.{is_stated_window}
 use Rattle.cal_model.proofs.Recurrence.RecurrenceSetLemmas.{uncounted, later_moments-after}
 use Rattle.cal_model.proofs.Instances.DayLaws.{midnight_of-holds}
+use Rattle.cal_model.proofs.Instances.GovernedRows.{row_at-holds, moved_to, moved_row-holds}
 use Rattle.cal_model.proofs.Words.AllLemmas.{All-everywhere, All-flat_map, All-each_part, All-left, All-right, All-option, All-slice_get}
 use Rattle.cal_model.proofs.Instances.EachRowLemmas.{All-in_order, All-numbered_from}
 use Rattle.cal_model.proofs.Instances.RisingLists.{All-ascending}
@@ -218,10 +219,29 @@ override_row-stated object ids all n short is =
         All-map StartsStated (row s) (named_by object.zones ids n)
         (All-everywhere (λ x. StartsStated (row s x)) (λ x dated. further 86400 172800 _ (omega arith) (value-stated object.zones s short (own-stated n is s own))) (named_by object.zones ids n))
 
-row_at-stated : (moments : List ℕ) (object : Object) (ids : Stamp) (all : List ℤ) (r : ℤ) → IsStatedBy 172800 r → All StartsStated (row_at moments object ids all r)
-row_at-stated moments object ids all r stated =
-    All-flat_map StartsStated (master_row moments object ids r) (masters object)
-    (All-everywhere (λ n. All StartsStated (master_row moments object ids r n)) of_master (masters object))
+-- the digits of a moved row lie within the stated dates
+moved-stated : (object : Object) (ids : Stamp) (r : ℤ) (g : Governor) → All HasShortOffsets object.zones → All StartsStated (moved_row object ids r g)
+moved-stated object ids r g short =
+    moved_row-holds (All StartsStated) object ids r g (All-nil StartsStated)
+    (λ served. All-cons StartsStated (moved_to object ids r g) [] (λ dated. there (served_by (moved_digits object.zones g r) served)) (All-nil StartsStated))
+  where
+    served_by : (l : ℤ) → are_served l ≡ true → IsStatedBy 0 l
+    served_by l h = elim (cases_Bool (int_le first_date l)) [
+      | inl w ↦ (let last : int_le l last_date ≡ true = rw w at h in
+          let from : first_date ≤ℤ l = grind (arith, ints, w) in
+          let to : l ≤ℤ last_date = grind (arith, ints, last) in (omega (arith, ints, from), omega (arith, ints, to)))
+      | inr w ↦ absurd (let e = rw w at h in cc)
+    ]
+
+    there : IsStatedBy 0 (moved_digits object.zones g r) → IsStatedBy 172800 ((reading_of object.zones g.start).instant (moved_digits object.zones g r))
+    there stated = further 86400 172800 _ (omega arith) (instant-stated object.zones g.start 0 (moved_digits object.zones g r) short stated)
+
+row_at-stated : (moments : List ℕ) (object : Object) (ids : Stamp) (all : List ℤ) (r : ℤ) → All HasShortOffsets object.zones → IsStatedBy 172800 r → All StartsStated (row_at moments object ids all r)
+row_at-stated moments object ids all r short stated =
+    row_at-holds (All StartsStated) moments object ids all r
+    (All-flat_map StartsStated (master_row moments object ids r) (masters object)
+    (All-everywhere (λ n. All StartsStated (master_row moments object ids r n)) of_master (masters object)))
+    (λ g governs. moved-stated object ids r g short)
   where
     of_master : (n : Numbered) → All StartsStated (master_row moments object ids r n)
     of_master n =
@@ -247,7 +267,7 @@ rows_by-stated row moments object is each =
         (All-weaker (IsStatedBy 172800) (λ r. All StartsStated (row ids (starts moments object) r)) (each ids) (starts moments object) (starts-served moments object is)))))
 
 pub rows-served : (moments : List ℕ) (object : Object) → IsReadObject object → All (λ row. is_dated row ≡ true → IsStatedBy 172800 row.start) (rows_over moments object)
-rows-served moments object is = rows_by-stated (row_at moments object) moments object is (λ ids r stated. row_at-stated moments object ids (starts moments object) r stated)
+rows-served moments object is = rows_by-stated (row_at moments object) moments object is (λ ids r stated. row_at-stated moments object ids (starts moments object) r (short_zones object is) stated)
 
 -- Windows.
 

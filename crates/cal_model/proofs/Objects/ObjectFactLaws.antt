@@ -44,8 +44,9 @@ use Rattle.cal_model.proofs.Objects.TestedLines.{IsTested}
 use Rattle.cal_model.proofs.Objects.PlacedComponents.{tree_at}
 use Rattle.cal_model.proofs.Words.EachLemmas.{neither, none_of_map, each_of_find, each_of_any, each-weaker, each-filter, each_passes, each_of_map, each-filter_map, each-both}
 use Rattle.cal_model.specs.Objects.ObjectFaults.{Child, children_in, kinds_among, component_fault, resource_fault, component_of_child, dated_stamps, lacks_zone, object_of, has_component_fault, is_bad_end, is_bad_period, is_bad_length, is_part_of_day, has_two_ends, are_different, resource_faults, child_at, child_places, zones_among, zone_fault, is_bad_zone}
-use Rattle.cal_model.specs.Objects.ObjectReading.{Unread, not_resource, first_there, calendar_faults, read_lines_by, read_tree, read_zone_tree, read_zone, not_calendar, place_at}
+use Rattle.cal_model.specs.Objects.ObjectReading.{Unread, not_resource, first_there, calendar_faults, object_in, read_lines_by, read_tree, read_zone_tree, read_zone, not_calendar, place_at}
 use Rattle.cal_model.proofs.Objects.ReadingSteps.{after_lines, lines_none, after_nesting, of_tree, after_tree, read_from, is_sound, IsChildOf, children_are, head_none, tail_none}
+use Rattle.cal_model.proofs.Objects.SettledObjects.{IsReadObject-settled}
 use Rattle.cal_model.proofs.Objects.ComponentStamps.{is_made, IsNamed, known_by_test, lines_known, each_stamp}
 use Rattle.cal_model.proofs.Objects.ServedDates.{not_before, child_served}
 use Rattle.cal_model.proofs.Objects.ShortLengths.{child_tested, extent_lengths, extent_short, periods_short, busy_short}
@@ -290,6 +291,7 @@ IsReadObject-read object read =
     let tree = found.0 in
     let sound = is_sound every_moment placed tree object found.1 in
     subst IsReadObject (sym found.1.is)
+    (IsReadObject-settled (object_in every_moment placed tree)
     (whole_object (lines_in placed) tree (zones_of every_moment tree) (kinds_among (children_in placed tree))
     (All-from_recursion IsZone (zones_of every_moment tree) (zones_are (filter is_zone (children_of tree)) (zones_sound placed tree sound.zone)))
     (each-filter (IsChildOf (children_of tree)) (λ (child : Child). is_some (component_kind child.tree)) (children_in placed tree) (children_are placed tree))
@@ -306,7 +308,7 @@ IsReadObject-read object read =
         found.1.nested,
         found.1.built,
       );
-    }))
+    })))
 
 -- The zone of a text
 

@@ -16,7 +16,7 @@ use Rattle.cal_model.specs.Objects.ZoneReading.{zones_of, zone_names}
 use Rattle.cal_model.specs.Objects.ComponentLines.{is_named, children_of}
 use Rattle.cal_model.proofs.Words.EachLemmas.{none_of_map}
 use Rattle.cal_model.specs.Objects.ObjectFaults.{Child, child_at, child_places, children_in, zones_among, kinds_among, zone_fault, component_fault, resource_fault, stamp_outside}
-use Rattle.cal_model.specs.Objects.ObjectReading.{Unread, not_calendar, not_resource, date_outside, place_at, line_of_fault, first_there, calendar_faults, object_in, object_faults, read_tree, read_lines_by, read_object_over}
+use Rattle.cal_model.specs.Objects.ObjectReading.{Unread, not_calendar, not_resource, date_outside, place_at, line_of_fault, first_there, calendar_faults, object_in, settled, object_faults, read_tree, read_lines_by, read_object_over}
 
 -- Where a reading is Ok, no fault was there
 
@@ -62,7 +62,7 @@ after_faults None found x good = (refl, sym (ap (λ r. result_unwrap_or r found)
 pub record IsReadFrom (moments : List ℕ) (placed : List Placed) (tree : Node) (object : Object) : Type 0 where
   pub nested : nesting_fault (lines_in placed) ≡ None
   pub built : tree_of (lines_in placed) ≡ Some tree
-  pub is : object ≡ object_in moments placed tree
+  pub is : object ≡ settled (object_in moments placed tree)
   pub sound : first_there (calendar_faults moments placed tree ++ object_faults placed tree (object_in moments placed tree)) ≡ None
 
 pub read_from : (moments octets : List ℕ) (object : Object) → read_object_over moments octets ≡ Ok object →
@@ -73,7 +73,7 @@ read_from moments octets object good =
     let nested = after_nesting placed (nesting_fault (lines_in placed)) (of_tree (read_tree moments placed) (tree_of (lines_in placed))) object lines in
     let found = after_tree (read_tree moments placed) (tree_of (lines_in placed)) object nested in
     let tree = found.0 in
-    let whole = after_faults (first_there (calendar_faults moments placed tree ++ object_faults placed tree (object_in moments placed tree))) (object_in moments placed tree) object found.2 in (
+    let whole = after_faults (first_there (calendar_faults moments placed tree ++ object_faults placed tree (object_in moments placed tree))) (settled (object_in moments placed tree)) object found.2 in (
       tree,
       record {
         nested = nesting_none placed (nesting_fault (lines_in placed)) (of_tree (read_tree moments placed) (tree_of (lines_in placed))) object lines;

@@ -27,15 +27,14 @@ use Rattle.cal_model.specs.declared.zone.ZoneTable.{ZoneTable}
 use Rattle.cal_model.specs.Words.Lists.{counted_from}
 use Rattle.cal_model.specs.Instances.Alignment.{reading_of}
 use Rattle.cal_model.specs.Instances.Starts.{own_start, own_start_of}
-use Rattle.cal_model.specs.Instances.Rows.{Numbered, is_dated, rows_over, nominal_start, window_of, window_seconds}
-use Rattle.cal_model.specs.Instances.LaterRows.{later_rows_over}
+use Rattle.cal_model.specs.Instances.Rows.{is_dated, rows_over, nominal_start, window_of, window_seconds}
 use Rattle.cal_model.specs.Ranges.Overlap.{Line, spans, begins, lasts, runs_to_due, due_alone, completed_and_created, completed, created, stated, stored, always, never, holds, is_positive, line_of, line_of_kind, line_of_event, line_of_todo, line_of_journal, line_of_free_busy, in_zone, fixed, lasts_its_day, row_for_range, row_overlaps, dated_fixed, seconds_of, has_end, moment_related, is_in, some_trigger, alarm_overlaps}
 use Rattle.cal_model.specs.Ranges.Cost.{longest, alarm_reach, alarms_reach, margin, window_meets}
 use Rattle.cal_model.specs.Ranges.Nearness.{IsNear, HasShortOffsets, HasNearRows, IsWithin, MeetsNear, GoesOffNear, IsBusyNear}
 use Rattle.cal_model.proofs.Ranges.RowBounds.{in_zone-near}
 use Rattle.cal_model.proofs.Words.AllLemmas.{All-each_part, All-unmap, All-slice_get}
 use Rattle.cal_model.proofs.Instances.EachRowLemmas.{All-greatest}
-use Rattle.cal_model.proofs.Ranges.NearRows.{IsRowOf, rows-of_components, later_rows-of_components}
+use Rattle.cal_model.proofs.Ranges.NearRows.{IsRowOf, rows-of_components}
 
 -- Windows.
 
@@ -286,15 +285,6 @@ pub alarms-near : (moments : List ℕ) (object : Object) (zone : ZoneTable) (ran
 alarms-near moments object zone range near short =
     All-weaker (λ row. is_dated row ≡ true → IsRowOf object row) (GoesOffNear object zone range) (goes_off_near object zone range near short) (rows_over moments object) (rows-of_components moments object near)
 
--- the same where overrides move all later instances
-pub later_rows-near : (future : Numbered → Bool) (moments : List ℕ) (object : Object) (zone : ZoneTable) (range : Range) → HasNearRows object → HasShortOffsets zone → All (MeetsNear object zone range) (later_rows_over future moments object)
-later_rows-near future moments object zone range near short =
-    All-weaker (λ row. is_dated row ≡ true → IsRowOf object row) (MeetsNear object zone range) (meets_near object zone range near short) (later_rows_over future moments object) (later_rows-of_components future moments object near)
-
-pub later_alarms-near : (future : Numbered → Bool) (moments : List ℕ) (object : Object) (zone : ZoneTable) (range : Range) → HasNearRows object → HasShortOffsets zone → All (GoesOffNear object zone range) (later_rows_over future moments object)
-later_alarms-near future moments object zone range near short =
-    All-weaker (λ row. is_dated row ≡ true → IsRowOf object row) (GoesOffNear object zone range) (goes_off_near object zone range near short) (later_rows_over future moments object) (later_rows-of_components future moments object near)
-
 -- a second of a range at which a row makes busy
 busy_near : (object : Object) (zone : ZoneTable) (range : Range) → HasNearRows object → HasShortOffsets zone → (row : Row) → (is_dated row ≡ true → IsRowOf object row) → IsBusyNear object zone range row
 unfolding Touches
@@ -308,8 +298,3 @@ busy_near object zone range near short row of t dated here inside =
 pub busy_rows-near : (moments : List ℕ) (object : Object) (zone : ZoneTable) (range : Range) → HasNearRows object → HasShortOffsets zone → All (IsBusyNear object zone range) (rows_over moments object)
 busy_rows-near moments object zone range near short =
     All-weaker (λ row. is_dated row ≡ true → IsRowOf object row) (IsBusyNear object zone range) (busy_near object zone range near short) (rows_over moments object) (rows-of_components moments object near)
-
--- the same where overrides move all later instances
-pub later_busy_rows-near : (future : Numbered → Bool) (moments : List ℕ) (object : Object) (zone : ZoneTable) (range : Range) → HasNearRows object → HasShortOffsets zone → All (IsBusyNear object zone range) (later_rows_over future moments object)
-later_busy_rows-near future moments object zone range near short =
-    All-weaker (λ row. is_dated row ≡ true → IsRowOf object row) (IsBusyNear object zone range) (busy_near object zone range near short) (later_rows_over future moments object) (later_rows-of_components future moments object near)

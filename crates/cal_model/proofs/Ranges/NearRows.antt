@@ -1,20 +1,19 @@
 -- Each dated row of an object is the row of a component that has a start, with its end near its own start.
-use Rattle.std.proofs.Common.{◌≡◌, ℕ, ◌+◌, ◌≤◌, Bool, List, [], ◌∷◌, ◌++◌, map, refl, arith, true, ℤ, inl, inr}
-use Rattle.std.specs.Prelude.{All, filter, flat_map, not, int_le, int_lt, slice_get, option_to_list, is_none, Some}
-use Rattle.std.proofs.lemmas.Bool.{cases_Bool}
-use Rattle.std.proofs.lemmas.List.Elements.{All-head, All-tail, All-nil, All-cons, All-append, All-map, All-filter, All-weaker}
+use Rattle.std.proofs.Common.{◌≡◌, ℕ, ◌+◌, ◌≤◌, List, [], ◌∷◌, ◌++◌, map, refl, arith, true, ℤ}
+use Rattle.std.specs.Prelude.{All, filter, flat_map, not, slice_get, option_to_list, is_none, Some}
+use Rattle.std.proofs.lemmas.List.Elements.{All-head, All-tail, All-nil, All-cons, All-append, All-map, All-filter, All-weaker, All-contains}
 use Rattle.cal_moment.specs.declared.stamp.Stamp.{Stamp}
 use Rattle.cal_model.specs.declared.object.Component.{Component}
 use Rattle.cal_model.specs.declared.object.Object.{Object}
 use Rattle.cal_model.specs.declared.row.Row.{Row}
 use Rattle.cal_model.specs.Instances.Alignment.{Aligned, reading_of, value_of, kind_of}
 use Rattle.cal_model.specs.Instances.Starts.{own_start, end_from, end_of_instance}
-use Rattle.cal_model.specs.Instances.Rows.{Numbered, numbered, has_id, masters, overrides, ids_start, id_of_override, named_by, is_named, row_of, is_dated, undated_row, undated_rows, starts, master_row, row_at, override_row, override_row_from, dated_rows, rows_by, rows_over}
-use Rattle.cal_model.specs.Instances.LaterRows.{Governor, governors_of, governors, greatest_id, is_served, moved_digits, moved_row, governed_row, later_row_at, later_rows_over}
+use Rattle.cal_model.specs.Instances.Rows.{Numbered, numbered, has_id, masters, overrides, ids_start, id_of_override, named_by, is_named, row_of, is_dated, undated_row, undated_rows, starts, master_row, Governor, governors_by, moves_later, governors, moved_digits, moved_row, master_rows as rows_of_start, row_at, override_row, override_row_from, dated_rows, rows_by, rows_over}
 use Rattle.cal_model.specs.Ranges.Cost.{extent_length, lengths, longest}
 use Rattle.cal_model.specs.Ranges.Nearness.{IsNear, IsTimed, HasNearRows}
 use Rattle.cal_model.proofs.Words.AllLemmas.{All-everywhere, All-flat_map, All-each_part, All-option, All-slice_get}
 use Rattle.cal_model.proofs.Instances.EachRowLemmas.{All-numbered_from, All-greatest, All-in_order}
+use Rattle.cal_model.proofs.Instances.GovernedRows.{All-governors, row_at-holds, moved_to, moved_row-holds}
 use Rattle.cal_model.proofs.Ranges.RowBounds.{wider, end_of_extent-near, end_of_instance-near}
 
 -- What each row has.
@@ -107,55 +106,40 @@ rows_by-of_components row moments object near each =
         (All-filter (λ (r : Row). not (is_named object ids r.id)) (IfDated object) (flat_map (row ids (starts moments object)) (starts moments object))
         (All-flat_map (IfDated object) (row ids (starts moments object)) (starts moments object) (All-everywhere (λ r. All (IfDated object) (row ids (starts moments object) r)) (each ids (starts moments object)) (starts moments object)))))
 
-of_masters : (moments : List ℕ) (object : Object) → HasNearRows object → (ids : Stamp) (all : List ℤ) (r : ℤ) → All (IfDated object) (row_at moments object ids all r)
-of_masters moments object near ids all r =
+of_masters : (moments : List ℕ) (object : Object) → HasNearRows object → (ids : Stamp) (r : ℤ) → All (IfDated object) (rows_of_start moments object ids r)
+of_masters moments object near ids r =
     All-flat_map (IfDated object) (master_row moments object ids r) (masters object)
     (All-filter (λ n. not (has_id n)) (λ n. All (IfDated object) (master_row moments object ids r n)) (numbered object)
     (All-weaker (IsKnown object) (λ n. All (IfDated object) (master_row moments object ids r n)) (λ n is. master_rows moments object ids r n near is) (numbered object) (known object near)))
 
--- each dated row of an object is the row of a component that has a start
-pub rows-of_components : (moments : List ℕ) (object : Object) → HasNearRows object → All (λ row. is_dated row ≡ true → IsRowOf object row) (rows_over moments object)
-rows-of_components moments object near = rows_by-of_components (row_at moments object) moments object near (of_masters moments object near)
-
--- The same where overrides move all later instances.
+-- Starts that an override governs.
 
 record IsGovernor (object : Object) (g : Governor) : Type 0 where
   own : own_start g.override.component ≡ Some g.start
   known : IsKnown object g.override
 
-governors_known : (future : Numbered → Bool) (object : Object) (ids : Stamp) (all : List ℤ) → HasNearRows object → All (IsGovernor object) (governors future object ids all)
-governors_known future object ids all near =
-    All-flat_map (IsGovernor object) (governors_of object ids all) (filter future (overrides object))
-    (All-filter future (λ n. All (IsGovernor object) (governors_of object ids all n)) (overrides object)
-    (All-filter has_id (λ n. All (IsGovernor object) (governors_of object ids all n)) (numbered object)
-    (All-weaker (IsKnown object) (λ n. All (IsGovernor object) (governors_of object ids all n)) of_override (numbered object) (known object near))))
+governors_known : (object : Object) (ids : Stamp) (all : List ℤ) → HasNearRows object → All (IsGovernor object) (governors object ids all)
+governors_known object ids all near =
+    All-governors (IsGovernor object) object ids all
+    (All-filter has_id (λ n. moves_later n ≡ true → All (IsGovernor object) (governors_by object ids all n)) (numbered object)
+    (All-weaker (IsKnown object) (λ n. moves_later n ≡ true → All (IsGovernor object) (governors_by object ids all n)) of_override (numbered object) (known object near)))
   where
     governor : Numbered → Stamp → Aligned → Governor
     governor n s x = record { id = id_of_override object ids all x; start = s; override = n }
 
-    of_override : (n : Numbered) → IsKnown object n → All (IsGovernor object) (governors_of object ids all n)
-    of_override n is =
+    of_override : (n : Numbered) → IsKnown object n → moves_later n ≡ true → All (IsGovernor object) (governors_by object ids all n)
+    of_override n is later =
         All-flat_map (IsGovernor object) (λ s. map (governor n s) (named_by object.zones ids n)) (option_to_list (own_start n.component))
         (All-option (λ s. All (IsGovernor object) (map (governor n s) (named_by object.zones ids n))) (own_start n.component)
         (λ s own. All-map (IsGovernor object) (governor n s) (named_by object.zones ids n) (All-everywhere (λ x. IsGovernor object (governor n s x)) (λ x. record { own = own; known = is }) (named_by object.zones ids n))))
 
-greatest_id-holds : (P : Governor → Type 0) (g : Governor) (gs : List Governor) → P g → All P gs → P (greatest_id g gs)
-greatest_id-holds P g [] p all = p
-greatest_id-holds P g (h ∷ hs) p all = elim (cases_Bool (int_le g.id h.id)) [
-  | inl w ↦ rw w (greatest_id-holds P h hs (All-head P h hs all) (All-tail P h hs all))
-  | inr w ↦ rw w (greatest_id-holds P g hs p (All-tail P h hs all))
-]
-
 moved : (object : Object) (ids : Stamp) (r : ℤ) (g : Governor) → HasNearRows object → IsGovernor object g → All (IfDated object) (moved_row object ids r g)
-moved object ids r g near is = elim (cases_Bool (is_served (moved_digits object.zones g r))) [
-  | inl w ↦ rw w (All-cons (IfDated object) (row_of r start (end_from object.zones g.override.component start) g.override.number (kind_of ids) (kind_of g.start)) [] at_each (All-nil (IfDated object)))
-  | inr w ↦ rw w (All-nil (IfDated object))
-]
+moved object ids r g near is = moved_row-holds (All (IfDated object)) object ids r g (All-nil (IfDated object)) (λ served. All-cons (IfDated object) (moved_to object ids r g) [] at_each (All-nil (IfDated object)))
   where
     start : ℤ
     start = (reading_of object.zones g.start).instant (moved_digits object.zones g r)
 
-    at_each : IfDated object (row_of r start (end_from object.zones g.override.component start) g.override.number (kind_of ids) (kind_of g.start))
+    at_each : IfDated object (moved_to object ids r g)
     at_each dated = let of_component = is.known in let own = is.own in record {
       component = g.override.component;
       stamp = g.start;
@@ -165,13 +149,9 @@ moved object ids r g near is = elim (cases_Bool (is_served (moved_digits object.
       end_near = rw own (wider (extent_length object.zones (Some g.start) g.override.component.extent) (longest object) _ _ (own_length object g.override g.start of_component own) (end_of_extent-near object.zones g.start g.override.component.extent start near.offsets));
     }
 
-governed : (moments : List ℕ) (object : Object) (ids : Stamp) (all : List ℤ) (r : ℤ) (gs : List Governor) → HasNearRows object → All (IsGovernor object) gs → All (IfDated object) (governed_row moments object ids all r gs)
-governed moments object ids all r [] near each = of_masters moments object near ids all r
-governed moments object ids all r (g ∷ gs) near each =
-    moved object ids r (greatest_id g gs) near (greatest_id-holds (IsGovernor object) g gs (All-head (IsGovernor object) g gs each) (All-tail (IsGovernor object) g gs each))
-
-pub later_rows-of_components : (future : Numbered → Bool) (moments : List ℕ) (object : Object) → HasNearRows object → All (λ row. is_dated row ≡ true → IsRowOf object row) (later_rows_over future moments object)
-later_rows-of_components future moments object near =
-    rows_by-of_components (later_row_at future moments object) moments object near
-    (λ ids all r. governed moments object ids all r (filter (λ (g : Governor). int_lt g.id r) (governors future object ids all)) near
-    (All-filter (λ (g : Governor). int_lt g.id r) (IsGovernor object) (governors future object ids all) (governors_known future object ids all near)))
+-- each dated row of an object is the row of a component that has a start
+pub rows-of_components : (moments : List ℕ) (object : Object) → HasNearRows object → All (λ row. is_dated row ≡ true → IsRowOf object row) (rows_over moments object)
+rows-of_components moments object near =
+    rows_by-of_components (row_at moments object) moments object near
+    (λ ids all r. row_at-holds (All (IfDated object)) moments object ids all r (of_masters moments object near ids r)
+    (λ g governs. moved object ids r g near (All-contains (IsGovernor object) (governors object ids all) g (governors_known object ids all near) governs.among)))

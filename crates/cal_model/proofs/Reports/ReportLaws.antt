@@ -1,9 +1,9 @@
 -- The windows that a report may need are enough: each row that can meet one of its ranges lies in one of them.
-use Rattle.std.proofs.Common.{◌≡◌, ℕ, Bool, true, false, not, ◌&&◌, ◌||◌, List, [], ◌∷◌, length, Option, Some, None, refl, sym, ⊎_elim, arith}
-use Rattle.std.specs.Prelude.{filter as filter_rows, option_to_list, slice_get}
+use Rattle.std.proofs.Common.{◌≡◌, ℕ, ◌≤◌, Bool, true, false, not, ◌&&◌, ◌||◌, List, [], ◌∷◌, length, Option, Some, None, refl, sym, ⊎_elim, arith}
+use Rattle.std.specs.Prelude.{◌==◌, All, filter as filter_rows, take, option_to_list, slice_get}
 use Rattle.std.specs.List.{list_any, Contains}
 use Rattle.std.proofs.lemmas.Bool.{false≢true, and_parts, and_from, or_cases}
-use Rattle.std.proofs.lemmas.List.Elements.{All-contains, Contains-append_right, Contains-append_left}
+use Rattle.std.proofs.lemmas.List.Elements.{All-contains, All-take, Contains-append_right, Contains-append_left}
 use Rattle.std.proofs.lemmas.List.Folds.{Any-from_list_any}
 use Rattle.std.proofs.lemmas.Option.{slice_get_read}
 use Rattle.cal_moment.specs.declared.stamp.Length.{Length}
@@ -34,10 +34,10 @@ use Rattle.cal_model.specs.Ranges.Overlap.{row_overlaps, alarm_overlaps, dated_f
 use Rattle.cal_model.specs.Recurrence.RecurrenceSet.{every_moment}
 use Rattle.cal_model.specs.Reports.NeededWindows.{is_stated_window, meets_some, counts, is_needed, override_windows}
 use Rattle.cal_model.specs.Ranges.RowRanges.{row_meets, row_in_range, row_alarm_in_range, alarm_in_range, is_relative}
-use Rattle.cal_model.specs.Instances.Rows.{rows, is_dated, window_of}
-use Rattle.cal_model.proofs.Words.ListTests.{any_from, or_left, or_right, not_empty, Keeps}
-use Rattle.cal_model.proofs.Selections.ShownDataLaws.{AreEnough, is_of_override, shown-enough_rows}
-use Rattle.cal_model.proofs.Reports.OverrideWindows.{IsInWindow, override_rows-in_windows}
+use Rattle.cal_model.specs.Instances.Rows.{Numbered, rows, masters, is_dated, window_of}
+use Rattle.cal_model.proofs.Words.ListTests.{any_from, or_left, or_right, not_empty, each_of, Keeps}
+use Rattle.cal_model.proofs.Selections.ShownDataLaws.{AreEnough, is_dated_of, KeepsFirsts, shown-enough_rows}
+use Rattle.cal_model.proofs.Reports.OverrideWindows.{IsInWindow, first_rows-in_windows}
 use Rattle.cal_model.proofs.Filters.MatchingLaws.{matches-enough_rows_of_object}
 use Rattle.cal_model.proofs.Ranges.NearRanges.{rows-near, alarms-near}
 use Rattle.cal_model.proofs.Ranges.WindowLaws.{Contains-filter, Contains-unfilter}
@@ -110,17 +110,28 @@ matches-looked_at props select filter timezone object zone near short stated =
 
 -- The same of calendar data
 
--- a dated row of an override is looked at, where some range is named
-override_looked_at : (object : Object) (report : ReportRequest) → ((row : Row) → Contains (rows object) row → is_dated row ≡ true → is_stated_window (window_of object row) ≡ true)
-    → (range : Range) → Contains (ranges_named report) range → (row : Row) → Contains (rows object) row → (is_of_override object row && is_dated row) ≡ true → is_looked_at object report row ≡ true
-override_looked_at object report stated range named row among e =
-    let both = and_parts (is_of_override object row) (is_dated row) e in
-    or_right (not (is_dated row)) (is_needed object report (window_of object row))
-    (and_from (is_stated_window (window_of object row)) (counts object (ranges_named report) (window_of object row)) (stated row among both.1)
-    (and_from (not (is_empty (ranges_named report))) (meets_some object (ranges_named report) (window_of object row) || list_any (same_int (window_of object row)) (override_windows object))
-    (not_empty (ranges_named report) range named)
-    (or_right (meets_some object (ranges_named report) (window_of object row)) (list_any (same_int (window_of object row)) (override_windows object))
-    (All-contains (IsInWindow object) (rows object) row (override_rows-in_windows object) among both.0 both.1))))
+-- two things that hold of each give a third
+All-with : {X : Type 0} (P Q R : X → Type 0) → ((x : X) → P x → Q x → R x) → (xs : List X) → All P xs → All Q xs → All R xs
+All-with P Q R f xs all each = λ k d lt. f _ (all k d lt) (each k d lt)
+
+-- the first dated row of each override is looked at, where some range is named
+firsts_looked_at : (object : Object) (report : ReportRequest) → length (masters object) ≤ 1 → ((row : Row) → Contains (rows object) row → is_dated row ≡ true → is_stated_window (window_of object row) ≡ true)
+    → (range : Range) → Contains (ranges_named report) range → KeepsFirsts object (is_looked_at object report) (rows object)
+firsts_looked_at object report one stated range named n c =
+    All-with (IsInWindow object) (λ row. Contains (rows object) row × (is_dated_of n row ≡ true)) (λ row. is_looked_at object report row ≡ true) each
+    (take 1 (filter_rows (is_dated_of n) (rows object)))
+    (first_rows-in_windows object one n c)
+    (All-take (λ row. Contains (rows object) row × (is_dated_of n row ≡ true)) 1 (filter_rows (is_dated_of n) (rows object))
+    (each_of (λ row. Contains (rows object) row × (is_dated_of n row ≡ true)) (filter_rows (is_dated_of n) (rows object)) (λ row d. let both = Contains-unfilter (is_dated_of n) row (rows object) d in (both.1, both.0))))
+  where
+    each : (row : Row) → IsInWindow object row → Contains (rows object) row × (is_dated_of n row ≡ true) → is_looked_at object report row ≡ true
+    each row there of =
+        let dated = (and_parts (row.component == n.number) (is_dated row) of.1).1 in
+        or_right (not (is_dated row)) (is_needed object report (window_of object row))
+        (and_from (is_stated_window (window_of object row)) (counts object (ranges_named report) (window_of object row)) (stated row of.0 dated)
+        (and_from (not (is_empty (ranges_named report))) (meets_some object (ranges_named report) (window_of object row) || list_any (same_int (window_of object row)) (override_windows object))
+        (not_empty (ranges_named report) range named)
+        (or_right (meets_some object (ranges_named report) (window_of object row)) (list_any (same_int (window_of object row)) (override_windows object)) there)))
 
 overlapping_looked_at : (object : Object) (zone : ZoneTable) (report : ReportRequest) → HasNearRows object → HasShortOffsets zone → ((row : Row) → Contains (rows object) row → is_dated row ≡ true → is_stated_window (window_of object row) ≡ true)
     → (range : Range) → Contains (ranges_named report) range → Keeps (is_looked_at object report) (rows object) (row_in_range object zone range)
@@ -130,20 +141,20 @@ overlapping_looked_at object zone report near short stated range named row among
 here : (range : Range) → Contains (range ∷ []) range
 here range = (0, omega arith, refl)
 
-recur_enough : (object : Object) (zone : ZoneTable) (report : ReportRequest) → HasNearRows object → HasShortOffsets zone → ((row : Row) → Contains (rows object) row → is_dated row ≡ true → is_stated_window (window_of object row) ≡ true)
+recur_enough : (object : Object) (zone : ZoneTable) (report : ReportRequest) → HasNearRows object → HasShortOffsets zone → length (masters object) ≤ 1 → ((row : Row) → Contains (rows object) row → is_dated row ≡ true → is_stated_window (window_of object row) ≡ true)
     → (recur : Recur) → ((range : Range) → Contains (ranges_of_recur recur) range → Contains (ranges_named report) range) → AreEnough object zone (is_looked_at object report) (rows object) recur
-recur_enough object zone report near short stated Whole named = tt
-recur_enough object zone report near short stated (Expand range) named = overlapping_looked_at object zone report near short stated range (named range (here range))
-recur_enough object zone report near short stated (Limit range) named =
-    (overlapping_looked_at object zone report near short stated range (named range (here range)), override_looked_at object report stated range (named range (here range)))
+recur_enough object zone report near short one stated Whole named = tt
+recur_enough object zone report near short one stated (Expand range) named = overlapping_looked_at object zone report near short stated range (named range (here range))
+recur_enough object zone report near short one stated (Limit range) named =
+    (overlapping_looked_at object zone report near short stated range (named range (here range)), firsts_looked_at object report one stated range (named range (here range)))
 
 -- The law of a query and of a multiget: over the rows that it looks at an object is shown as over all of its rows.
 pub shown-looked_at : (report : ReportRequest) (select : Selection) → ((range : Range) → Contains (ranges_of_recur select.recur) range → Contains (ranges_named report) range)
-    → (octets : List ℕ) (object : Object) (zone : ZoneTable) → HasNearRows object → HasShortOffsets zone
+    → (octets : List ℕ) (object : Object) (zone : ZoneTable) → HasNearRows object → HasShortOffsets zone → length (masters object) ≤ 1
     → ((row : Row) → Contains (rows object) row → is_dated row ≡ true → is_stated_window (window_of object row) ≡ true)
     → shown octets object (filter_rows (is_looked_at object report) (rows object)) select zone ≡ shown_of_object octets object select zone
-shown-looked_at report select named octets object zone near short stated =
-    shown-enough_rows octets object select zone (is_looked_at object report) (rows object) (recur_enough object zone report near short stated select.recur named)
+shown-looked_at report select named octets object zone near short one stated =
+    shown-enough_rows octets object select zone (is_looked_at object report) (rows object) (recur_enough object zone report near short one stated select.recur named)
 
 -- both reports name the ranges of what they select
 pub names-query : (props : Props) (select : Selection) (filter : Filter) (timezone : Option (List ℕ)) (range : Range) → Contains (ranges_of_recur select.recur) range → Contains (ranges_named (Query props select filter timezone)) range

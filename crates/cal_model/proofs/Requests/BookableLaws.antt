@@ -26,7 +26,7 @@ use Rattle.percent_encoding.specs.Percent.{percent_decode}
 use Rattle.cal_base.specs.Lines.ContentLines.{pieces}
 use Rattle.cal_model.specs.Words.Lists.{is_empty, last_or_else}
 use Rattle.cal_model.specs.Paths.TargetPaths.{slash, target_path, is_path, path_of_names, path_of_segments, path_of_text, without_host, without_query}
-use Rattle.cal_model.specs.Users.UsersFile.{User, number_of}
+use Rattle.cal_model.specs.Users.UsersFile.{User, Users, number_of}
 use Rattle.cal_model.proofs.Bodies.GrantLaws.{grants_are_among}
 use Rattle.cal_model.proofs.Paths.NamedPaths.{named, all_some}
 use Rattle.cal_model.specs.Bodies.ContentSizes.{ContentFits}
@@ -51,7 +51,7 @@ fits_more size more (Report (Multiget props select hrefs)) h f = (omega (arith, 
 fits_more size more (Report (FreeBusy range)) h f = tt
 fits_more size more (Bad refusal) h f = tt
 
-of_fits : (users : List User) (wire : WireRequest) (method : Method) → OfMethod (ContentFits (length wire.body)) users wire method
+of_fits : (users : Users) (wire : WireRequest) (method : Method) → OfMethod (ContentFits (length wire.body)) users wire method
 of_fits users wire Options = tt
 of_fits users wire Get = tt
 of_fits users wire Head = tt
@@ -76,7 +76,7 @@ depth_fits size Mkcalendar = tt
 depth_fits size AclMethod = tt
 
 -- a content lists no more than the body has octets
-pub content_fits : (users : List User) (wire : WireRequest) (method : Method) → ContentFits (length wire.body) (content_of users wire method)
+pub content_fits : (users : Users) (wire : WireRequest) (method : Method) → ContentFits (length wire.body) (content_of users wire method)
 content_fits users wire method = content-holds (ContentFits (length wire.body)) users wire method tt tt (depth_fits (length wire.body) method) (of_fits users wire method)
 
 -- so a body of so many octets has so few properties, and a short text of a zone
@@ -116,7 +116,7 @@ told method size (Acl grants) apart h = tt
 told method size (Report report) apart h = tt
 told method size (Bad refusal) apart h = tt
 
-size_told : (users : List User) (wire : WireRequest) (method : Method) → SizeIsTold (length wire.body) (content_of users wire method)
+size_told : (users : Users) (wire : WireRequest) (method : Method) → SizeIsTold (length wire.body) (content_of users wire method)
 size_told users wire Options = told Options _ _ (λ e. absurd cc) (content_suits users wire Options)
 size_told users wire Get = told Get _ _ (λ e. absurd cc) (content_suits users wire Get)
 size_told users wire Head = told Head _ _ (λ e. absurd cc) (content_suits users wire Head)
@@ -128,7 +128,7 @@ size_told users wire ReportMethod = told ReportMethod _ _ (λ e. absurd cc) (con
 size_told users wire Mkcalendar = told Mkcalendar _ _ (λ e. absurd cc) (content_suits users wire Mkcalendar)
 size_told users wire AclMethod = told AclMethod _ _ (λ e. absurd cc) (content_suits users wire AclMethod)
 
-grantless : (users : List User) (method : Method) (content : Content) → (method ≡ AclMethod → ⊥) → Suits method content → GrantsAmong users content
+grantless : (users : Users) (method : Method) (content : Content) → (method ≡ AclMethod → ⊥) → Suits method content → GrantsAmong users content
 grantless users method NoContent apart h = tt
 grantless users method (Put media octets) apart h = tt
 grantless users method (Find props deep) apart h = tt
@@ -138,7 +138,7 @@ grantless users method (Acl grants) apart h = absurd (apart h.0)
 grantless users method (Report report) apart h = tt
 grantless users method (Bad refusal) apart h = tt
 
-acl_among : (users : List User) (root : Element) → GrantsAmong users (acl_content users root)
+acl_among : (users : Users) (root : Element) → GrantsAmong users (acl_content users root)
 acl_among users root = by (acl_content users root) refl
   where
     by : (content : Content) → acl_content users root ≡ content → GrantsAmong users content
@@ -151,7 +151,7 @@ acl_among users root = by (acl_content users root) refl
     by (Report report) e = tt
     by (Bad refusal) e = tt
 
-granted : (users : List User) (wire : WireRequest) (method : Method) → GrantsAmong users (content_of users wire method)
+granted : (users : Users) (wire : WireRequest) (method : Method) → GrantsAmong users (content_of users wire method)
 granted users wire Options = grantless users Options _ (λ e. absurd cc) (content_suits users wire Options)
 granted users wire Get = grantless users Get _ (λ e. absurd cc) (content_suits users wire Get)
 granted users wire Head = grantless users Head _ (λ e. absurd cc) (content_suits users wire Head)
@@ -165,27 +165,27 @@ granted users wire AclMethod = content-holds (GrantsAmong users) users wire AclM
 
 -- Who asks
 
-admitted_within : (users : List User) (password : List ℕ) (n who : ℕ) → n < length users → admitted_by users password n ≡ Some who → who < length users
-admitted_within users password n who h e = by (slice_get users n) e
+admitted_within : (users : Users) (password : List ℕ) (n who : ℕ) → n < length users.people → admitted_by users password n ≡ Some who → who < length users.people
+admitted_within users password n who h e = by (slice_get users.people n) e
   where
-    by_digest : (b : Bool) → (if b then Some n else None) ≡ Some who → who < length users
-    by_digest true k = subst (λ (number : ℕ). number < length users) (same_Some n who k) h
+    by_digest : (b : Bool) → (if b then Some n else None) ≡ Some who → who < length users.people
+    by_digest true k = subst (λ (number : ℕ). number < length users.people) (same_Some n who k) h
     by_digest false k = absurd cc
 
-    by : (found : Option User) → option_and_then (λ user. if has_digest password user.digest then Some n else None) found ≡ Some who → who < length users
+    by : (found : Option User) → option_and_then (λ user. if has_digest password user.digest then Some n else None) found ≡ Some who → who < length users.people
     by None k = absurd cc
     by (Some user) k = by_digest (has_digest password user.digest) k
 
-credentials_within : (users : List User) (found : Option Credentials) (who : ℕ) → option_and_then (user_of_credentials users) found ≡ Some who → who < length users
+credentials_within : (users : Users) (found : Option Credentials) (who : ℕ) → option_and_then (user_of_credentials users) found ≡ Some who → who < length users.people
 credentials_within users None who e = absurd cc
 credentials_within users (Some credentials) who e =
-    by (number_of users credentials.name) (λ n h. (position-Some (λ (user : User). bytes_eq credentials.name user.name) users n (record { name = []; digest = [] }) h).0) e
+    by (number_of users credentials.name) (λ n h. (position-Some (λ (user : User). bytes_eq credentials.name user.name) users.people n (record { name = []; digest = [] }) h).0) e
   where
-    by : (found : Option ℕ) → ((n : ℕ) → found ≡ Some n → n < length users) → option_and_then (admitted_by users credentials.password) found ≡ Some who → who < length users
+    by : (found : Option ℕ) → ((n : ℕ) → found ≡ Some n → n < length users.people) → option_and_then (admitted_by users credentials.password) found ≡ Some who → who < length users.people
     by None h k = absurd cc
     by (Some n) h k = admitted_within users credentials.password n who (h n refl) k
 
-authenticated_within : (users : List User) (field : Option (List ℕ)) (who : ℕ) → authenticated users field ≡ Some who → who < length users
+authenticated_within : (users : Users) (field : Option (List ℕ)) (who : ℕ) → authenticated users field ≡ Some who → who < length users.people
 unfolding authenticated
 authenticated_within users None who e = absurd cc
 authenticated_within users (Some value) who e = credentials_within users (spelled_credentials value) who e
@@ -233,7 +233,7 @@ same_what : (one other : ℕ) (request next : Request) → asked one request ≡
 unfolding asked_what
 same_what one other request next e = ap (asked_what request) e
 
-at_path : (users : List User) (wire : WireRequest) (who : ℕ) (method : Method) (path : Path) → length wire.body ≤ body_limit → who < length users →
+at_path : (users : Users) (wire : WireRequest) (who : ℕ) (method : Method) (path : Path) → length wire.body ≤ body_limit → who < length users.people →
     target_path wire.target ≡ Some path → has_method path method ≡ true → IsBookable users who (request_at users wire method path)
 at_path users wire who method path short user found allowed = record {
   user = user;
@@ -247,22 +247,22 @@ at_path users wire who method path short user found allowed = record {
 }
 
 -- what is asked for is a request at the path that the target names, of a method that the path has
-record IsAsked (users : List User) (wire : WireRequest) (who : ℕ) (request : Request) : Type 0 where
+record IsAsked (users : Users) (wire : WireRequest) (who : ℕ) (request : Request) : Type 0 where
   method : Method
   path : Path
-  user : who < length users
+  user : who < length users.people
   found : target_path wire.target ≡ Some path
   allowed : has_method path method ≡ true
   meant : request_at users wire method path ≡ request
 
-by_method : (users : List User) (wire : WireRequest) (user who : ℕ) (method : Method) (request : Request) → user < length users → asked_by users wire user method ≡ asked who request → IsAsked users wire who request
+by_method : (users : Users) (wire : WireRequest) (user who : ℕ) (method : Method) (request : Request) → user < length users.people → asked_by users wire user method ≡ asked who request → IsAsked users wire who request
 by_method users wire user who method request within e = by_path (target_path wire.target) refl e
   where
     by_allowed : (path : Path) → target_path wire.target ≡ Some path → (b : Bool) → has_method path method ≡ b → (if b then asked user (request_at users wire method path) else refused (not_allowed path)) ≡ asked who request → IsAsked users wire who request
     by_allowed path t true a k = record {
       method = method;
       path = path;
-      user = subst (λ (number : ℕ). number < length users) (same_who user who (request_at users wire method path) request k) within;
+      user = subst (λ (number : ℕ). number < length users.people) (same_who user who (request_at users wire method path) request k) within;
       found = t;
       allowed = a;
       meant = same_what user who (request_at users wire method path) request k;
@@ -274,18 +274,18 @@ by_method users wire user who method request within e = by_path (target_path wir
     by_path None t k = absurd cc
     by_path (Some path) t k = by_allowed path t (has_method path method) refl k
 
-by_user : (users : List User) (wire : WireRequest) (user who : ℕ) (request : Request) → user < length users → asked_with users wire user ≡ asked who request → IsAsked users wire who request
+by_user : (users : Users) (wire : WireRequest) (user who : ℕ) (request : Request) → user < length users.people → asked_with users wire user ≡ asked who request → IsAsked users wire who request
 by_user users wire user who request within e = by (method_of wire.method) e
   where
     by : (found : Option Method) → ◌≡◌ {A = Asked} (elim found [ None ↦ refused (bare_reply 501) | Some method ↦ asked_by users wire user method ]) (asked who request) → IsAsked users wire who request
     by None k = absurd cc
     by (Some method) k = by_method users wire user who method request within k
 
-is_asked : (users : List User) (wire : WireRequest) (who : ℕ) (request : Request) → asked_of users wire ≡ asked who request → IsAsked users wire who request
+is_asked : (users : Users) (wire : WireRequest) (who : ℕ) (request : Request) → asked_of users wire ≡ asked who request → IsAsked users wire who request
 unfolding asked_of
 is_asked users wire who request e = by (authenticated users wire.authorization) (λ user h. authenticated_within users wire.authorization user h) e
   where
-    by : (found : Option ℕ) → ((user : ℕ) → found ≡ Some user → user < length users) →
+    by : (found : Option ℕ) → ((user : ℕ) → found ≡ Some user → user < length users.people) →
         ◌≡◌ {A = Asked} (elim found [ None ↦ refused (bare_reply 401) | Some user ↦ asked_with users wire user ]) (asked who request) → IsAsked users wire who request
     by None h k = absurd cc
     by (Some user) h k = by_user users wire user who request (h user refl) k

@@ -15,14 +15,14 @@ use Rattle.cal_model.specs.Requests.FieldValues.{can_be_xml, can_be_calendar, is
 use Rattle.cal_model.specs.Bodies.PropertyBodies.{find_content, find_all, patch_content, make_content, make_plain}
 use Rattle.cal_model.specs.Bodies.Refusals.{bad_request, unsupported_media, dav_refusal}
 use Rattle.cal_model.specs.Bodies.ReportBodies.{report_content}
-use Rattle.cal_model.specs.Users.UsersFile.{User}
+use Rattle.cal_model.specs.Users.UsersFile.{Users}
 
 -- it holds of each element that a body spells
 abbrev pub OfRoots : (Content → Type 0) → (Element → Content) → List ℕ → Type 0
 OfRoots Q read body = (root : Element) → IsBody body root → Q (read root)
 
 -- it holds of whatever the method reads
-abbrev pub OfMethod : (Content → Type 0) → List User → WireRequest → Method → Type 0
+abbrev pub OfMethod : (Content → Type 0) → Users → WireRequest → Method → Type 0
 OfMethod Q users wire Options = Q NoContent
 OfMethod Q users wire Get = Q NoContent
 OfMethod Q users wire Head = Q NoContent
@@ -53,7 +53,7 @@ if-holds Q false one other h k = k
 of_xml-holds : (Q : Content → Type 0) (wire : WireRequest) (content : Content) → Q (Bad unsupported_media) → Q content → Q (of_xml wire content)
 of_xml-holds Q wire content bad h = if-holds Q (can_be_xml wire.media) content (Bad unsupported_media) h bad
 
-body-holds : (Q : Content → Type 0) (users : List User) (wire : WireRequest) (method : Method) → Q (Bad bad_request) → Q (Bad unsupported_media) → OfMethod Q users wire method → Q (body_content users wire method)
+body-holds : (Q : Content → Type 0) (users : Users) (wire : WireRequest) (method : Method) → Q (Bad bad_request) → Q (Bad unsupported_media) → OfMethod Q users wire method → Q (body_content users wire method)
 body-holds Q users wire Options bad media h = h
 body-holds Q users wire Get bad media h = h
 body-holds Q users wire Head bad media h = h
@@ -103,7 +103,7 @@ with_depth-holds Q wire Mkcalendar content bad finite h = h
 with_depth-holds Q wire AclMethod content bad finite h = h
 
 -- what holds of the refusals and of whatever the method reads, holds of the content
-pub content-holds : (Q : Content → Type 0) (users : List User) (wire : WireRequest) (method : Method) →
+pub content-holds : (Q : Content → Type 0) (users : Users) (wire : WireRequest) (method : Method) →
     Q (Bad bad_request) → Q (Bad unsupported_media) → OfDepth Q method → OfMethod Q users wire method → Q (content_of users wire method)
 unfolding content_of
 content-holds Q users wire method bad media finite h =

@@ -24,7 +24,7 @@ use Rattle.cal_model.specs.Bodies.ElementParts.{only}
 use Rattle.cal_model.specs.Bodies.AskedProperties.{property_name, asked_props, props_by}
 use Rattle.cal_model.specs.Bodies.ReportBodies.{report_rows, report_unless, asked_data, query_with, multiget_content, free_busy_with, report_content}
 use Rattle.cal_model.specs.Bodies.RangeElements.{is_bad_range, stated}
-use Rattle.cal_model.specs.Users.UsersFile.{User}
+use Rattle.cal_model.specs.Users.UsersFile.{Users}
 use Rattle.cal_model.specs.Requests.BookableRequests.{refusals_of, AsksSomething, Suits}
 use Rattle.cal_model.proofs.Bodies.AclSizes.{grants_are_few}
 use Rattle.cal_model.proofs.Bodies.SoundReportLaws.{reports_are_sound}
@@ -139,16 +139,16 @@ one_more : (found : Option Refusal) (rest : List Refusal) → HoldsOf (Contains 
 one_more None rest h k = k
 one_more (Some refusal) rest h k = (h, k)
 
-ace_rows_are : (users : List User) (before : ℕ) (ace : Element) → EachRow (Contains (refusals_of AclMethod)) (ace_rows users before ace)
+ace_rows_are : (users : Users) (before : ℕ) (ace : Element) → EachRow (Contains (refusals_of AclMethod)) (ace_rows users before ace)
 ace_rows_are users before ace =
     ((2, omega arith, refl), ((3, omega arith, refl), ((4, omega arith, refl), ((5, omega arith, refl), ((6, omega arith, refl), ((7, omega arith, refl), tt))))))
 
-ace_refusals_are : (users : List User) (before : ℕ) (kept : List Element) → EachIs (flat_map (λ (ace : ℕ × Element). option_to_list (first_row (ace_rows users ace.0 ace.1))) (enumerate_from before kept))
+ace_refusals_are : (users : Users) (before : ℕ) (kept : List Element) → EachIs (flat_map (λ (ace : ℕ × Element). option_to_list (first_row (ace_rows users ace.0 ace.1))) (enumerate_from before kept))
 ace_refusals_are users before [] = tt
 ace_refusals_are users before (ace ∷ kept) =
     one_more (first_row (ace_rows users before ace)) _ (chosen (Contains (refusals_of AclMethod)) (ace_rows users before ace) (ace_rows_are users before ace)) (ace_refusals_are users (before + 1) kept)
 
-acl_suits : (users : List User) (root : Element) → Suits AclMethod (acl_content users root)
+acl_suits : (users : Users) (root : Element) → Suits AclMethod (acl_content users root)
 unfolding acl_content
 acl_suits users root =
     if-holds (Suits AclMethod) (not (has_name dav (codes "acl") root) || list_any lacks_part (aces root)) (Bad bad_request) (acl_by (ace_refusals users (aces root)) (flat_map (grants_of users) (aces root))) (bad_is AclMethod)
@@ -160,7 +160,7 @@ acl_suits users root =
 
 -- All methods
 
-of_suits : (users : List User) (wire : WireRequest) (method : Method) → OfMethod (Suits method) users wire method
+of_suits : (users : Users) (wire : WireRequest) (method : Method) → OfMethod (Suits method) users wire method
 of_suits users wire Options = refl
 of_suits users wire Get = refl
 of_suits users wire Head = refl
@@ -184,5 +184,5 @@ depth_suits ReportMethod = tt
 depth_suits Mkcalendar = tt
 depth_suits AclMethod = tt
 
-pub content_suits : (users : List User) (wire : WireRequest) (method : Method) → Suits method (content_of users wire method)
+pub content_suits : (users : Users) (wire : WireRequest) (method : Method) → Suits method (content_of users wire method)
 content_suits users wire method = content-holds (Suits method) users wire method (bad_is method) (media_is method) (depth_suits method) (of_suits users wire method)

@@ -1,8 +1,9 @@
--- What is shown of an object depends on no other rows than those that overlap the selection's range, and the overrides' own rows where overrides are limited.
-use Rattle.std.proofs.Common.{◌≡◌, ℕ, Bool, cond, not, ◌&&◌, ◌||◌, List, [], ◌++◌, map, refl, sym, ap, ◌∙◌}
-use Rattle.std.specs.Prelude.{◌==◌, flat_map, filter, take, option_to_list}
+-- What is shown of an object depends on no other rows than those that overlap the selection's range, and, where overrides are limited, the first dated row of each: its own, which stands before those that it governs.
+use Rattle.std.proofs.Common.{◌≡◌, ℕ, Bool, true, cond, not, ◌&&◌, ◌||◌, List, [], ◌∷◌, ◌++◌, map, refl, sym, ap, ◌∙◌, inl, inr}
+use Rattle.std.specs.Prelude.{◌==◌, All, flat_map, filter, take, option_to_list}
 use Rattle.std.specs.List.{list_any, enumerate_from, Contains}
-use Rattle.std.proofs.lemmas.Bool.{and_parts, and_from}
+use Rattle.std.proofs.lemmas.Bool.{and_parts, cases_Bool}
+use Rattle.std.proofs.lemmas.List.Elements.{All-head}
 use Rattle.cal_moment.specs.declared.stamp.Stamp.{Stamp}
 use Rattle.cal_base.specs.declared.line.Node.{Node}
 use Rattle.cal_model.specs.declared.object.Object.{Object}
@@ -21,44 +22,68 @@ use Rattle.cal_model.specs.Instances.Rows.{Numbered, overrides, masters, named_b
 use Rattle.cal_model.specs.Objects.ComponentLines.{name_of, lines_of, children_of}
 use Rattle.cal_base.specs.Lines.ComponentTrees.{component}
 use Rattle.std.proofs.lemmas.List.Folds.{list_any-append}
-use Rattle.cal_model.proofs.Words.ListTests.{any_from, any_filter, filter-filter, filter_agreed, each, Keeps, filter_kept, any_kept}
+use Rattle.cal_model.proofs.Words.ListTests.{any_filter, filter-filter, filter_agreed, each, Keeps, filter_kept, any_kept}
 
 -- Limited overrides
 
-abbrev pub is_of_override : Object → Row → Bool
-is_of_override object row = list_any (λ (n : Numbered). row.component == n.number) (overrides object)
-
 abbrev has_number : Numbered → Row → Bool
 has_number n row = row.component == n.number
+
+-- the dated rows of an override
+abbrev pub is_dated_of : Numbered → Row → Bool
+is_dated_of n row = has_number n row && is_dated row
+
+-- the first row that passes a test is kept
+abbrev pub KeepsFirst : (Row → Bool) → List Row → (Row → Bool) → Type 0
+KeepsFirst keep all test = All (λ row. keep row ≡ true) (take 1 (filter test all))
+
+abbrev pub KeepsFirsts : Object → (Row → Bool) → List Row → Type 0
+KeepsFirsts object keep all = (n : Numbered) → Contains (overrides object) n → KeepsFirst keep all (is_dated_of n)
+
+first_kept : (keep test : Row → Bool) (all : List Row) → KeepsFirst keep all test → take 1 (filter test (filter keep all)) ≡ take 1 (filter test all)
+first_kept keep test [] first = refl
+first_kept keep test (row ∷ rows) first = elim (cases_Bool (test row)) [
+  | inl w ↦ (let kept : keep row ≡ true = All-head (λ row. keep row ≡ true) row [] (rw w at first) in rw (kept, w) refl)
+  | inr w ↦ (let later : KeepsFirst keep rows test = rw w at first in elim (cases_Bool (keep row)) [
+    | inl v ↦ rw (v, w) (first_kept keep test rows later)
+    | inr v ↦ rw (v, w) (first_kept keep test rows later)
+  ])
+]
 
 -- what the original instances of an override are made of: the ids of its dated rows
 abbrev originals : Object → Numbered → List Row → List Row
 originals object n dated =
     flat_map (λ (ids : Stamp). flat_map (λ id. map (original_row object ids id) (masters object)) (take 1 (map (λ (row : Row). row.id) dated ++ map (id_of_override object ids []) (named_by object.zones ids n)))) (option_to_list (ids_start object))
 
+-- the first of them is enough
+of_first : (object : Object) (n : Numbered) (dated : List Row) → originals object n dated ≡ originals object n (take 1 dated)
+of_first object n [] = refl
+of_first object n (row ∷ rows) = refl
+
 is_left_out_same : (object : Object) (zone : ZoneTable) (range : Range) (keep : Row → Bool) (all : List Row) → Keeps keep all (row_in_range object zone range)
-    → Keeps keep all (λ row. is_of_override object row && is_dated row) → (n : Numbered) → Contains (overrides object) n
+    → KeepsFirsts object keep all → (n : Numbered) → Contains (overrides object) n
     → is_left_out object (filter keep all) zone range n ≡ is_left_out object all zone range n
-is_left_out_same object zone range keep all meeting dated n c =
+is_left_out_same object zone range keep all meeting firsts n c =
     let overlaps : Row → Bool = row_in_range object zone range in
     let own : list_any overlaps (filter (has_number n) (filter keep all)) ≡ list_any overlaps (filter (has_number n) all) =
     any_filter overlaps (has_number n) (filter keep all)
     ∙ any_kept keep (λ row. has_number n row && overlaps row) all (λ row d e. meeting row d (and_parts (has_number n row) (overlaps row) e).1)
     ∙ sym (any_filter overlaps (has_number n) all) in
-    let same_dated : filter is_dated (filter (has_number n) (filter keep all)) ≡ filter is_dated (filter (has_number n) all) =
-    filter-filter is_dated (has_number n) (filter keep all)
-    ∙ filter_kept keep (λ row. has_number n row && is_dated row) all (λ row d e. let both = and_parts (has_number n row) (is_dated row) e in
-    dated row d (and_from (is_of_override object row) (is_dated row) (any_from (λ (m : Numbered). row.component == m.number) (overrides object) n c both.0) both.1))
-    ∙ sym (filter-filter is_dated (has_number n) all) in
+    let same_first : take 1 (filter is_dated (filter (has_number n) (filter keep all))) ≡ take 1 (filter is_dated (filter (has_number n) all)) =
+    ap (take 1) (filter-filter is_dated (has_number n) (filter keep all))
+    ∙ first_kept keep (is_dated_of n) all (firsts n c)
+    ∙ sym (ap (take 1) (filter-filter is_dated (has_number n) all)) in
+    let same : originals object n (filter is_dated (filter (has_number n) (filter keep all))) ≡ originals object n (filter is_dated (filter (has_number n) all)) =
+    of_first object n (filter is_dated (filter (has_number n) (filter keep all))) ∙ ap (originals object n) same_first ∙ sym (of_first object n (filter is_dated (filter (has_number n) all))) in
     ap not (list_any-append overlaps (filter (has_number n) (filter keep all)) (originals object n (filter is_dated (filter (has_number n) (filter keep all))))
-    ∙ (λ i. own i || list_any overlaps (originals object n (same_dated i)))
+    ∙ (λ i. own i || list_any overlaps (same i))
     ∙ sym (list_any-append overlaps (filter (has_number n) all) (originals object n (filter is_dated (filter (has_number n) all)))))
 
 left_out_same : (object : Object) (zone : ZoneTable) (range : Range) (keep : Row → Bool) (all : List Row) → Keeps keep all (row_in_range object zone range)
-    → Keeps keep all (λ row. is_of_override object row && is_dated row) → left_out object (filter keep all) zone range ≡ left_out object all zone range
-left_out_same object zone range keep all meeting dated =
+    → KeepsFirsts object keep all → left_out object (filter keep all) zone range ≡ left_out object all zone range
+left_out_same object zone range keep all meeting firsts =
     ap (map (λ (n : Numbered). n.component.child)) (filter_agreed (is_left_out object (filter keep all) zone range) (is_left_out object all zone range) (overrides object)
-    (each (λ n. is_left_out object (filter keep all) zone range n ≡ is_left_out object all zone range n) (overrides object) (is_left_out_same object zone range keep all meeting dated)))
+    (each (λ n. is_left_out object (filter keep all) zone range n ≡ is_left_out object all zone range n) (overrides object) (is_left_out_same object zone range keep all meeting firsts)))
 
 -- the tree that is left when the places of some children are left out
 abbrev without : Object → List ℕ → Node
@@ -74,11 +99,11 @@ with_instances object found = component (name_of object.tree) (record {
   children = expanded_children (flat_map (instances_of_row object) found) (children_of object.tree);
 })
 
--- The law. The given rows are some rows of the object in their order; each that overlaps the range of expand or limit-recurrence-set is among them, and for limit-recurrence-set each dated row of an override.
+-- The law. The given rows are some rows of the object in their order; each that overlaps the range of expand or limit-recurrence-set is among them, and for limit-recurrence-set the first dated row of each override.
 abbrev pub AreEnough : Object → ZoneTable → (Row → Bool) → List Row → Recur → Type 0
 AreEnough object zone keep all Whole = Unit {0}
 AreEnough object zone keep all (Expand range) = Keeps keep all (row_in_range object zone range)
-AreEnough object zone keep all (Limit range) = Keeps keep all (row_in_range object zone range) × Keeps keep all (λ row. is_of_override object row && is_dated row)
+AreEnough object zone keep all (Limit range) = Keeps keep all (row_in_range object zone range) × KeepsFirsts object keep all
 
 recurrence_same : (object : Object) (zone : ZoneTable) (keep : Row → Bool) (all : List Row) (recur : Recur) → AreEnough object zone keep all recur
     → recurrence_shown object (filter keep all) zone recur ≡ recurrence_shown object all zone recur

@@ -1,5 +1,5 @@
--- Where offsets are below a day, an instant lies within a day of its local time; a local time that exists comes back as it was.
-use Rattle.std.proofs.Common.{◌≡◌, true, List, [], ◌∷◌, map, arith, ℤ, pos, ◌-ℤ◌, inl, inr}
+-- An instant lies as near to its local time as offsets are small; a local time that exists comes back as it was.
+use Rattle.std.proofs.Common.{◌≡◌, ℕ, true, List, [], ◌∷◌, map, arith, ℤ, pos, ◌-ℤ◌, inl, inr}
 use Rattle.std.specs.Prelude.{All, not, filter, int_le, int_lt}
 use Rattle.std.proofs.lemmas.Int.{ints}
 use Rattle.std.proofs.lemmas.Bool.{cases_Bool}
@@ -7,7 +7,7 @@ use Rattle.std.proofs.lemmas.List.Elements.{All-head, All-tail, All-cons, All-ma
 use Rattle.cal_model.specs.declared.zone.Onset.{Onset}
 use Rattle.cal_model.specs.declared.zone.ZoneTable.{ZoneTable}
 use Rattle.cal_model.specs.TimeZones.TableBounds.{IsOffset, IsTable}
-use Rattle.cal_model.specs.Ranges.Nearness.{IsNear, HasShortOffsets}
+use Rattle.cal_model.specs.Ranges.Nearness.{IsNear, HasOffsetsBelow, HasShortOffsets}
 use Rattle.cal_model.specs.Words.Lists.{last_or_else, is_empty}
 use Rattle.cal_model.specs.Words.Integers.{least_of, same_int}
 use Rattle.cal_model.proofs.Words.IntegerLemmas.{same_int-true}
@@ -24,39 +24,51 @@ least_of-holds P z (x ∷ xs) p all = elim (cases_Bool (int_lt x z)) [
   | inr w ↦ rw w (least_of-holds P z xs p (All-tail P x xs all))
 ]
 
-pub offset_at-near : (table : ZoneTable) (u : ℤ) → HasShortOffsets table → IsNear 86400 (offset_at table u) (pos 0)
+-- Where offsets are below so many seconds, an instant lies as near to its local time.
+
+pub offset_at-below : (n : ℕ) (table : ZoneTable) (u : ℤ) → HasOffsetsBelow n table → IsNear n (offset_at table u) (pos 0)
 unfolding offset_at
-offset_at-near table u short =
-    last_or_else-holds (λ o. IsNear 86400 o (pos 0)) table.before (map (λ (o : Onset). o.offset) (filter (λ (o : Onset). int_le o.at.0 u) table.onsets)) short.before
-    (All-map (λ o. IsNear 86400 o (pos 0)) (λ (o : Onset). o.offset) (filter (λ (o : Onset). int_le o.at.0 u) table.onsets)
-    (All-filter (λ (o : Onset). int_le o.at.0 u) (λ (o : Onset). IsNear 86400 o.offset (pos 0)) table.onsets short.after))
+offset_at-below n table u below =
+    last_or_else-holds (λ o. IsNear n o (pos 0)) table.before (map (λ (o : Onset). o.offset) (filter (λ (o : Onset). int_le o.at.0 u) table.onsets)) below.before
+    (All-map (λ o. IsNear n o (pos 0)) (λ (o : Onset). o.offset) (filter (λ (o : Onset). int_le o.at.0 u) table.onsets)
+    (All-filter (λ (o : Onset). int_le o.at.0 u) (λ (o : Onset). IsNear n o.offset (pos 0)) table.onsets below.after))
+
+pub local_at-below : (n : ℕ) (table : ZoneTable) (u : ℤ) → HasOffsetsBelow n table → IsNear n (local_at table u) u
+local_at-below n table u below = let near = offset_at-below n table u below in (omega (arith, ints, near), omega (arith, ints, near))
+
+less_offset : (n : ℕ) (l o : ℤ) → IsNear n o (pos 0) → IsNear n (l -ℤ o) l
+less_offset n l o near = (omega (arith, ints, near), omega (arith, ints, near))
+
+after_gap-below : (n : ℕ) (table : ZoneTable) (l : ℤ) (past : List Onset) → HasOffsetsBelow n table → IsNear n (after_gap table l past) l
+after_gap-below n table l [] below = less_offset n l table.before below.before
+after_gap-below n table l (o ∷ later) below = less_offset n l (offset_at table (o.at.0 -ℤ pos 1)) (offset_at-below n table (o.at.0 -ℤ pos 1) below)
+
+candidates-below : (n : ℕ) (table : ZoneTable) (l : ℤ) → HasOffsetsBelow n table → All (λ u. IsNear n u l) (instants_of table l)
+candidates-below n table l below =
+    All-filter (λ u. same_int (local_at table u) l) (λ u. IsNear n u l) (map (λ o. l -ℤ o) (offsets table))
+    (All-map (λ u. IsNear n u l) (λ o. l -ℤ o) (offsets table)
+    (All-weaker (λ o. IsNear n o (pos 0)) (λ o. IsNear n (l -ℤ o) l) (λ o. less_offset n l o) (offsets table)
+    (All-cons (λ o. IsNear n o (pos 0)) table.before (map (λ (o : Onset). o.offset) table.onsets) below.before
+    (All-map (λ o. IsNear n o (pos 0)) (λ (o : Onset). o.offset) table.onsets below.after))))
+
+least_or_after_gap-below : (n : ℕ) (table : ZoneTable) (l : ℤ) (found : List ℤ) → HasOffsetsBelow n table → All (λ u. IsNear n u l) found → IsNear n (least_or_after_gap table l found) l
+least_or_after_gap-below n table l [] below all = after_gap-below n table l (onsets_past table l) below
+least_or_after_gap-below n table l (u ∷ us) below all =
+    least_of-holds (λ u. IsNear n u l) u us (All-head (λ u. IsNear n u l) u us all) (All-tail (λ u. IsNear n u l) u us all)
+
+pub instant_of-below : (n : ℕ) (table : ZoneTable) (l : ℤ) → HasOffsetsBelow n table → IsNear n (instant_of table l) l
+unfolding instant_of
+instant_of-below n table l below = least_or_after_gap-below n table l (instants_of table l) below (candidates-below n table l below)
+
+-- below a day
+pub offset_at-near : (table : ZoneTable) (u : ℤ) → HasShortOffsets table → IsNear 86400 (offset_at table u) (pos 0)
+offset_at-near = offset_at-below 86400
 
 pub local_at-near : (table : ZoneTable) (u : ℤ) → HasShortOffsets table → IsNear 86400 (local_at table u) u
-local_at-near table u short = let near = offset_at-near table u short in (omega (arith, ints, near), omega (arith, ints, near))
-
-less_offset : (l o : ℤ) → IsNear 86400 o (pos 0) → IsNear 86400 (l -ℤ o) l
-less_offset l o near = (omega (arith, ints, near), omega (arith, ints, near))
-
-after_gap-near : (table : ZoneTable) (l : ℤ) (past : List Onset) → HasShortOffsets table → IsNear 86400 (after_gap table l past) l
-after_gap-near table l [] short = less_offset l table.before short.before
-after_gap-near table l (o ∷ later) short = less_offset l (offset_at table (o.at.0 -ℤ pos 1)) (offset_at-near table (o.at.0 -ℤ pos 1) short)
-
-candidates-near : (table : ZoneTable) (l : ℤ) → HasShortOffsets table → All (λ u. IsNear 86400 u l) (instants_of table l)
-candidates-near table l short =
-    All-filter (λ u. same_int (local_at table u) l) (λ u. IsNear 86400 u l) (map (λ o. l -ℤ o) (offsets table))
-    (All-map (λ u. IsNear 86400 u l) (λ o. l -ℤ o) (offsets table)
-    (All-weaker (λ o. IsNear 86400 o (pos 0)) (λ o. IsNear 86400 (l -ℤ o) l) (λ o. less_offset l o) (offsets table)
-    (All-cons (λ o. IsNear 86400 o (pos 0)) table.before (map (λ (o : Onset). o.offset) table.onsets) short.before
-    (All-map (λ o. IsNear 86400 o (pos 0)) (λ (o : Onset). o.offset) table.onsets short.after))))
-
-least_or_after_gap-near : (table : ZoneTable) (l : ℤ) (found : List ℤ) → HasShortOffsets table → All (λ u. IsNear 86400 u l) found → IsNear 86400 (least_or_after_gap table l found) l
-least_or_after_gap-near table l [] short all = after_gap-near table l (onsets_past table l) short
-least_or_after_gap-near table l (u ∷ us) short all =
-    least_of-holds (λ u. IsNear 86400 u l) u us (All-head (λ u. IsNear 86400 u l) u us all) (All-tail (λ u. IsNear 86400 u l) u us all)
+local_at-near = local_at-below 86400
 
 pub instant_of-near : (table : ZoneTable) (l : ℤ) → HasShortOffsets table → IsNear 86400 (instant_of table l) l
-unfolding instant_of
-instant_of-near table l short = least_or_after_gap-near table l (instants_of table l) short (candidates-near table l short)
+instant_of-near = instant_of-below 86400
 
 -- A local time that the zone's clock shows comes back from its instant as it was. So only a DTSTART that is skipped lies elsewhere than its digits.
 
