@@ -11,17 +11,20 @@ use Rattle.cal_base.specs.declared.element.Item.TheVariants.{Text}
 use Rattle.percent_encoding.specs.Percent.{percent_decode}
 use Rattle.cal_model.specs.declared.privilege.Grant.{Grant}
 use Rattle.cal_model.specs.declared.privilege.Who.{Who}
-use Rattle.cal_model.specs.declared.privilege.Who.TheVariants.{Everyone, Owner, Principal}
+use Rattle.cal_model.specs.declared.privilege.Who.TheVariants.{Everyone, Owner, Principal, Group}
 use Rattle.cal_model.specs.declared.request.Content.TheVariants.{Acl, Bad}
 use Rattle.cal_model.specs.Words.Cuts.{cut_at}
 use Rattle.cal_model.specs.Paths.TargetPaths.{target_path}
-use Rattle.cal_model.specs.Users.UsersFile.{User}
+use Rattle.cal_model.specs.Users.UsersFile.{Users}
 use Rattle.cal_model.specs.Bodies.AclBodies.{acl_content}
 use Rattle.cal_model.specs.Bodies.Refusals.{bad_request, dav_refusal}
 use Rattle.cal_examples.proofs.BodySamples.{dav_root, dav_item}
 
-abbrev users : List User
-users = record { name = codes "alice"; digest = [] } ∷ record { name = codes "bob"; digest = [] } ∷ []
+abbrev users : Users
+users = record {
+  people = record { name = codes "alice"; digest = [] } ∷ record { name = codes "bob"; digest = [] } ∷ [];
+  groups = record { name = codes "team"; members = 1 ∷ [] } ∷ [];
+}
 
 -- an ACL with these aces
 abbrev acl : List Item → Element
@@ -70,6 +73,14 @@ to_owner = refl
 pub to_user : acl_content users (acl (ace (user_at (codes "http://h/principals/bob") ∷ grant_read ∷ []) ∷ [])) ≡ Acl (read_for (Principal 1) ∷ [])
 unfolding acl_content target_path cut_at percent_decode is_utf8 chars encode I.out-Item I.roll-Item B.shown-the_row-Item-0 B.hidden-the_row-Item-0 B.shape-the_row-Item-0 H.out H.roll H.shown H.hidden
 to_user = refl
+
+pub to_group : acl_content users (acl (ace (user_at (codes "/principals/team/") ∷ grant_read ∷ []) ∷ [])) ≡ Acl (read_for (Group 0) ∷ [])
+unfolding acl_content target_path cut_at percent_decode is_utf8 chars encode I.out-Item I.roll-Item B.shown-the_row-Item-0 B.hidden-the_row-Item-0 B.shape-the_row-Item-0 H.out H.roll H.shown H.hidden
+to_group = refl
+
+pub to_crew : acl_content users (acl (ace (user_at (codes "/principals/crew/") ∷ grant_read ∷ []) ∷ [])) ≡ Bad (dav_refusal (codes "recognized-principal"))
+unfolding acl_content target_path cut_at percent_decode is_utf8 chars encode I.out-Item I.roll-Item B.shown-the_row-Item-0 B.hidden-the_row-Item-0 B.shape-the_row-Item-0 H.out H.roll H.shown H.hidden
+to_crew = refl
 
 pub to_nobody : acl_content users (acl (ace (user_at (codes "/principals/carol/") ∷ grant_read ∷ []) ∷ [])) ≡ Bad (dav_refusal (codes "recognized-principal"))
 unfolding acl_content target_path cut_at percent_decode is_utf8 chars encode I.out-Item I.roll-Item B.shown-the_row-Item-0 B.hidden-the_row-Item-0 B.shape-the_row-Item-0 H.out H.roll H.shown H.hidden

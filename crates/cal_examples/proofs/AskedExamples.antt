@@ -24,7 +24,7 @@ use Rattle.cal_model.specs.Values.ValueTexts.{date_of, time_of, date_time_of}
 use Rattle.cal_model.specs.Values.UtcTexts.{utc_of}
 use Rattle.cal_model.specs.Replies.BareReplies.{bare_reply}
 use Rattle.cal_model.specs.Paths.TargetPaths.{target_path}
-use Rattle.cal_model.specs.Users.UsersFile.{User}
+use Rattle.cal_model.specs.Users.UsersFile.{Users}
 use Rattle.cal_model.specs.Users.Credentials.{spelled_credentials, authenticated}
 use Rattle.cal_model.specs.Bodies.AclBodies.{acl_content}
 use Rattle.cal_model.specs.Bodies.Refusals.{bad_request, unsupported_media, dav_refusal}
@@ -33,8 +33,8 @@ use Rattle.cal_model.specs.Requests.ConditionalTags.{tags_of}
 use Rattle.cal_model.specs.Requests.AskedRequests.{asked, refused, asked_of, asked_with, content_of}
 
 -- one user, with the password `abc`
-abbrev users : List User
-users = record { name = codes "alice"; digest = codes "ba7816bf8f01cfea414140de5dae2223b00361a396177a9cb410ff61f20015ad" } ∷ []
+abbrev users : Users
+users = record { people = record { name = codes "alice"; digest = codes "ba7816bf8f01cfea414140de5dae2223b00361a396177a9cb410ff61f20015ad" } ∷ []; groups = [] }
 
 -- a request of a method and a target alone
 abbrev bare_wire : List ℕ → List ℕ → WireRequest

@@ -58,7 +58,7 @@ pub evolution_request : front (codes "REPORT http://h/calendars/user1/home/ HTTP
 unfolding front head_end cut_at head_of read_head without_empty_lines wire_request is_token_byte trim_ows is_utf8 chars encode
 evolution_request = refl
 
-pub evolution_asks : asked_with [] evolution 0 ≡ asks home 302 (Query (SomeProps (getetag ∷ [])) all_data (objects_with (codes "VEVENT")) None)
+pub evolution_asks : asked_with (record { people = []; groups = [] }) evolution 0 ≡ asks home 302 (Query (SomeProps (getetag ∷ [])) all_data (objects_with (codes "VEVENT")) None)
 unfolding content_of report_content target_path cut_at percent_decode trim_ows utc_of date_time_of date_of time_of is_utf8 chars encode I.out-Item I.roll-Item B.shown-the_row-Item-0 B.hidden-the_row-Item-0 B.shape-the_row-Item-0 H.out H.roll H.shown H.hidden
 evolution_asks = refl
 
@@ -73,7 +73,7 @@ pub ical_request : front (codes "REPORT http://h/calendars/user1/home/ HTTP/1.1\
 unfolding front head_end cut_at head_of read_head without_empty_lines wire_request is_token_byte trim_ows is_utf8 chars encode
 ical_request = refl
 
-pub ical_asks : asked_with [] ical 0 ≡ asks home 289 (Multiget (SomeProps (getetag ∷ record { space = caldav; name = codes "calendar-data" } ∷ [])) all_data (codes "/caldav.php/user1/home/AAA9318E-37D9-4319-8626-95ECD3D3B243.ics" ∷ []))
+pub ical_asks : asked_with (record { people = []; groups = [] }) ical 0 ≡ asks home 289 (Multiget (SomeProps (getetag ∷ record { space = caldav; name = codes "calendar-data" } ∷ [])) all_data (codes "/caldav.php/user1/home/AAA9318E-37D9-4319-8626-95ECD3D3B243.ics" ∷ []))
 unfolding content_of report_content target_path cut_at percent_decode trim_ows utc_of date_time_of date_of time_of is_utf8 chars encode I.out-Item I.roll-Item B.shown-the_row-Item-0 B.hidden-the_row-Item-0 B.shape-the_row-Item-0 H.out H.roll H.shown H.hidden
 ical_asks = refl
 
@@ -88,6 +88,6 @@ pub sunbird_request : front (codes "REPORT http://h/calendars/user1/.in/ HTTP/1.
 unfolding front head_end cut_at head_of read_head without_empty_lines wire_request is_token_byte trim_ows is_utf8 chars encode
 sunbird_request = refl
 
-pub sunbird_asks : asked_with [] sunbird 0 ≡ asks (Calendar (codes "user1") (codes ".in")) 278 (Query (SomeProps (getetag ∷ [])) all_data (objects_with (codes "VTODO")) None)
+pub sunbird_asks : asked_with (record { people = []; groups = [] }) sunbird 0 ≡ asks (Calendar (codes "user1") (codes ".in")) 278 (Query (SomeProps (getetag ∷ [])) all_data (objects_with (codes "VTODO")) None)
 unfolding content_of report_content target_path cut_at percent_decode trim_ows utc_of date_time_of date_of time_of is_utf8 chars encode I.out-Item I.roll-Item B.shown-the_row-Item-0 B.hidden-the_row-Item-0 B.shape-the_row-Item-0 H.out H.roll H.shown H.hidden
 sunbird_asks = refl

@@ -67,24 +67,24 @@ alice = record { name = codes "alice"; digest = codes "ba7816bf8f01cfea414140de5
 abbrev bob : User
 bob = record { name = codes "bob"; digest = codes "e3b0c44298fc1c149afbf4c8996fb92427ae41e4649b934ca495991b7852b855" }
 
-pub admitted : authenticated (bob ∷ alice ∷ []) (Some (codes "Basic YWxpY2U6YWJj")) ≡ Some 1
+pub admitted : authenticated (record { people = bob ∷ alice ∷ []; groups = [] }) (Some (codes "Basic YWxpY2U6YWJj")) ≡ Some 1
 unfolding authenticated spelled_credentials cut_at base64_on_literals encode_with first_words schedule rounds compress hash_after digest_bytes sha256
 admitted = refl
 
 -- the digest is that of no octets
-pub admitted_with_empty_password : authenticated (bob ∷ alice ∷ []) (Some (codes "Basic Ym9iOg==")) ≡ Some 0
+pub admitted_with_empty_password : authenticated (record { people = bob ∷ alice ∷ []; groups = [] }) (Some (codes "Basic Ym9iOg==")) ≡ Some 0
 unfolding authenticated spelled_credentials cut_at base64_on_literals encode_with first_words schedule rounds compress hash_after digest_bytes sha256
 admitted_with_empty_password = refl
 
-pub wrong_password : authenticated (bob ∷ alice ∷ []) (Some (codes "Basic YWxpY2U6YWJk")) ≡ None
+pub wrong_password : authenticated (record { people = bob ∷ alice ∷ []; groups = [] }) (Some (codes "Basic YWxpY2U6YWJk")) ≡ None
 unfolding authenticated spelled_credentials cut_at base64_on_literals encode_with first_words schedule rounds compress hash_after digest_bytes sha256
 wrong_password = refl
 
-pub password_of_another : authenticated (bob ∷ alice ∷ []) (Some (codes "Basic Ym9iOmFiYw==")) ≡ None
+pub password_of_another : authenticated (record { people = bob ∷ alice ∷ []; groups = [] }) (Some (codes "Basic Ym9iOmFiYw==")) ≡ None
 unfolding authenticated spelled_credentials cut_at base64_on_literals encode_with first_words schedule rounds compress hash_after digest_bytes sha256
 password_of_another = refl
 
 -- names compare with case
-pub unknown_user : authenticated (bob ∷ alice ∷ []) (Some (codes "Basic QWxpY2U6YWJj")) ≡ None
+pub unknown_user : authenticated (record { people = bob ∷ alice ∷ []; groups = [] }) (Some (codes "Basic QWxpY2U6YWJj")) ≡ None
 unfolding authenticated spelled_credentials cut_at base64_on_literals encode_with first_words schedule rounds compress hash_after digest_bytes sha256
 unknown_user = refl

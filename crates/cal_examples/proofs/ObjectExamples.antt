@@ -1,5 +1,5 @@
 -- Worked examples of calendar objects that are read, and of the faults of others.
-use Rattle.std.specs.Prelude.{◌≡◌, refl, ℕ, ◌*◌, List, [], ◌∷◌, ◌++◌, map, Option, Some, None, option_map, Result, Ok, Err, codes, pos, neg_ℤ}
+use Rattle.std.specs.Prelude.{◌≡◌, refl, ℕ, ◌*◌, List, [], ◌∷◌, ◌++◌, map, Option, Some, None, false, option_map, Result, Ok, Err, codes, pos, neg_ℤ}
 use Rattle.std.specs.Str.{is_utf8, chars}
 use lib.Utf8.{encode}
 use Rattle.cal_base.specs.declared.line.Node as N
@@ -58,6 +58,7 @@ nothing_said kind = record {
   busy = None;
   stored_busy = [];
   alarms = [];
+  future = false;
 }
 
 -- a whole object: one event, in UTC

@@ -7,7 +7,7 @@ use Rattle.cal_base.specs.declared.line.Node.TheBlock as B
 use denote.Hole.Carrier as H
 use Rattle.cal_moment.specs.declared.stamp.Stamp.TheVariants.{Date, Floating, Zoned, Utc}
 use Rattle.cal_model.specs.declared.object.Kind.TheVariants.{Event, Todo, Journal, FreeBusy}
-use Rattle.cal_model.specs.declared.object.NotResource.TheVariants.{Method, NoComponent, MixedKinds, NoUid, MixedUids, TwoMasters, SameRecurrenceId, ZoneMissing, ExRule, ThisAndFuture}
+use Rattle.cal_model.specs.declared.object.NotResource.TheVariants.{Method, NoComponent, MixedKinds, NoUid, MixedUids, TwoMasters, SameRecurrenceId, ZoneMissing, ExRule}
 use Rattle.cal_model.specs.Values.ValueTexts.{date_of, time_of, date_time_of, count_of, integer_of, length_of, offset_of}
 use Rattle.cal_model.specs.Values.StampTexts.{stamps_in_grammar, periods_in_grammar, trigger_of}
 use Rattle.cal_model.specs.Values.RuleTexts.{rule_in_grammar}
@@ -255,7 +255,6 @@ not_stored : map fault_in (
     ∷ codes "BEGIN:VEVENT\nUID:1\nEND:VEVENT\nBEGIN:VEVENT\nUID:1\nRECURRENCE-ID:20250310T090000Z\nEXDATE;TZID=x:20250310T090000\nEND:VEVENT\nBEGIN:VTIMEZONE\nTZID:X\nBEGIN:STANDARD\nDTSTART:19700101T000000\nTZOFFSETFROM:+0100\nTZOFFSETTO:+0100\nEND:STANDARD\nEND:VTIMEZONE\n"
     ∷ codes "BEGIN:VEVENT\nUID:1\nEXRULE:FREQ=DAILY\nEND:VEVENT\n"
     ∷ codes "BEGIN:VEVENT\nUID:1\nRECURRENCE-ID;RANGE=thisandfuture:20250310T090000Z\nEND:VEVENT\n"
-    ∷ codes "BEGIN:VEVENT\nUID:1\nRECURRENCE-ID;RANGE=x,ThisAndFuture:20250310T090000Z\nEND:VEVENT\n"
     ∷ codes "BEGIN:VEVENT\nUID:1\nRECURRENCE-ID;RANGE=THISANDPRIOR:20250310T090000Z\nEND:VEVENT\n"
     ∷ []
     ) ≡ Some (not_resource Method)
@@ -267,8 +266,7 @@ not_stored : map fault_in (
     ∷ Some (not_resource SameRecurrenceId)
     ∷ Some (not_resource ZoneMissing)
     ∷ Some (not_resource ExRule)
-    ∷ Some (not_resource ThisAndFuture)
-    ∷ Some (not_resource ThisAndFuture)
+    ∷ None
     ∷ None
     ∷ []
 unfolding is_utf8 chars encode date_of time_of date_time_of count_of integer_of length_of offset_of stamps_in_grammar periods_in_grammar trigger_of rule_in_grammar offset_at exists_in instant_of N.out-Node N.roll-Node B.shown-the_row-Node-0 B.hidden-the_row-Node-0 B.shape-the_row-Node-0 H.out H.roll H.shown H.hidden

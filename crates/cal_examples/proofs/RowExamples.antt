@@ -1,5 +1,5 @@
 -- Examples of the starts and ends of one component, over the moments at one time of day of some days in a row.
-use Rattle.std.specs.Prelude.{◌≡◌, refl, ℕ, ◌+◌, ◌*◌, List, [], ◌∷◌, map, length, take, drop, ℤ, pos, ◌-ℤ◌, Option, Some, None}
+use Rattle.std.specs.Prelude.{◌≡◌, refl, ℕ, ◌+◌, ◌*◌, List, [], ◌∷◌, map, length, take, drop, ℤ, pos, ◌-ℤ◌, Option, Some, None, false}
 use Rattle.cal_moment.specs.declared.stamp.Stamp.{Stamp}
 use Rattle.cal_moment.specs.declared.stamp.Stamp.TheVariants.{Date, Floating, Zoned, Utc}
 use Rattle.cal_moment.specs.declared.stamp.Length.{Length}
@@ -52,6 +52,7 @@ event start extent = record {
   busy = None;
   stored_busy = [];
   alarms = [];
+  future = false;
 }
 
 abbrev pub object_of : List Component → Object

@@ -17,7 +17,7 @@ use Rattle.cal_model.specs.Load.LoadRequests.{events_in}
 
 -- alice, bob and carol
 abbrev pub three : Directory
-three = record { names = codes "alice" ∷ codes "bob" ∷ codes "carol" ∷ [] }
+three = record { names = codes "alice" ∷ codes "bob" ∷ codes "carol" ∷ []; groups = [] }
 
 -- alice's home has accepted so much, and has these calendars; the other homes are as at the start
 abbrev pub alice_keeps : ℕ → Named Calendar → ServerState

@@ -20,7 +20,7 @@ use Rattle.cal_model.specs.Transcripts.ConnectionAnswers.{whole, faulty, answere
 use Rattle.cal_model.specs.Transcripts.ScriptFrames.{bytes, worker, claim, publish, frame_text, reply_frame}
 use Rattle.cal_model.specs.Transcripts.Transcript.{at_start, fed, Follows}
 use Rattle.cal_model.specs.Users.Credentials.{authenticated}
-use Rattle.cal_model.specs.Users.UsersFile.{User}
+use Rattle.cal_model.specs.Users.UsersFile.{Users}
 use Rattle.cal_model.specs.Words.Cuts.{cut_at}
 
 -- What is answered
@@ -44,8 +44,8 @@ last_request = refl
 
 -- A request without credentials
 
-abbrev alice : List User
-alice = record { name = codes "alice"; digest = codes "ba7816bf8f01cfea414140de5dae2223b00361a396177a9cb410ff61f20015ad" } ∷ []
+abbrev alice : Users
+alice = record { people = record { name = codes "alice"; digest = codes "ba7816bf8f01cfea414140de5dae2223b00361a396177a9cb410ff61f20015ad" } ∷ []; groups = [] }
 
 abbrev first_part : List ℕ
 first_part = codes "OPTIONS / HTTP"

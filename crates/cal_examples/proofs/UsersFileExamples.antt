@@ -1,7 +1,7 @@
 -- Users files that are read, and the places of those that are refused.
 use Rattle.std.specs.Prelude.{◌≡◌, refl, ℕ, ◌+◌, ◌/◌, ◌%◌, List, [], ◌∷◌, ◌++◌, flat_map, take, Ok, Err, Some, None, codes, replicate}
 use Rattle.cal_model.specs.Words.Lists.{numbers_between, counted_from}
-use Rattle.cal_model.specs.Users.UsersFile.{User, users_fault, users_of}
+use Rattle.cal_model.specs.Users.UsersFile.{User, Users, users_fault, users_of}
 
 -- the SHA-256 of `abc`
 abbrev digest : List ℕ
@@ -9,6 +9,10 @@ digest = codes "ba7816bf8f01cfea414140de5dae2223b00361a396177a9cb410ff61f20015ad
 
 abbrev user : List ℕ → User
 user name = record { name = name; digest = digest }
+
+-- users without groups
+abbrev only : List User → Users
+only people = record { people = people; groups = [] }
 
 -- the line of a user whose password is `abc`
 abbrev user_line : List ℕ → List ℕ
@@ -24,20 +28,20 @@ lines_of numbers = flat_map (λ number. user_line (name_of number)) numbers
 -- Lines
 
 -- a file without users
-pub empty_file : users_of [] ≡ Ok []
+pub empty_file : users_of [] ≡ Ok (only [])
 unfolding users_of users_fault
 empty_file = refl
 
-pub one_user : users_of (user_line (codes "alice")) ≡ Ok (user (codes "alice") ∷ [])
+pub one_user : users_of (user_line (codes "alice")) ≡ Ok (only (user (codes "alice") ∷ []))
 unfolding users_of users_fault
 one_user = refl
 
 -- numbers go by the lines of users
-pub users_in_order : users_of (user_line (codes "bob") ++ (codes "\n# c\n" ++ user_line (codes "alice"))) ≡ Ok (user (codes "bob") ∷ user (codes "alice") ∷ [])
+pub users_in_order : users_of (user_line (codes "bob") ++ (codes "\n# c\n" ++ user_line (codes "alice"))) ≡ Ok (only (user (codes "bob") ∷ user (codes "alice") ∷ []))
 unfolding users_of users_fault
 users_in_order = refl
 
-pub comment_of_any_octets : users_of (codes "# x" ++ (255 ∷ 0 ∷ codes "\n")) ≡ Ok []
+pub comment_of_any_octets : users_of (codes "# x" ++ (255 ∷ 0 ∷ codes "\n")) ≡ Ok (only [])
 unfolding users_of users_fault
 comment_of_any_octets = refl
 
@@ -69,7 +73,7 @@ digest_in_capitals = refl
 
 -- Names
 
-pub every_name_octet : users_of (user_line (codes "a-b_c.9")) ≡ Ok (user (codes "a-b_c.9") ∷ [])
+pub every_name_octet : users_of (user_line (codes "a-b_c.9")) ≡ Ok (only (user (codes "a-b_c.9") ∷ []))
 unfolding users_of users_fault
 every_name_octet = refl
 
@@ -81,7 +85,7 @@ pub name_in_capitals : users_of (user_line (codes "alice") ++ user_line (codes "
 unfolding users_of users_fault
 name_in_capitals = refl
 
-pub longest_name : users_of (user_line (replicate 32 97)) ≡ Ok (user (replicate 32 97) ∷ [])
+pub longest_name : users_of (user_line (replicate 32 97)) ≡ Ok (only (user (replicate 32 97) ∷ []))
 unfolding users_of users_fault
 longest_name = refl
 
@@ -108,3 +112,45 @@ as_many_users_as_there_may_be = refl
 pub one_user_too_many : users_fault (lines_of (numbers_between 0 34)) ≡ Some 2400
 unfolding users_fault counted_from
 one_user_too_many = refl
+
+-- Groups
+
+abbrev alice_bob_carol : List ℕ
+alice_bob_carol = user_line (codes "alice") ++ (user_line (codes "bob") ++ user_line (codes "carol"))
+
+abbrev three : List User
+three = user (codes "alice") ∷ user (codes "bob") ∷ user (codes "carol") ∷ []
+
+-- the members are numbered, in whatever order they are named
+pub two_groups : users_of (alice_bob_carol ++ codes "group team carol bob\n#\ngroup a-b_c.9 alice\n")
+    ≡ Ok (record { people = three; groups = record { name = codes "team"; members = 1 ∷ 2 ∷ [] } ∷ record { name = codes "a-b_c.9"; members = 0 ∷ [] } ∷ [] })
+unfolding users_of users_fault
+two_groups = refl
+
+pub unknown_member : users_of (alice_bob_carol ++ codes "group team dave\n") ≡ Err 226
+unfolding users_of users_fault
+unknown_member = refl
+
+pub member_of_a_later_line : users_of (user_line (codes "alice") ++ (codes "group team bob\n" ++ user_line (codes "bob"))) ≡ Err 76
+unfolding users_of users_fault
+member_of_a_later_line = refl
+
+pub group_as_a_member : users_of (alice_bob_carol ++ codes "group a bob\ngroup b a\n") ≡ Err 238
+unfolding users_of users_fault
+group_as_a_member = refl
+
+pub member_twice : users_of (alice_bob_carol ++ codes "group team bob bob\n") ≡ Err 226
+unfolding users_of users_fault
+member_twice = refl
+
+pub no_member : (users_of (alice_bob_carol ++ codes "group team\n") ≡ Err 226) × (users_of (alice_bob_carol ++ codes "group team \n") ≡ Err 226)
+unfolding users_of users_fault
+no_member = (refl, refl)
+
+pub group_named_as_a_user : users_of (alice_bob_carol ++ codes "group bob carol\n") ≡ Err 226
+unfolding users_of users_fault
+group_named_as_a_user = refl
+
+pub user_named_as_a_group : users_of (user_line (codes "alice") ++ (codes "group bob alice\n" ++ user_line (codes "bob"))) ≡ Err 92
+unfolding users_of users_fault
+user_named_as_a_group = refl
