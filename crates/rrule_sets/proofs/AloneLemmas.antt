@@ -1,6 +1,6 @@
 -- The rows of a window of an object without overrides: those of its master in the digits of the window, as they stand.
-use Rattle.std.proofs.Common.{◌≡◌, ℕ, ◌+◌, ◌≤◌, List, [], ◌∷◌, length, refl, sym, ap, subst, ◌∙◌, arith, Bool, true, false, ℤ, pos, ◌+ℤ◌, ◌-ℤ◌, ◌*ℤ◌, ◌≤ℤ◌, ◌<ℤ◌, ◌++◌, inl, inr}
-use Rattle.std.specs.Prelude.{All, AllPairs, filter, flat_map, int_le, int_lt, is_some, option_to_list, Option, Some, None}
+use Rattle.std.proofs.Common.{◌≡◌, ℕ, ◌+◌, ◌≤◌, List, [], ◌∷◌, length, refl, sym, ap, ap₂, subst, ◌∙◌, arith, Bool, true, false, ℤ, pos, ◌+ℤ◌, ◌-ℤ◌, ◌*ℤ◌, ◌≤ℤ◌, ◌<ℤ◌, ◌++◌, inl, inr}
+use Rattle.std.specs.Prelude.{All, AllPairs, filter, flat_map, int_le, int_lt, is_some, option_to_list, if◌then◌else◌, Option, Some, None}
 use Rattle.std.specs.List.{list_any}
 use Rattle.std.proofs.lemmas.Int.{ints}
 use Rattle.std.proofs.lemmas.Bool.{cases_Bool}
@@ -14,11 +14,12 @@ use Rattle.cal_model.specs.declared.row.Row.{Row}
 use Rattle.cal_model.specs.declared.zone.ZoneTable.{ZoneTable}
 use Rattle.cal_model.specs.Instances.Alignment.{reading_of, value_of}
 use Rattle.cal_model.specs.Instances.Starts.{own_start, starts_from}
-use Rattle.cal_model.specs.Instances.Rows.{Numbered, ids_start, in_order, lies_in_window, masters, put_row, rows_in, window_at, window_seconds}
+use Rattle.cal_model.specs.Instances.Rows.{Governor, Numbered, governors, has_id, ids_start, in_order, is_named, lies_in_window, masters, move_of, moves_later, named_by, numbered_from, overrides, put_row, rows_in, starts, window_at, window_seconds}
 use Rattle.cal_model.specs.Ranges.Cost.{cost, last_day}
 use Rattle.cal_model.specs.Ranges.Nearness.{HasShortOffsets}
 use Rattle.cal_model.specs.Recurrence.RecurrenceSet.{every_moment}
 use Rattle.cal_model.specs.Words.Integers.{same_int}
+use Rattle.cal_model.proofs.Instances.KeptStarts.{governors-none, stand_in, stand_in_by}
 use Rattle.cal_model.proofs.Instances.RisingLists.{AllPairs-head, AllPairs-tail}
 use Rattle.cal_model.proofs.Instances.RowsInOrder.{StandsAt, masters_stand}
 use Rattle.cal_model.proofs.Ranges.NearRanges.{window-holds}
@@ -26,6 +27,7 @@ use Rattle.cal_model.proofs.Ranges.RowBounds.{local-near}
 use Rattle.cal_model.proofs.Words.AllLemmas.{All-everywhere, All-flat_map, All-option}
 use Rattle.cal_model.proofs.Words.EachLemmas.{both_hold}
 use Rattle.cal_model.proofs.Words.IntegerLemmas.{same_int-self}
+use Rattle.override_merge.specs.NamedStarts.{days_in}
 use Rattle.override_merge.specs.declared.rows.Part.TheVariants as part
 use Rattle.override_merge.proofs.MergeLemmas.{merged_alone}
 use Rattle.rrule_sets.specs.declared.range.Digits.{Digits}
@@ -33,12 +35,12 @@ use Rattle.rrule_sets.specs.AskedStarts.{instance_row, instances_in}
 use Rattle.rrule_sets.specs.DigitRanges.{starts_in}
 use Rattle.rrule_sets.specs.MasterRows.{masters_cost, masters_from, rows_of_master}
 use Rattle.rrule_sets.specs.NearRows.{HasLesserId, LiesWhereInner, is_inner, is_near}
-use Rattle.rrule_sets.specs.NeededDigits.{EndsBy, HasDay, HasRange, HasWindow, days_needed, days_of_start, overrides_in}
+use Rattle.rrule_sets.specs.NeededDigits.{EndsBy, HasDay, HasMoved, HasRange, HasWindow, days_needed, days_of_start, overrides_in}
 use Rattle.rrule_sets.proofs.CostLemmas.{window_counted}
 use Rattle.rrule_sets.proofs.NearRowLemmas.{filter_both, not_below, not_from}
 use Rattle.rrule_sets.proofs.OnceLemmas.{dated_kind}
 use Rattle.rrule_sets.proofs.SeveralLemmas.{filter-all, rows_by_id, window_found_near}
-use Rattle.rrule_sets.proofs.WindowLemmas.{ends_by_last, filter-none, window_found}
+use Rattle.rrule_sets.proofs.WindowLemmas.{HasMovedBy, HasTheirDays, ends_by_last, filter-none, keeps, window_found}
 
 -- no component is an override
 abbrev pub IsAlone : List Component → Type 0
@@ -80,14 +82,44 @@ no_looks (c ∷ cs) alone = elim (cases_Bool (is_some c.recurrence_id)) [
   | inr w ↦ (let rest = no_looks cs (rw w at alone) in rw w (omega (arith, rest)))
 ]
 
-pub alone_counted : (object : Object) (window : ℤ) (before made : ℕ) → IsAlone object.components → made ≤ before + masters_cost (last_day object window) (masters_from 0 object.components) → made + 1 ≤ before + cost object window
+pub alone_counted : (object : Object) (window : ℤ) (before made : ℕ) → IsAlone object.components → made ≤ before + masters_cost (last_day every_moment object window) (masters_from 0 object.components) → made + 1 ≤ before + cost object window
 alone_counted object window before made alone spent =
     let none = no_looks object.components alone in
     window_counted object window before before made (omega (arith, none)) spent
 
+-- and no start is moved
+
+no_overrides : (k : ℕ) (cs : List Component) → IsAlone cs → filter has_id (numbered_from k cs) ≡ []
+no_overrides k [] alone = refl
+no_overrides k (c ∷ cs) alone = elim (cases_Bool (is_some c.recurrence_id)) [
+  | inl w ↦ absurd (let e = rw w at alone in cc)
+  | inr w ↦ rw w (no_overrides (k + 1) cs (rw w at alone))
+]
+
+none_later : (object : Object) → IsAlone object.components → list_any moves_later (overrides object) ≡ false
+none_later object alone = ap (list_any moves_later) (no_overrides 0 object.components alone)
+
+as_made : (object : Object) (ids : Stamp) (all : List ℤ) (rows : List Row) → IsAlone object.components → flat_map (stand_in object ids all) rows ≡ rows
+as_made object ids all [] alone = refl
+as_made object ids all (row ∷ rows) alone =
+    ap₂ (λ (xs ys : List Row). xs ++ ys) (ap (λ gs. if is_named object ids row.id then row ∷ [] else stand_in_by object ids row (filter (λ (g : Governor). int_lt g.id row.id) gs)) (governors-none object ids all (none_later object alone)) ∙ same (is_named object ids row.id))
+    (as_made object ids all rows alone)
+  where
+    same : (b : Bool) → (if b then row ∷ [] else row ∷ []) ≡ row ∷ []
+    same true = refl
+    same false = refl
+
+alone_moved : (object : Object) (ids : Stamp) (window : ℤ) (range : Digits) (aligned : Some ids ≡ ids_start object) (n : ℕ) → IsAlone object.components → HasMovedBy object ids window range aligned n
+alone_moved object ids window range aligned n alone =
+    subst (All (λ g. HasMoved n window range (move_of object.zones g))) (sym (governors-none object ids (starts every_moment object) (none_later object alone))) (All-nil (λ g. HasMoved n window range (move_of object.zones g)))
+
+alone_days : (object : Object) (ids : Stamp) (window : ℤ) (range : Digits) (aligned : Some ids ≡ ids_start object) → IsAlone object.components → HasTheirDays object ids window range aligned
+alone_days object ids window range aligned alone =
+    subst (All (λ o. moves_later o ≡ true → All (HasDay range) (days_in (named_by object.zones ids o)))) (sym (no_overrides 0 object.components alone)) (All-nil (λ o. moves_later o ≡ true → All (HasDay range) (days_in (named_by object.zones ids o))))
+
 module _ (object : Object) (ids : Stamp) (window : ℤ) (range : Digits) (aligned : Some ids ≡ ids_start object) (low : range.low ≡ window *ℤ window_seconds) (high : range.high ≡ (window +ℤ pos 1) *ℤ window_seconds) where
-  pub alone_ends : EndsBy range (last_day object window)
-  alone_ends = ends_by_last object ids window range aligned (λ z from days. omega (arith, ints, high, from))
+  pub alone_ends : EndsBy range (last_day every_moment object window)
+  alone_ends = ends_by_last object ids window range aligned (λ z from days moved. omega (arith, ints, high, from))
 
   -- the digits of a window lie in it
   window_is : (l : ℤ) → range.low ≤ℤ l → l <ℤ range.high → window_at l ≡ window
@@ -114,22 +146,24 @@ module _ (object : Object) (ids : Stamp) (window : ℤ) (range : Digits) (aligne
   all_lie = All-flat_map (λ row. lies_in_window object window row ≡ true) (rows_of_master object.zones range) (masters object)
       (All-weaker (StandsAt object false) (λ n. All (λ row. lies_in_window object window row ≡ true) (rows_of_master object.zones range n)) of_master (masters object) (masters_stand object))
 
-  pub alone_found : (rows : List Row) → length (masters object) ≤ 1 → IsAlone object.components → rows ≡ flat_map (rows_of_master object.zones range) (masters object) → rows ≡ rows_in object window
-  alone_found rows one alone made =
+  pub alone_found : (rows : List Row) → All HasShortOffsets object.zones → length (masters object) ≤ 1 → IsAlone object.components → rows ≡ flat_map (rows_of_master object.zones range) (masters object) → rows ≡ rows_in object window
+  alone_found rows short one alone made =
+      let as_moved = made ∙ sym (as_made object ids (keeps object ids range) (flat_map (rows_of_master object.zones range) (masters object)) alone) in
       let has : HasWindow window range = record { from = omega (arith, ints, low); to = omega (arith, ints, high) } in
       let days : All (HasDay range) (flat_map (days_needed object.zones ids window) object.components) = subst (All (HasDay range)) (sym (no_days object.zones ids window object.components alone)) (All-nil (HasDay range)) in
       let lie : filter (lies_in_window object window) rows ≡ rows = filter-all (lies_in_window object window) rows (subst (All (λ row. lies_in_window object window row ≡ true)) (sym made) all_lie) in
-      let rises = in_order-lesser rows (rows_by_id object ids range rows aligned one made) in
-      sym rises ∙ (ap in_order (sym lie ∙ merged_alone object ids rows (part.Window window) alone) ∙ window_found object ids window range rows aligned one has days made)
+      let rises = in_order-lesser rows (rows_by_id object ids range rows aligned one as_moved) in
+      sym rises ∙ (ap in_order (sym lie ∙ merged_alone object ids rows (part.Window window) alone) ∙ window_found 86400 (omega arith) object ids window range rows short aligned (alone_moved object ids window range aligned 86400 alone) (alone_days object ids window range aligned alone) one has days as_moved)
 
 -- the master's rows near a window that lie in it are those of the window, as they stand
 pub alone_near : (object : Object) (ids : Stamp) (window : ℤ) (whole range : Digits) (rows near : List Row) → IsAlone object.components → Some ids ≡ ids_start object → length (masters object) ≤ 1 → All HasShortOffsets object.zones →
     HasWindow window range → All (HasDay range) (flat_map (days_needed object.zones ids window) object.components) → HasRange whole range → rows ≡ flat_map (rows_of_master object.zones whole) (masters object) → near ≡ filter (is_near range) rows →
     filter (lies_in_window object window) near ≡ rows_in object window
 alone_near object ids window whole range rows near alone aligned one short has days wider made cut =
-    let rises : AllPairs HasLesserId near = subst (AllPairs HasLesserId) (sym cut) (AllPairs-filter HasLesserId (is_near range) rows (rows_by_id object ids whole rows aligned one made)) in
+    let as_moved = made ∙ sym (as_made object ids (keeps object ids whole) (flat_map (rows_of_master object.zones whole) (masters object)) alone) in
+    let rises : AllPairs HasLesserId near = subst (AllPairs HasLesserId) (sym cut) (AllPairs-filter HasLesserId (is_near range) rows (rows_by_id object ids whole rows aligned one as_moved)) in
     sym (in_order-lesser (filter (lies_in_window object window) near) (AllPairs-filter HasLesserId (lies_in_window object window) near rises))
-    ∙ (ap in_order (merged_alone object ids near (part.Window window) alone) ∙ window_found_near object ids window whole range rows near aligned one short has days wider made cut)
+    ∙ (ap in_order (merged_alone object ids near (part.Window window) alone) ∙ window_found_near 86400 (omega arith) object ids window whole range rows near short aligned (alone_moved object ids window range aligned 86400 alone) (alone_days object ids window range aligned alone) one short has days wider as_moved cut)
 
 -- What lies in a window by its id.
 

@@ -106,5 +106,5 @@ parts_cost day number (c ∷ cs) =
     ]
 
 -- the overrides that were looked at, and what the master took
-pub window_counted : (object : Object) (window : ℤ) (before looked made : ℕ) → looked ≡ before + overrides_in object.components → made ≤ looked + masters_cost (last_day object window) (masters_from 0 object.components) → made + 1 ≤ before + cost object window
-window_counted object window before looked made a b = let parts = parts_cost (last_day object window) 0 object.components in omega (arith, a, b, parts)
+pub window_counted : (object : Object) (window : ℤ) (before looked made : ℕ) → looked ≡ before + overrides_in object.components → made ≤ looked + masters_cost (last_day every_moment object window) (masters_from 0 object.components) → made + 1 ≤ before + cost object window
+window_counted object window before looked made a b = let parts = parts_cost (last_day every_moment object window) 0 object.components in omega (arith, a, b, parts)

@@ -9,6 +9,8 @@ pub mod NearRowLemmas
 pub mod NeededLemmas
 pub mod ReadLemmas
 pub mod CostLemmas
+pub mod LastDayLemmas
+pub mod HullLemmas
 pub mod WindowLemmas
 pub mod RowCounts
 pub mod SpanLemmas

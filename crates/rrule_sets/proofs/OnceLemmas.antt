@@ -5,6 +5,7 @@ use Rattle.std.proofs.lemmas.List.{append-nil}
 use Rattle.std.proofs.lemmas.List.Elements.{All-head}
 use Rattle.cal_moment.specs.declared.stamp.Stamp.{Stamp}
 use Rattle.cal_moment.specs.declared.stamp.Stamp.TheVariants.{Date, Floating, Zoned, Utc}
+use Rattle.cal_model.proofs.Instances.KeptStarts.{row_at-plain}
 use Rattle.cal_model.specs.declared.object.Component.{Component}
 use Rattle.cal_model.specs.declared.object.Object.{Object}
 use Rattle.cal_model.specs.declared.row.Row.{Row}
@@ -103,8 +104,11 @@ module _ (object : Object) (c : Component) (s : Stamp) (plain : IsPlain c) (one 
   all_starts : starts every_moment object ≡ value_of object.zones s ∷ []
   all_starts = rw (one_master, starts_plain object.zones s c (recurs c) (is_date s) plain own refl refl) refl
 
+  plain_row : row_at every_moment object s (value_of object.zones s ∷ []) (value_of object.zones s) ≡ row_from_start object.zones s c.extent ∷ []
+  plain_row = row_at-plain every_moment object s (value_of object.zones s ∷ []) (value_of object.zones s) (rw no_override refl) ∙ rw (one_master, own, end_plain object.zones s c) refl
+
   one_dated : dated_rows (row_at every_moment object) every_moment object s ≡ row_from_start object.zones s c.extent ∷ []
-  one_dated = rw (all_starts, one_master, no_override, own, end_plain object.zones s c) refl
+  one_dated = rw (all_starts, plain_row, no_override) refl
 
   one_row : rows object ≡ row_from_start object.zones s c.extent ∷ []
   one_row = rw (none_undated, ids_own, one_dated) refl

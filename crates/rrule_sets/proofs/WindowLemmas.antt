@@ -1,11 +1,11 @@
 -- The starts in the digits that a window needs are enough to find its rows, and cost no more than the window does.
-use Rattle.std.proofs.Common.{◌≡◌, ℕ, ◌+◌, ◌*◌, ◌≤◌, List, [], ◌∷◌, ◌++◌, length, map, refl, sym, ap, ap₂, subst, ◌∙◌, arith, Bool, true, false, ℤ, pos, negsuc, ◌+ℤ◌, ◌*ℤ◌, ◌<ℤ◌, ◌≤ℤ◌, inl, inr}
+use Rattle.std.proofs.Common.{◌≡◌, ℕ, ◌+◌, ◌*◌, ◌<◌, ◌≤◌, get_or, List, [], ◌∷◌, ◌++◌, length, map, refl, sym, ap, ap₂, subst, ◌∙◌, arith, Bool, true, false, ℤ, pos, negsuc, ◌+ℤ◌, ◌-ℤ◌, ◌*ℤ◌, ◌<ℤ◌, ◌≤ℤ◌, inl, inr}
 use Rattle.std.specs.Prelude.{All, filter, filter_map, flat_map, not, int_le, int_lt, option_to_list, is_none, option_and_then, slice_get, Option, Some, None, if◌then◌else◌}
 use Rattle.std.specs.Int.{int_div_euclid}
 use Rattle.std.proofs.lemmas.Int.{ints}
 use Rattle.std.proofs.lemmas.Bool.{cases_Bool}
 use Rattle.std.proofs.lemmas.List.{append-nil}
-use Rattle.std.proofs.lemmas.List.Elements.{All-head, All-tail, All-nil, All-cons, All-append, All-map, All-filter, All-weaker, filter_map-append}
+use Rattle.std.proofs.lemmas.List.Elements.{All-head, All-tail, All-nil, All-cons, All-append, All-map, All-filter, All-weaker, All-contains, filter_map-append}
 use Rattle.cal_moment.specs.Calendar.{epoch_day, seconds_since_1970}
 use Rattle.cal_moment.specs.declared.stamp.Stamp.{Stamp}
 use Rattle.cal_moment.specs.declared.stamp.Stamp.TheVariants.{Date, Floating, Zoned, Utc}
@@ -19,14 +19,19 @@ use Rattle.cal_model.specs.declared.row.Row.{Row}
 use Rattle.cal_model.specs.declared.zone.ZoneTable.{ZoneTable}
 use Rattle.cal_model.specs.Instances.Alignment.{Aligned, at, on_day, align, kind_of, midnight_of, names_start, reading_of, value_of}
 use Rattle.cal_model.specs.Instances.Starts.{end_from, end_of_instance, own_start, own_start_of, start_or_due, starts_from, starts_of}
-use Rattle.cal_model.specs.Instances.Rows.{Numbered, dated_rows, first_of, has_id, ids_start, in_order, is_named, lies_in_window, master_row, master_stamp, masters, named_by, nominal_beside, numbered, numbered_from, override_row, overrides, row_at, row_of, rows_in, starts, undated_row, undated_rows, window_at, window_seconds}
+use Rattle.cal_model.specs.Instances.Rows.{Numbered, dated_rows, first_of, has_id, ids_start, in_order, is_named, lies_in_window, Governor, governors, moves_later, move_of, id_of_override, master_row, master_rows, master_stamp, masters, named_by, nominal_beside, numbered, numbered_from, override_row, overrides, row_at, row_of, rows_in, starts, undated_row, undated_rows, window_at, window_seconds}
 use Rattle.cal_model.specs.Objects.ObjectFacts.{IsReadObject}
-use Rattle.cal_model.specs.Ranges.Cost.{day_named, days_named_from, greatest, last_day, last_of_window, natural_part, number_of_day}
+use Rattle.cal_model.specs.Ranges.Cost.{day_named, days_apart, days_earlier, days_named_from, greatest, last_day, last_of_window, natural_part, number_of_day}
 use Rattle.cal_model.specs.Recurrence.RecurrenceSet.{every_moment}
 use Rattle.cal_model.specs.Words.Integers.{same_int}
 use Rattle.cal_model.proofs.Instances.DayLaws.{midnight_of-holds, midnight_of-is}
 use Rattle.cal_model.proofs.Instances.EachRowLemmas.{All-greatest, All-numbered_from}
-use Rattle.cal_model.proofs.Instances.RowsInOrder.{StandsAt, ids_of_master, masters_stand, overrides_stand}
+use Rattle.cal_model.proofs.Instances.GovernedRows.{Governs, row_at-holds, moved_to, moved_row-holds}
+use Rattle.cal_model.proofs.Instances.KeptStarts.{stand_in, rows-stand_in}
+use Rattle.cal_model.proofs.Instances.RowsInOrder.{StandsAt, IsGovernor, governors_known, GiveSameId, HasOneRow, ids_of_master, master_has, same_own_rows, ids-given, masters_stand, overrides_stand}
+use Rattle.cal_model.proofs.Ranges.MovedWindows.{moved-by_last, moved-near_window}
+use Rattle.cal_model.specs.Ranges.Nearness.{HasOffsetsBelow}
+use Rattle.cal_model.specs.Words.Lists.{first_or_else}
 use Rattle.cal_model.proofs.Instances.ServedStarts.{IsStatedBy, starts-served}
 use Rattle.cal_model.proofs.Ranges.NearRanges.{window-holds}
 use Rattle.cal_model.proofs.Ranges.WindowLaws.{lies_in_window-one}
@@ -38,8 +43,9 @@ use Rattle.rrule_sets.specs.declared.range.Digits.{Digits}
 use Rattle.rrule_sets.specs.AskedStarts.{IsExpandable, instance_row, instances_in}
 use Rattle.rrule_sets.specs.DigitRanges.{in_digits, starts_in}
 use Rattle.rrule_sets.specs.MasterRows.{masters_from, rows_of_master}
-use Rattle.rrule_sets.specs.NeededDigits.{EndsBy, HasDay, HasWindow, days_needed, days_of_start, id_days}
-use Rattle.rrule_sets.proofs.WindowedRows.{KeepsNamed, KeepsNamedBy, KeepsWindow, rows_in-kept}
+use Rattle.rrule_sets.specs.NeededDigits.{EndsBy, HasDay, HasMoved, HasWindow, days_needed, days_of_start, id_days}
+use Rattle.rrule_sets.proofs.LastDayLemmas.{moved_within, named_within, window_within}
+use Rattle.rrule_sets.proofs.WindowedRows.{KeepsGoverning, KeepsNamed, KeepsNamedBy, KeepsWindow, filter_within, rows_in-kept}
 
 pub filter-none : {X : Type 0} (p : X → Bool) (xs : List X) → All (λ x. p x ≡ false) xs → filter p xs ≡ []
 filter-none p [] all = refl
@@ -137,8 +143,34 @@ module _ (object : Object) (ids : Stamp) (window : ℤ) (range : Digits) (aligne
       (λ s own. not_there n s (row_of r r (end_of_instance every_moment object.zones s n.component r) n.number (kind_of ids) (kind_of s)) has stands own (ids_own object ids s n [] aligned e own) refl out)))
   of_masters r (n ∷ m ∷ ns) e one has stand out = absurd (omega (arith, one))
 
-  pub keeps_window : length (masters object) ≤ 1 → HasWindow window range → KeepsWindow every_moment object ids window keep
-  keeps_window one has = λ r out. filter-none lies (flat_map (master_row every_moment object ids r) (masters object)) (of_masters r (masters object) refl one has (masters_stand object) out)
+  -- a start whose row an override moves into the window
+  moved_there : (n : ℕ) (r : ℤ) (g : Governor) → 0 < n → All (HasOffsetsBelow n) object.zones → HasMoved n window range (move_of object.zones g) → StandsAt object true g.override → own_start g.override.component ≡ Some g.start → lies (moved_to object ids r g) ≡ true → keep r ≡ true
+  moved_there n r g some short moved stands own w =
+      let there = row_there true g.override g.start (moved_to object ids r g) stands own refl w in
+      let near = moved-near_window n some object.zones ids g r window short there in
+      let from = moved.from in
+      let to = moved.to in
+      in_digits-of range ((reading_of object.zones ids).local r) (omega (arith, ints, near, from)) (omega (arith, ints, near, to))
+
+  -- the overrides that govern move no start into the window that isn't kept
+  abbrev pub HasMovedBy : ℕ → Type 0
+  HasMovedBy n = All (λ g. HasMoved n window range (move_of object.zones g)) (governors object ids (starts every_moment object))
+
+  pub keeps_window : (n : ℕ) → 0 < n → All (HasOffsetsBelow n) object.zones → HasMovedBy n → length (masters object) ≤ 1 → HasWindow window range → KeepsWindow every_moment object ids window keep
+  keeps_window n some short moved one has = λ r out.
+      row_at-holds (λ rows. filter lies rows ≡ []) every_moment object ids (starts every_moment object) r
+      (filter-none lies (flat_map (master_row every_moment object ids r) (masters object)) (of_masters r (masters object) refl one has (masters_stand object) out))
+      (λ g governs. moved_row-holds (λ rows. filter lies rows ≡ []) object ids r g refl
+      (λ served. filter-none lies (moved_to object ids r g ∷ []) (All-cons (λ row. lies row ≡ false) (moved_to object ids r g) [] (not_moved r g governs out) (All-nil (λ row. lies row ≡ false)))))
+    where
+      not_moved : (r : ℤ) (g : Governor) → Governs object ids (starts every_moment object) r g → keep r ≡ false → lies (moved_to object ids r g) ≡ false
+      not_moved r g governs out =
+          let known = All-contains (IsGovernor object ids (starts every_moment object)) (governors object ids (starts every_moment object)) g (governors_known object ids (starts every_moment object)) governs.among in
+          let its = All-contains (λ h. HasMoved n window range (move_of object.zones h)) (governors object ids (starts every_moment object)) g moved governs.among in
+          elim (cases_Bool (lies (moved_to object ids r g))) [
+            | inl w ↦ absurd (let kept = moved_there n r g some short its known.stands known.own w in cc)
+            | inr w ↦ w
+          ]
 
   -- Overrides.
 
@@ -170,6 +202,32 @@ module _ (object : Object) (ids : Stamp) (window : ℤ) (range : Digits) (aligne
       (λ i j c e found. All-slice_get (λ (c : Component). All (HasDay range) (days_needed object.zones ids window c)) object.components i c each found)) in
       λ k d lt. by_override _ (overrides_stand object k d lt) (at_number k d lt)
 
+  -- Overrides that move later instances.
+
+  -- the range has the local days that they name
+  abbrev pub HasTheirDays : Type 0
+  HasTheirDays = All (λ n. moves_later n ≡ true → All (HasDay range) (days_in (named_by object.zones ids n))) (overrides object)
+
+  -- starts that are kept with those of the range tell the ids by which overrides govern
+  pub governing_by : (kept_too : ℤ → Bool) → ((r : ℤ) → keep r ≡ true → kept_too r ≡ true) → HasTheirDays → KeepsGoverning every_moment object ids window kept_too
+  governing_by kept_too wider days =
+      All-weaker (λ n. moves_later n ≡ true → All (HasDay range) (days_in (named_by object.zones ids n))) (λ n. moves_later n ≡ true → GiveSameId object ids (starts every_moment object) kept n)
+      (λ n has later. of_days (named_by object.zones ids n) (has later)) (overrides object) days
+    where
+      kept : List ℤ
+      kept = filter kept_too (starts every_moment object)
+
+      same_id : (x : Aligned) → ((midnight r : ℤ) → x ≡ on_day midnight → names_start (reading_of object.zones ids) r (on_day midnight) ≡ true → keep r ≡ true) → id_of_override object ids (starts every_moment object) x ≡ id_of_override object ids kept x
+      same_id (at v) h = refl
+      same_id (on_day midnight) h =
+          ap (first_or_else ((reading_of object.zones ids).instant midnight)) (sym (filter_within kept_too (λ r. names_start (reading_of object.zones ids) r (on_day midnight)) (starts every_moment object) (λ r c named. wider r (h midnight r refl named))))
+
+      of_days : (xs : List Aligned) → All (HasDay range) (days_in xs) → All (λ x. id_of_override object ids (starts every_moment object) x ≡ id_of_override object ids kept x) xs
+      of_days xs has = λ k d lt. same_id (get_or xs k d) (λ midnight r e named. named_days midnight r xs has k d lt e named)
+
+  pub keeps_governing : HasTheirDays → KeepsGoverning every_moment object ids window keep
+  keeps_governing = governing_by keep (λ r kept. kept)
+
 -- The master's rows in the range.
 
 flat_map_one : {X Y : Type 0} (f : X → Y) (g : X → List Y) → ((x : X) → g x ≡ f x ∷ []) → (xs : List X) → map f xs ≡ flat_map g xs
@@ -182,6 +240,9 @@ module _ (object : Object) (ids : Stamp) (range : Digits) where
 
   abbrev kept_of : List Numbered → List ℤ
   kept_of ns = filter keep_there (flat_map (λ (n : Numbered). starts_of every_moment object.zones n.component) ns)
+
+  abbrev pub keeps : List ℤ
+  keeps = filter keep_there (starts every_moment object)
 
   abbrev rows_of : List Numbered → List Row
   rows_of ns = flat_map (λ r. flat_map (master_row every_moment object ids r) ns) (kept_of ns)
@@ -224,11 +285,18 @@ module _ (object : Object) (ids : Stamp) (range : Digits) where
   master_ids (n ∷ m ∷ ns) one = absurd (omega (arith, one))
 
   pub rows_of_masters : Some ids ≡ ids_start object → length (masters object) ≤ 1 →
-      flat_map (rows_of_master object.zones range) (masters object) ≡ flat_map (row_at every_moment object ids (filter keep_there (starts every_moment object))) (filter keep_there (starts every_moment object))
+      flat_map (rows_of_master object.zones range) (masters object) ≡ flat_map (master_rows every_moment object ids) keeps
   rows_of_masters aligned one = master_made (masters object) one (λ n rest s first own. ids_own object ids s n rest aligned first own)
 
-  pub ids_of_rows : length (masters object) ≤ 1 → map (λ (r : Row). r.id) (flat_map (row_at every_moment object ids (filter keep_there (starts every_moment object))) (filter keep_there (starts every_moment object))) ≡ filter keep_there (starts every_moment object)
-  ids_of_rows one = master_ids (masters object) one
+  -- the master has a row at each start that is kept
+  pub has_kept : length (masters object) ≤ 1 → All (HasOneRow every_moment object ids) keeps
+  has_kept one = All-filter keep_there (HasOneRow every_moment object ids) (starts every_moment object) (master_has every_moment object ids one)
+
+  -- with the governed ones moved
+  pub moved_kept : Some ids ≡ ids_start object → length (masters object) ≤ 1 →
+      flat_map (stand_in object ids keeps) (flat_map (rows_of_master object.zones range) (masters object)) ≡ flat_map (row_at every_moment object ids keeps) keeps
+  moved_kept aligned one =
+      ap (flat_map (stand_in object ids keeps)) (rows_of_masters aligned one) ∙ rows-stand_in every_moment object ids keeps keeps (has_kept one)
 
 -- they start between 1599 and 2102
 pub rows_near : (object : Object) (range : Digits) → IsReadObject object → All HasRowTimes (flat_map (rows_of_master object.zones range) (masters object))
@@ -340,28 +408,35 @@ greatest_below ns last le = All-weaker (λ k. k ≤ greatest ns) (λ k. k ≤ la
 
 -- what is needed of a window ends by the last day that it may cost
 pub ends_by_last : (object : Object) (ids : Stamp) (window : ℤ) (range : Digits) → Some ids ≡ ids_start object →
-    ((z : ℤ) → ((window +ℤ pos 1) *ℤ window_seconds) ≤ℤ z → All (λ midnight. (midnight +ℤ pos 86400) ≤ℤ z) (flat_map (days_needed object.zones ids window) object.components) → range.high ≤ℤ z) →
-    EndsBy range (last_day object window)
+    ((z : ℤ) → ((window +ℤ pos 1) *ℤ window_seconds) ≤ℤ z → All (λ midnight. (midnight +ℤ pos 86400) ≤ℤ z) (flat_map (days_needed object.zones ids window) object.components) →
+    All (λ g. (((window +ℤ pos 1) *ℤ window_seconds +ℤ pos (86400 * days_apart object)) -ℤ move_of object.zones g) ≤ℤ z) (governors object ids (starts every_moment object)) → range.high ≤ℤ z) →
+    EndsBy range (last_day every_moment object window)
 ends_by_last object ids window range aligned least =
-    let last = last_day object window in
+    let last = last_day every_moment object window in
     let days = filter_map day_named (flat_map (named_by object.zones ids) (overrides object)) in
     let same : greatest days ≡ greatest (days_named_from object (ids_start object)) = ap (λ (start : Option Stamp). greatest (days_named_from object start)) aligned in
-    let counted : greatest days ≤ last = omega (arith, same) in
+    let within = named_within object window in
+    let counted : greatest days ≤ last = omega (arith, same, within) in
     let named : All (λ k. k ≤ last) (filter_map day_named (named_beside object.zones ids object.components)) =
     subst (λ (names : List Aligned). All (λ k. k ≤ last) (filter_map day_named names)) (named_all object.zones ids 0 object.components) (greatest_below days last counted) in
-    least (seconds_since_1970 (86400 * (last + 1))) (window_by window last (omega arith)) (all_needed last object.zones ids window object.components named)
+    least (seconds_since_1970 (86400 * (last + 1))) (window_by window last (window_within object window)) (all_needed last object.zones ids window object.components named)
+    (All-weaker (λ g. last_of_window window + (days_apart object + days_earlier (move_of object.zones g)) ≤ last) (λ g. (((window +ℤ pos 1) *ℤ window_seconds +ℤ pos (86400 * days_apart object)) -ℤ move_of object.zones g) ≤ℤ seconds_since_1970 (86400 * (last + 1)))
+    (λ g le. let by = moved-by_last (21600 * days_apart object) (days_apart object) (move_of object.zones g) window last (omega arith) le in omega (arith, ints, by)) (governors object ids (starts every_moment object)) (moved_within object ids window aligned))
 
--- The rows of a window are made of the master's rows in the digits that it needs.
-pub window_found : (object : Object) (ids : Stamp) (window : ℤ) (range : Digits) (rows : List Row) → Some ids ≡ ids_start object → length (masters object) ≤ 1 → HasWindow window range →
-    All (HasDay range) (flat_map (days_needed object.zones ids window) object.components) → rows ≡ flat_map (rows_of_master object.zones range) (masters object) →
+-- The rows of a window are made of the rows of the starts in the digits that it needs.
+pub window_found : (n : ℕ) → 0 < n → (object : Object) (ids : Stamp) (window : ℤ) (range : Digits) (rows : List Row) → All (HasOffsetsBelow n) object.zones → (aligned : Some ids ≡ ids_start object) → HasMovedBy object ids window range aligned n → HasTheirDays object ids window range aligned →
+    length (masters object) ≤ 1 → HasWindow window range →
+    All (HasDay range) (flat_map (days_needed object.zones ids window) object.components) → rows ≡ flat_map (stand_in object ids (keeps object ids range)) (flat_map (rows_of_master object.zones range) (masters object)) →
     in_order (filter (lies_in_window object window) (flat_map (override_row object ids (map (λ (r : Row). r.id) rows)) (overrides object)) ++ filter (lies_in_window object window) (filter (λ (r : Row). not (is_named object ids r.id)) rows)) ≡ rows_in object window
-window_found object ids window range rows aligned one has days made =
+window_found n some object ids window range rows short aligned moved their_days one has days made =
     let keep_it : ℤ → Bool = λ r. starts_in object.zones ids range r in
     let kept = filter keep_it (starts every_moment object) in
-    let all : rows ≡ flat_map (row_at every_moment object ids kept) kept = made ∙ rows_of_masters object ids range aligned one in
-    let its_ids : map (λ (r : Row). r.id) rows ≡ kept = ap (map (λ (r : Row). r.id)) all ∙ ids_of_rows object ids range one in
-    ap₂ (λ (xs : List ℤ) (rs : List Row). in_order (filter (lies_in_window object window) (flat_map (override_row object ids xs) (overrides object)) ++ filter (lies_in_window object window) (filter (λ (r : Row). not (is_named object ids r.id)) rs))) its_ids all
-    ∙ sym (rows_in-kept every_moment object ids window keep_it (keeps_window object ids window range aligned one has) (keeps_named object ids window range aligned days) (sym aligned) one)
+    let all : rows ≡ flat_map (row_at every_moment object ids kept) kept = made ∙ moved_kept object ids range aligned one in
+    let own : flat_map (override_row object ids (map (λ (r : Row). r.id) rows)) (overrides object) ≡ flat_map (override_row object ids kept) (overrides object) =
+    ap (λ rs. flat_map (override_row object ids (map (λ (r : Row). r.id) rs)) (overrides object)) all
+    ∙ same_own_rows object ids (map (λ (r : Row). r.id) (flat_map (row_at every_moment object ids kept) kept)) kept (ids-given every_moment object ids kept kept (has_kept object ids range one)) in
+    ap₂ (λ (xs rs : List Row). in_order (filter (lies_in_window object window) xs ++ filter (lies_in_window object window) (filter (λ (r : Row). not (is_named object ids r.id)) rs))) own all
+    ∙ sym (rows_in-kept every_moment object ids window keep_it (keeps_window object ids window range aligned n some short moved one has) (keeps_named object ids window range aligned days) (keeps_governing object ids window range aligned their_days) (sym aligned) one)
 
 -- the first master has what each component has
 pub expandable_master : (zones : ℕ) (cs : List Component) (m : Numbered) (rest : List Numbered) → All (IsExpandable zones) cs → masters_from 0 cs ≡ m ∷ rest → IsExpandable zones m.component

@@ -12,11 +12,13 @@ use Rattle.cal_model.specs.Instances.Alignment.{Aligned, at, on_day, reading_of,
 use Rattle.cal_model.specs.Instances.Starts.{own_start, end_from}
 use Rattle.cal_model.specs.Instances.Rows.{Numbered, overrides, masters, ids_start, named_by, is_named, id_of_override, row_of, starts, row_at, override_row, override_row_from, in_order, lies_in_window, rows_in_over}
 use Rattle.cal_model.proofs.Instances.RisingLists.{Contains-there}
-use Rattle.cal_model.proofs.Instances.RowsInOrder.{kept_instances, rows_in-parts}
+use Rattle.cal_model.proofs.Instances.RowsInOrder.{flat_map_same, kept_instances, rows_in-parts}
+use Rattle.cal_model.proofs.Instances.KeptStarts.{GoverningsAgree, row_at-same}
+use Rattle.cal_model.proofs.Words.AllLemmas.{All-everywhere}
 
 -- Filters.
 
-filter_within : {X : Type 0} (p q : X → Bool) → (xs : List X) → ((x : X) → Contains xs x → q x ≡ true → p x ≡ true) → filter q (filter p xs) ≡ filter q xs
+pub filter_within : {X : Type 0} (p q : X → Bool) → (xs : List X) → ((x : X) → Contains xs x → q x ≡ true → p x ≡ true) → filter q (filter p xs) ≡ filter q xs
 filter_within p q [] h = refl
 filter_within p q (x ∷ xs) h = elim (cases_Bool (p x)) [
   | inl w ↦ elim (cases_Bool (q x)) [
@@ -106,12 +108,16 @@ module _ (moments : List ℕ) (object : Object) (ids : Stamp) (window : ℤ) (ke
       rw (filter-append lies (override_row object ids (starts moments object) n) (flat_map (override_row object ids (starts moments object)) ns), filter-append lies (override_row object ids kept_starts n) (flat_map (override_row object ids kept_starts) ns))
       (ap₂ (λ xs ys. xs ++ ys) (own_rows_of n (All-head KeepsNamedBy n ns named) (own_start n.component) refl) (own_rows_from ns (All-tail KeepsNamedBy n ns named)))
 
+  -- the starts that are kept tell which overrides govern
+  abbrev pub KeepsGoverning : Type 0
+  KeepsGoverning = GoverningsAgree object ids (starts moments object) kept_starts
+
   -- The rows of a window are made of the starts that are kept.
-  pub rows_in-kept : KeepsWindow → KeepsNamed → ids_start object ≡ Some ids → length (masters object) ≤ 1 →
+  pub rows_in-kept : KeepsWindow → KeepsNamed → KeepsGoverning → ids_start object ≡ Some ids → length (masters object) ≤ 1 →
       rows_in_over moments object window ≡
       in_order (filter lies (flat_map (override_row object ids kept_starts) (overrides object))
       ++ filter lies (filter (λ (r : Row). not (is_named object ids r.id)) (flat_map (row_at moments object ids kept_starts) kept_starts)))
-  rows_in-kept within named start one =
+  rows_in-kept within named governing start one =
       rows_in-parts moments object ids window start one
       ∙ ap in_order (ap₂ (λ xs ys. xs ++ ys) (own_rows_from (overrides object) named) kept)
     where
@@ -122,4 +128,7 @@ module _ (moments : List ℕ) (object : Object) (ids : Stamp) (window : ℤ) (ke
       kept =
           filter_swap lies (λ (r : Row). not (is_named object ids r.id)) (flat_map (row_at moments object ids (starts moments object)) (starts moments object))
           ∙ (ap (filter (λ (r : Row). not (is_named object ids r.id))) (filter_flat_map lies keep (row_at moments object ids (starts moments object)) within (starts moments object))
-          ∙ filter_swap (λ (r : Row). not (is_named object ids r.id)) lies (flat_map (row_at moments object ids kept_starts) kept_starts))
+          ∙ (filter_swap (λ (r : Row). not (is_named object ids r.id)) lies (flat_map (row_at moments object ids (starts moments object)) kept_starts)
+          ∙ ap (λ rows. filter lies (filter (λ (r : Row). not (is_named object ids r.id)) rows))
+          (flat_map_same (row_at moments object ids (starts moments object)) (row_at moments object ids kept_starts) kept_starts
+          (All-everywhere (λ r. row_at moments object ids (starts moments object) r ≡ row_at moments object ids kept_starts r) (λ r. row_at-same moments object ids (starts moments object) kept_starts r governing) kept_starts))))

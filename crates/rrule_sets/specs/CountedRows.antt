@@ -1,5 +1,5 @@
 -- How many rows an object has, from its components and the starts of its master that nothing takes away.
-use Rattle.std.specs.Prelude.{◌≡◌, ℕ, ◌*◌, ◌<◌, ◌≤◌, Bool, not, ◌||◌, AllPairs, MatchOption, Option, is_none, is_some, if◌then◌else◌, List, [], ◌∷◌, ◌++◌, length, map, filter, flat_map, option_to_list, ℤ}
+use Rattle.std.specs.Prelude.{◌≡◌, ℕ, ◌*◌, ◌<◌, ◌≤◌, Bool, false, not, ◌||◌, AllPairs, MatchOption, Option, int_lt, is_none, is_some, if◌then◌else◌, List, [], ◌∷◌, ◌++◌, length, map, filter, flat_map, option_to_list, ℤ}
 use Rattle.std.specs.List.{list_any}
 use Rattle.cal_moment.specs.declared.stamp.Period.{Period}
 use Rattle.cal_moment.specs.declared.stamp.Stamp.{Stamp}
@@ -9,7 +9,7 @@ use Rattle.cal_model.specs.declared.rule.Rule.{Rule}
 use Rattle.cal_model.specs.declared.zone.ZoneTable.{ZoneTable}
 use Rattle.cal_model.specs.Instances.Alignment.{names_start, reading_of, value_of, written_moment}
 use Rattle.cal_model.specs.Instances.Starts.{ascending, date_start, own_start, recurs, starts_from}
-use Rattle.cal_model.specs.Instances.Rows.{Numbered}
+use Rattle.cal_model.specs.Instances.Rows.{Governor, Numbered, are_served, governors, greatest_id, moved_digits, starts}
 use Rattle.cal_model.specs.Recurrence.NextPassing.{end_day}
 use Rattle.cal_model.specs.Recurrence.RecurrenceSet.{Reading, every_moment, first_moment, later_moments}
 use Rattle.cal_model.specs.Walks.KeptMoments.{starts_by}
@@ -63,13 +63,21 @@ other_starts zones s c = value_of zones s ∷ map (date_start zones s) (dates_in
 abbrev pub left_starts : List ZoneTable → Stamp → Component → Taken → List ℤ
 left_starts zones s c taken = ascending (filter (is_left (reading_of zones s) taken) (other_starts zones s c) ++ filter (is_left (reading_of zones s) taken) (flat_map (all_later zones s) (rules_in c)))
 
+-- whether the override that governs a start moves it out of the dates that are served
+abbrev pub moves_out : Object → ℤ → List Governor → Bool
+moves_out object r [] = false
+moves_out object r (g ∷ gs) = not (are_served (moved_digits object.zones (greatest_id g gs) r))
+
+abbrev pub is_moved_out : Object → Stamp → ℤ → Bool
+is_moved_out object ids r = moves_out object r (filter (λ (g : Governor). int_lt g.id r) (governors object ids (starts every_moment object)))
+
 -- the starts of a component that none of some components names
 abbrev pub unnamed_starts : List ZoneTable → Stamp → Component → List Component → List ℤ
 unnamed_starts zones s c components = filter (λ r. not (list_any (names_start (reading_of zones s) r) (named_beside zones s components))) (starts_from every_moment zones c (own_start c))
 
--- those of the master that no override names
+-- those of the master that no override names, and none moves out of the dates that are served
 abbrev pub starts_of_master : Object → Numbered → List ℤ
-starts_of_master object n = flat_map (λ s. unnamed_starts object.zones s n.component object.components) (option_to_list (own_start n.component))
+starts_of_master object n = flat_map (λ s. filter (λ r. not (is_moved_out object s r)) (unnamed_starts object.zones s n.component object.components)) (option_to_list (own_start n.component))
 
 abbrev pub master_starts : Object → List ℤ
 master_starts object = flat_map (starts_of_master object) (masters_from 0 object.components)

@@ -27,7 +27,7 @@ returns-else-has_overrides-clause-steps g c =
     let high = simp to_z-of_z at c.window_digits-range.ensures.high in
     let alone = rw c.as_slice-components.ensures at (sym c.has_overrides.ensures ∙ c.if-has_overrides.false) in
     let ends = alone_ends object c.args.ids c.args.window c.window_digits-range.result c.requires.ids low high in
-    let spent = rw c.as_slice-components.ensures at (c.master_rows.ensures.steps (last_day object c.args.window) ends) in
+    let spent = rw c.as_slice-components.ensures at (c.master_rows.ensures.steps (last_day every_moment object c.args.window) ends) in
     alone_counted object c.args.window c.args.steps.now c.master_rows.new.steps alone spent
 
 pub returns-else-has_overrides-clause-rows : goal.returns-else-has_overrides-clause-rows

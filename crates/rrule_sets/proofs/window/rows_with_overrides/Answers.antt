@@ -49,7 +49,7 @@ returns-in_err-rows-clause-steps g c =
     let least = simp to_z-of_z at (rw (c.requires.zones, c.as_slice-components.ensures) at c.needed-range.ensures.least) in
     let ends = ends_by_last object c.args.ids c.args.window c.needed-range.result c.requires.ids least in
     let looked = rw c.as_slice-components.ensures at c.needed-range.ensures.steps in
-    let made = rw c.as_slice-components.ensures at (c.master_rows.ensures.steps (last_day object c.args.window) ends) in
+    let made = rw c.as_slice-components.ensures at (c.master_rows.ensures.steps (last_day every_moment object c.args.window) ends) in
     window_counted object c.args.window c.args.steps.now c.needed-range.new.steps c.master_rows.new.steps looked made
 
 pub returns-clause-steps : goal.returns-clause-steps
@@ -59,7 +59,7 @@ returns-clause-steps g c =
     let least = simp to_z-of_z at (rw (c.requires.zones, c.as_slice-components.ensures) at c.needed-range.ensures.least) in
     let ends = ends_by_last object c.args.ids c.args.window c.needed-range.result c.requires.ids least in
     let looked = rw c.as_slice-components.ensures at c.needed-range.ensures.steps in
-    let made = rw c.as_slice-components.ensures at (c.master_rows.ensures.steps (last_day object c.args.window) ends) in
+    let made = rw c.as_slice-components.ensures at (c.master_rows.ensures.steps (last_day every_moment object c.args.window) ends) in
     window_counted object c.args.window c.args.steps.now c.needed-range.new.steps c.master_rows.new.steps looked made
 
 pub returns-clause-rows : goal.returns-clause-rows
