@@ -9,6 +9,7 @@ ghost use Rattle.cal_object.specs.Recurrences.{recurrence_of};
 use crate::alarms::alarms_of;
 use crate::busy::{busy_of, stored_busy_of};
 use crate::ends::read_extent;
+use crate::kinds::has_future;
 use crate::line_dates::{periods_at, stamp_at, stamps_at};
 use crate::named::one_of;
 use crate::zone_dates::rules_of;
@@ -97,5 +98,6 @@ pub fn read_component(
         busy: busy_of(kind, lines),
         stored_busy,
         alarms,
+        future: has_future(lines),
     })
 }

@@ -84,7 +84,7 @@ fn ends_early(zones: &[LocalTimes<'_>], start: Stamp, end: Stamp) -> bool
 }
 
 /// Whether two stamps are both dates, both floating times, or both instants.
-fn is_same_kind(one: Stamp, other: Stamp) -> bool
+pub(crate) fn is_same_kind(one: Stamp, other: Stamp) -> bool
     ensures { result ≡ spec.same_kind (alignment.kind_of one) (alignment.kind_of other) }
 {
     match one {

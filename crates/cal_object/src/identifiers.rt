@@ -64,7 +64,7 @@ fn first_id(components: &[Component]) -> Option<Stamp>
 
 /// The stamp beside which the RECURRENCE-IDs of an object are compared: DTSTART of the component
 /// without one, or of a VTODO without DTSTART its DUE, else the first RECURRENCE-ID.
-fn ids_start(object: &Object) -> Option<Stamp>
+pub(crate) fn ids_start(object: &Object) -> Option<Stamp>
     ensures { result ≡ rows.ids_start object.now }
 {
     let components = object.components.as_slice();

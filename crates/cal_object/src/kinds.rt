@@ -3,6 +3,7 @@ ghost use Rattle.std.specs.Prelude.{◌≡◌, codes};
 ghost use Rattle.std.specs.List.{list_any};
 ghost use Rattle.cal_base.specs.Lines.ComponentTrees.{first};
 ghost use Rattle.cal_model.specs.Objects.ComponentLines as lines;
+ghost use Rattle.cal_model.specs.Objects.ComponentReading as components;
 ghost use Rattle.cal_model.specs.Objects.ObjectFaults as faults;
 ghost use Rattle.cal_object.specs.KindNodes as spec;
 ghost use Rattle.ical_values.specs.Parts.{text_there};
@@ -117,30 +118,23 @@ pub(crate) fn has_exrule(nodes: &[Node]) -> bool
     nodes.iter().any(|node| is_kind(node) && has(node.lines.as_slice(), b"EXRULE"))
 }
 
-/// Whether a RECURRENCE-ID of some component of the four kinds stands for all later instances too.
-pub(crate) fn has_future(nodes: &[Node]) -> bool
-    ensures { result ≡ spec.some_kind faults.has_future nodes.now }
-{
-    nodes.iter().any(|node| is_kind(node) && has_future_line(node.lines.as_slice()))
-}
-
 /// Whether a RECURRENCE-ID among some lines stands for all later instances too.
-fn has_future_line(lines: &[Line]) -> bool
-    ensures { result ≡ faults.has_future lines.now }
+pub(crate) fn has_future(lines: &[Line]) -> bool
+    ensures { result ≡ components.has_future lines.now }
 {
     lines.iter().any(|line| has_name(line, b"RECURRENCE-ID")
         && has_future_param(line.params.as_slice()))
 }
 
 fn has_future_param(params: &[Param]) -> bool
-    ensures { result ≡ list_any faults.is_future params.now }
+    ensures { result ≡ list_any components.is_future params.now }
 {
     params.iter().any(|param| is_future(param))
 }
 
 /// Whether a parameter is RANGE=THISANDFUTURE (RFC 5545, 3.2.13).
 fn is_future(param: &Param) -> bool
-    ensures { result ≡ faults.is_future param.now }
+    ensures { result ≡ components.is_future param.now }
 {
     is_name(&param.name, b"RANGE") && has_word(param.values.as_slice(), b"THISANDFUTURE")
 }

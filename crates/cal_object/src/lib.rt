@@ -31,6 +31,7 @@ mod property;
 mod resource_fault;
 mod scan;
 mod seen_names;
+mod settled;
 mod value_tests;
 mod zone;
 mod zone_dates;

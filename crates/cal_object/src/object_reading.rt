@@ -14,6 +14,7 @@ use crate::fault::ReadFault;
 use crate::object_fault::check_object;
 use crate::outline::{Outline, read_outline};
 use crate::scan::Scan;
+use crate::settled::settled;
 use cal_base::{List, Node};
 use cal_model::{Object, ZoneTable};
 use std::alloc::Global;
@@ -60,7 +61,10 @@ fn object_of_tree(
     ensures fault { IfErr result (IsFaultOf (spec.read_tree every_moment (placed_lines octets.now) calendar)) }
 {
     match calendar_zones(alloc, octets, scan, &calendar) {
-        Ok(zones) => object_beside(alloc, octets, scan, calendar, zones),
+        Ok(zones) => match object_beside(alloc, octets, scan, calendar, zones) {
+            Ok(object) => Ok(settled(object)),
+            Err(fault) => Err(fault),
+        },
         Err(fault) => Err(fault),
     }
 }

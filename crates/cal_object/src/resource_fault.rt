@@ -9,7 +9,7 @@ ghost use Rattle.cal_object.specs.Identifiers.{HasReadId};
 ghost use Rattle.cal_object.specs.KindNodes as spec;
 
 use crate::identifiers::has_repeated_id;
-use crate::kinds::{has_exrule, has_future, has_kind, has_mixed_kinds, has_mixed_uids, lacks_uid};
+use crate::kinds::{has_exrule, has_kind, has_mixed_kinds, has_mixed_uids, lacks_uid};
 use crate::missing_zone::has_missing_zone;
 use crate::named::has;
 use cal_base::NoMemory;
@@ -76,8 +76,6 @@ fn other_fault(
         Ok(Some(NotResource::ZoneMissing))
     } else if has_exrule(nodes) {
         Ok(Some(NotResource::ExRule))
-    } else if has_future(nodes) {
-        Ok(Some(NotResource::ThisAndFuture))
     } else {
         Ok(None)
     }

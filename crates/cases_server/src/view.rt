@@ -79,6 +79,26 @@ impl<'a> View for OpeningView<'a> {
     fn find_user(&self, name: &[u8]) -> Option<u32> {
         self.users.find(name)
     }
+
+    fn user_count(&self) -> u32 {
+        self.users.len()
+    }
+
+    fn group_count(&self) -> u32 {
+        self.users.groups()
+    }
+
+    fn find_group(&self, name: &[u8]) -> Option<u32> {
+        self.users.find_group(name)
+    }
+
+    fn group_name(&self, group: u32) -> &[u8] {
+        self.users.group_name(group)
+    }
+
+    fn is_member(&self, group: u32, who: u32) -> bool {
+        self.users.is_member(group, who)
+    }
 }
 
 impl<'a> Walks for OpeningView<'a> {

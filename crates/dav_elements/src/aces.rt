@@ -178,7 +178,7 @@ fn meant_by_property(form: &Element) -> Whom
     }
 }
 
-/// Whom an href names: the user whose principal's path it is.
+/// Whom an href names: the user or the group whose principal's path it is.
 fn meant_by_href(alloc: Global, users: &Users, form: &Element) -> Result<Whom, NoMemory>
     ensures { IfOk result (λ whom. as_meant whom ≡ spec.named_by users.now (own_text form.now)) }
 {
@@ -203,6 +203,14 @@ fn meant_by_name(users: &Users, name: &[u8]) -> Whom
 {
     match users.find(name) {
         Some(number) => Whom::Someone(Who::Principal(number)),
+        None => meant_by_group(users, name),
+    }
+}
+
+/// The group of a name.
+fn meant_by_group(users: &Users, name: &[u8]) -> Whom {
+    match users.find_group(name) {
+        Some(number) => Whom::Someone(Who::Group(number)),
         None => Whom::Nobody,
     }
 }

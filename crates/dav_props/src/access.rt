@@ -95,6 +95,7 @@ fn push_grantee<V: View>(
         Who::Everyone => out.extend_from_slice(b"<D:all/>"),
         Who::Owner => out.extend_from_slice(b"<D:property><D:owner/></D:property>"),
         Who::Principal(user) => push_principal(alloc, seen.view.user_name(user), out),
+        Who::Group(group) => push_principal(alloc, seen.view.group_name(group), out),
     }
 }
 

@@ -132,7 +132,7 @@ fn push_calendar<V: View>(
     ensures member { OnOk result ((name : List ℕ) → with_last member.new name ≡ CalendarPath user.now name) }
     ensures text { OnOk result ((c : Calendar) → kept.now ≡ data_of owner c → out.new ≡ out.old ++ calendar_text (V.directory seen.now.view.now) seen.now.who props.now owner user.now (name.now, c)) }
 {
-    let held = held(&kept.acl, owner, seen.who).0;
+    let held = held(&kept.acl, owner, seen.who, seen.view).0;
     if held == 0 {
         return Ok(());
     }
@@ -162,7 +162,7 @@ fn push_calendar_members<V: Walks>(
     let Some(kept) = seen.view.calendar(owner, calendar.as_slice()) else {
         return Ok(());
     };
-    let held = held(&kept.acl, owner, seen.who).0;
+    let held = held(&kept.acl, owner, seen.who, seen.view).0;
     if !has_all(held, READ) {
         return Ok(());
     }

@@ -18,6 +18,8 @@ pub(crate) enum Row {
     DisplayName,
     PrincipalUrl,
     CalendarHome,
+    GroupMembers,
+    GroupMemberships,
     Etag,
     ContentType,
     ContentLength,
@@ -43,6 +45,8 @@ pub(crate) enum Place {
     /// A home and all in it.
     Owned,
     Principal,
+    User,
+    Group,
     Calendar,
     /// A principal or a calendar.
     Named,
@@ -91,7 +95,7 @@ pub(crate) struct Asked<'a> {
 }
 
 /// The properties that have rows of their own, in the order in which they are listed.
-pub(crate) const ROWS: [Row; 21] = [
+pub(crate) const ROWS: [Row; 23] = [
     Row::ResourceType,
     Row::AskingPrincipal,
     Row::Owner,
@@ -99,6 +103,8 @@ pub(crate) const ROWS: [Row; 21] = [
     Row::DisplayName,
     Row::PrincipalUrl,
     Row::CalendarHome,
+    Row::GroupMembers,
+    Row::GroupMemberships,
     Row::Etag,
     Row::ContentType,
     Row::ContentLength,
@@ -139,6 +145,8 @@ pub(crate) fn name_of(row: Row) -> &'static [u8]
         Row::DisplayName => b"displayname",
         Row::PrincipalUrl => b"principal-URL",
         Row::CalendarHome => b"calendar-home-set",
+        Row::GroupMembers => b"group-member-set",
+        Row::GroupMemberships => b"group-membership",
         Row::Etag => b"getetag",
         Row::ContentType => b"getcontenttype",
         Row::ContentLength => b"getcontentlength",
@@ -193,7 +201,9 @@ pub(crate) fn columns_of(row: Row) -> Columns
         ),
         Row::DisplayName => (Place::Named, READ, Listing::Both, Setting::Text),
         Row::PrincipalUrl => (Place::Principal, 0, Listing::Names, Setting::Protected),
-        Row::CalendarHome => (Place::Principal, 0, Listing::Names, Setting::Protected),
+        Row::CalendarHome => (Place::User, 0, Listing::Names, Setting::Protected),
+        Row::GroupMembers => (Place::Group, 0, Listing::Names, Setting::Protected),
+        Row::GroupMemberships => (Place::Principal, 0, Listing::Names, Setting::Protected),
         Row::Etag => (Place::Object, READ, Listing::Both, Setting::Protected),
         Row::ContentType => (Place::Object, READ, Listing::Both, Setting::Protected),
         Row::ContentLength => (Place::Object, READ, Listing::Both, Setting::Protected),

@@ -26,6 +26,8 @@ const READ: u16 = 2;
 pub(crate) enum Subject<'a> {
     Root,
     Principal(&'a [u8]),
+    /// The principal of a group, with its name and its number.
+    Group(&'a [u8], u32),
     Home(&'a [u8]),
     Calendar(&'a [u8], u16, &'a CalendarData),
     Object(&'a [u8], u16, &'a Stored),
@@ -37,7 +39,7 @@ pub(crate) fn held_on(subject: &Subject<'_>) -> u16
     ensures seen { (unseen : Unseen) → held_of (resource_of subject.now unseen) ≡ result }
 {
     match subject {
-        Subject::Root | Subject::Principal(_) | Subject::Home(_) => ALL,
+        Subject::Root | Subject::Principal(_) | Subject::Group(_, _) | Subject::Home(_) => ALL,
         Subject::Calendar(_, held, _) | Subject::Object(_, held, _) => *held,
     }
 }
@@ -55,10 +57,18 @@ pub(crate) fn is_on(place: Place, subject: &Subject<'_>) -> bool
 {
     match place {
         Place::Anywhere => true,
-        Place::Owned => !matches!(subject, Subject::Root | Subject::Principal(_)),
-        Place::Principal => matches!(subject, Subject::Principal(_)),
+        Place::Owned => !matches!(
+            subject,
+            Subject::Root | Subject::Principal(_) | Subject::Group(_, _)
+        ),
+        Place::Principal => matches!(subject, Subject::Principal(_) | Subject::Group(_, _)),
+        Place::User => matches!(subject, Subject::Principal(_)),
+        Place::Group => matches!(subject, Subject::Group(_, _)),
         Place::Calendar => matches!(subject, Subject::Calendar(_, _, _)),
-        Place::Named => matches!(subject, Subject::Principal(_) | Subject::Calendar(_, _, _)),
+        Place::Named => matches!(
+            subject,
+            Subject::Principal(_) | Subject::Group(_, _) | Subject::Calendar(_, _, _)
+        ),
         Place::Object => matches!(subject, Subject::Object(_, _, _)),
     }
 }
@@ -70,10 +80,18 @@ pub(crate) fn subject_at<'a, V: View>(seen: &Seen<'a, V>, path: &'a Path) -> Opt
 {
     match path {
         Path::Root => Some(Subject::Root),
-        Path::Principal(user) => Some(Subject::Principal(user.as_slice())),
+        Path::Principal(name) => Some(principal_at(seen, name.as_slice())),
         Path::Home(user) => Some(Subject::Home(user.as_slice())),
         Path::Calendar(user, name) => calendar_at(seen, user, name),
         Path::Object(user, calendar, name) => object_at(seen, user, calendar, name),
+    }
+}
+
+/// The principal of a name: a group's, or a user's.
+fn principal_at<'a, V: View>(seen: &Seen<'a, V>, name: &'a [u8]) -> Subject<'a> {
+    match seen.view.find_group(name) {
+        Some(group) => Subject::Group(name, group),
+        None => Subject::Principal(name),
     }
 }
 
@@ -88,7 +106,7 @@ fn calendar_at<'a, V: View>(
     let view: &'a V = seen.view;
     let owner = view.find_user(user.as_slice())?;
     let calendar = view.calendar(owner, name.as_slice())?;
-    let held = held(&calendar.acl, owner, seen.who).0;
+    let held = held(&calendar.acl, owner, seen.who, view).0;
     if held == 0 {
         None
     } else {
@@ -108,7 +126,7 @@ fn object_at<'a, V: View>(
     let view: &'a V = seen.view;
     let owner = view.find_user(user.as_slice())?;
     let data = view.calendar(owner, calendar.as_slice())?;
-    let held = held(&data.acl, owner, seen.who).0;
+    let held = held(&data.acl, owner, seen.who, view).0;
     if !has_all(held, READ) {
         return None;
     }

@@ -2,6 +2,7 @@
 ghost use Rattle.std.specs.Prelude.{◌≡◌, ◌^◌, ◌<◌, []};
 ghost use Rattle.cal_model.specs.Access.Privileges as spec;
 
+use cal_model::view::View;
 use cal_model::{Acl, Grant, PrivilegeSet, Who};
 
 /// All nine privileges.
@@ -9,36 +10,37 @@ const ALL: u16 = 511;
 
 /// The privileges that a user holds on a calendar of an owner: all, where they are the same user,
 /// and else the union of the grants to that user and to everyone. Takes no memory.
-pub fn held(acl: &Acl, owner: u32, who: u32) -> PrivilegeSet
+pub fn held<V: View>(acl: &Acl, owner: u32, who: u32, view: &V) -> PrivilegeSet
     ensures { result.0 ≡ spec.privileges_held [] acl.now.grants owner who }
 {
     if owner == who {
         PrivilegeSet(ALL)
     } else {
-        PrivilegeSet(granted(acl.grants.as_slice(), who))
+        PrivilegeSet(granted(acl.grants.as_slice(), who, view))
     }
 }
 
 /// The union of the grants to a user.
-fn granted(grants: &[Grant], who: u32) -> u16
+fn granted<V: View>(grants: &[Grant], who: u32, view: &V) -> u16
     ensures { result ≡ spec.granted [] grants.now who }
 {
     let mut set = 0;
     for grant in grants {
-        if is_to(grant.who, who) {
+        if is_to(grant.who, who, view) {
             set |= grant.held.0;
         }
     }
     set
 }
 
-/// Whether a grant is to a user. (There are no groups so far: a grant to one is one arm more here.)
-fn is_to(whom: Who, who: u32) -> bool
+/// Whether a grant is to a user, or to a group of the user.
+fn is_to<V: View>(whom: Who, who: u32, view: &V) -> bool
     ensures { result ≡ spec.fits_user [] who whom }
 {
     match whom {
         Who::Everyone => true,
         Who::Owner => false,
         Who::Principal(number) => number == who,
+        Who::Group(group) => view.is_member(group, who),
     }
 }

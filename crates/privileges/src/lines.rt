@@ -37,6 +37,17 @@ pub(crate) fn user_of_line(line: &[u8]) -> Option<(&[u8], &[u8])>
     }
 }
 
+/// The name of the group whose line this is, and the text of its members.
+pub(crate) fn group_of_line(line: &[u8]) -> Option<(&[u8], &[u8])> {
+    let (word, behind) = cut(line, b' ')?;
+    let (name, members) = cut(behind, b' ')?;
+    if word == b"group".as_slice() && is_user_name(name) {
+        Some((name, members))
+    } else {
+        None
+    }
+}
+
 /// Whether three words make the line of a user.
 fn is_user(word: &[u8], name: &[u8], digest: &[u8]) -> bool
     ensures { result ≡ (bytes_eq word.now (codes "user") && spec.is_user_name name.now && spec.is_digest digest.now) }

@@ -6,13 +6,16 @@ ghost use Rattle.cal_model.specs.Users.UsersFile.{users_of};
 ghost use Rattle.privileges.specs.KnownUsers.{name_limit};
 ghost use Rattle.privileges.specs.LineReading.{read_line, read_on, with_user};
 
-use crate::lines::{cut, is_silent, user_of_line};
+use crate::lines::{cut, group_of_line, is_silent, user_of_line};
 use crate::users::Users;
 use cal_base::NoMemory;
 use std::alloc::Global;
 
 /// The most users of a file.
 const MOST_USERS: u32 = 32;
+
+/// The most groups of a file.
+const MOST_GROUPS: u32 = 16;
 
 /// Why a users file was not read.
 #[derive(Debug, Clone, Copy, PartialEq, Eq)]
@@ -78,7 +81,67 @@ fn read_line(alloc: Global, users: &mut Users, place: u64, line: &[u8]) -> Resul
 {
     match user_of_line(line) {
         Some((name, digest)) => add_user(alloc, users, place, name, digest),
+        None => read_other_line(alloc, users, place, line),
+    }
+}
+
+/// Adds the group of a line at a place, if it names one.
+fn read_other_line(
+    alloc: Global,
+    users: &mut Users,
+    place: u64,
+    line: &[u8],
+) -> Result<(), UsersFault> {
+    match group_of_line(line) {
+        Some((name, members)) => add_group(alloc, users, place, name, members),
         None if is_silent(line) => Ok(()),
+        None => Err(UsersFault::Line { place }),
+    }
+}
+
+/// Whether a user or a group has a name.
+fn is_taken(users: &Users, name: &[u8]) -> bool {
+    users.find(name).is_some() || users.find_group(name).is_some()
+}
+
+/// The users whom a text names, each once; none where it names somebody else, or somebody twice.
+fn members_of(users: &Users, text: &[u8]) -> Option<[bool; 32]> {
+    let mut members = [false; 32];
+    let mut rest = text;
+    loop {
+        let (name, behind) = match cut(rest, b' ') {
+            Some((name, behind)) => (name, Some(behind)),
+            None => (rest, None),
+        };
+        let who = users.find(name)? as usize;
+        if members[who] {
+            return None;
+        }
+        members[who] = true;
+        match behind {
+            Some(behind) => rest = behind,
+            None => return Some(members),
+        }
+    }
+}
+
+/// Adds a group whose line stands at a place, if there is room, nobody has the name, and its members
+/// are users.
+fn add_group(
+    alloc: Global,
+    users: &mut Users,
+    place: u64,
+    name: &[u8],
+    members: &[u8],
+) -> Result<(), UsersFault> {
+    if users.groups() >= MOST_GROUPS || is_taken(users, name) {
+        return Err(UsersFault::Line { place });
+    }
+    match members_of(users, members) {
+        Some(members) => {
+            users.add_group(alloc, name, members)?;
+            Ok(())
+        }
         None => Err(UsersFault::Line { place }),
     }
 }
@@ -97,7 +160,7 @@ fn add_user(
     ensures users { OnOk result (with_user users.old place (record { name = name.now; digest = digest.now }) ≡ Ok users.new) }
     ensures fault { (at : ℕ) → IsErrOf result (UsersFault.Line at) → with_user users.old place (record { name = name.now; digest = digest.now }) ≡ Err at }
 {
-    if users.len() >= MOST_USERS || users.find(name).is_some() {
+    if users.len() >= MOST_USERS || is_taken(users, name) {
         return Err(UsersFault::Line { place });
     }
     let mut octets = [0; 64];

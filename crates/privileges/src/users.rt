@@ -17,12 +17,22 @@ struct KnownUser {
     digest: [u8; 64],
 }
 
+/// The name of a group, and which users are in it, by their numbers.
+#[derive(Drop)]
+struct KnownGroup {
+    name: Octets,
+    members: [bool; 32],
+}
+
 /// The users of the server, whom contracts see in the order of their numbers, which count from 0.
 #[derive(Drop)]
 pub struct Users {
     users: List<KnownUser>,
     /// The number of each user, by name.
     numbers: NameMap<u32>,
+    groups: List<KnownGroup>,
+    /// The number of each group, by name.
+    group_numbers: NameMap<u32>,
 }
 
 impl Model for Users {
@@ -46,6 +56,8 @@ impl Users {
         Users {
             users: List::new(alloc),
             numbers: NameMap::new(alloc),
+            groups: List::new(alloc),
+            group_numbers: NameMap::new(alloc),
         }
     }
 
@@ -76,6 +88,49 @@ impl Users {
         ensures within { IfSome result (λ who. who < length self.now) }
     {
         self.numbers.get(name).copied()
+    }
+
+    /// How many groups there are.
+    pub fn groups(&self) -> u32 {
+        self.groups.len() as u32
+    }
+
+    /// The name of the group of a number. Takes no memory.
+    pub fn group_name(&self, group: u32) -> &[u8] {
+        self.groups[group as usize].name.as_slice()
+    }
+
+    /// Whether a user is in a group. Takes no memory.
+    pub fn is_member(&self, group: u32, who: u32) -> bool {
+        self.groups[group as usize].members[who as usize]
+    }
+
+    /// The number of the group of a name. Takes no memory.
+    pub fn find_group(&self, name: &[u8]) -> Option<u32> {
+        self.group_numbers.get(name).copied()
+    }
+
+    /// Adds a group of a new name behind the others. Without memory nothing changes.
+    pub(crate) fn add_group(
+        &mut self,
+        alloc: Global,
+        name: &[u8],
+        members: [bool; 32],
+    ) -> Result<(), NoMemory> {
+        let number = self.groups.len() as u32;
+        let shown = Octets::of(alloc, name)?;
+        let key = Octets::of(alloc, name)?;
+        self.groups.push(KnownGroup {
+            name: shown,
+            members,
+        })?;
+        match self.group_numbers.insert(key, number) {
+            Ok(()) => Ok(()),
+            Err(NoMemory) => {
+                self.groups.truncate(number as usize);
+                Err(NoMemory)
+            }
+        }
     }
 
     /// Whether a digest is that of a user's password: the SHA-256 of the password in lower-case

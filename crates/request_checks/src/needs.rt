@@ -38,7 +38,7 @@ pub(crate) fn is_missing(scene: &Scene<'_>, method: Method) -> bool
 {
     match scene.path {
         Path::Root => false,
-        Path::Principal(_) => scene.user.is_none(),
+        Path::Principal(_) => scene.user.is_none() && !scene.group,
         Path::Home(_) => !scene.home,
         Path::Calendar(_, _) | Path::Object(_, _, _) => is_calendar_missing(scene, method),
     }

@@ -8,7 +8,7 @@ ghost use Rattle.request_checks.specs.Scenes.{IsFoundAt, IsScene};
 ghost use Rattle.request_checks.specs.Sightings.{AreShort, eyes_of, IsDataAt, IsOriginAt, IsSoundAt};
 
 use crate::looks::Look;
-use crate::sightings::{calendar_at, home_at, object_at, user_at};
+use crate::sightings::{calendar_at, home_at, is_group, object_at, user_at};
 use cal_base::Arc;
 use cal_model::view::View;
 use cal_model::{CalendarData, Path, Seen, Stored};
@@ -21,6 +21,8 @@ pub struct Scene<'a> {
     pub path: &'a Path,
     /// The number of the user whose name the path has.
     pub user: Option<u32>,
+    /// Whether the path is that of a group's principal.
+    pub group: bool,
     /// Whether the home that the path names is visible; no for the root and a principal, of which a
     /// home is no part.
     pub home: bool,
@@ -51,6 +53,7 @@ pub fn scene_at<'a, V: View>(seen: &Seen<'a, V>, path: &'a Path, look: Look) -> 
         who,
         path,
         user,
+        group: is_group(view, path),
         home,
         calendar,
         object,

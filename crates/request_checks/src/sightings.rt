@@ -24,6 +24,14 @@ pub(crate) fn user_at<V: View>(view: &V, path: &Path) -> Option<u32>
     }
 }
 
+/// Whether a path is that of a group's principal.
+pub(crate) fn is_group<V: View>(view: &V, path: &Path) -> bool {
+    match path {
+        Path::Principal(name) => view.find_group(name.as_slice()).is_some(),
+        _ => false,
+    }
+}
+
 /// The calendar of a name in a user's home, with the privileges held on it.
 fn look_up<'a, V: View>(
     view: &'a V,
@@ -38,7 +46,7 @@ fn look_up<'a, V: View>(
     let Some(kept) = view.calendar(owner, name) else {
         return None;
     };
-    let held = held(&kept.acl, owner, who).0;
+    let held = held(&kept.acl, owner, who, view).0;
     if held == 0 { None } else { Some((held, kept)) }
 }
 

@@ -12,10 +12,10 @@ use cal_model::view::View;
 use privileges::held;
 
 /// Whether a user holds something on a calendar.
-fn holds_something(kept: &CalendarData, owner: u32, who: u32) -> bool
+fn holds_something<V: View>(view: &V, kept: &CalendarData, owner: u32, who: u32) -> bool
     ensures { result ≡ not (privileges_held [] kept.now.acl.grants owner who == 0) }
 {
-    held(&kept.acl, owner, who).0 != 0
+    held(&kept.acl, owner, who, view).0 != 0
 }
 
 /// Whether a user holds something on a calendar of a home. A walk over its calendars, up to the first
@@ -26,7 +26,7 @@ pub(crate) fn shows_a_calendar<V: View>(view: &V, owner: u32, who: u32) -> bool
 {
     let mut last: &[u8] = b"";
     'calendars: while let Some((name, kept)) = view.calendar_after(owner, last) {
-        if holds_something(kept, owner, who) {
+        if holds_something(view, kept, owner, who) {
             return true;
         }
         last = name;

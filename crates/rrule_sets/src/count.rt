@@ -20,13 +20,15 @@ ghost use Rattle.rrule_sets.specs.PeriodSpans.{IsConvertiblePeriod};
 
 use crate::asked::date_start;
 use crate::ends::recurs;
-use crate::instances::component_exceptions;
+use crate::governors::{Governor, are_served, governing, governors, moved_digits, named_range};
+use crate::instances::{component_exceptions, instances};
 use crate::later::{clock_beside, start_moment};
 use crate::window::master_of;
 use cal_base::{List, NoMemory, Steps};
 use cal_model::walk::rule_walk::{END, FIRST, RuleWalk, begin_walk, next_moment};
 use cal_model::{Component, LocalTimes, Object, Rule};
 use cal_moment::{Period, Stamp};
+use override_merge::days::{DayStart, day_starts};
 use override_merge::names::{Names, is_named, names_of_overrides, rising};
 use override_merge::stamps::value_of;
 use override_merge::starts::{ids_start, own_start};
@@ -50,6 +52,9 @@ pub enum Counted {
 struct Taken {
     excepted: Names,
     named: Names,
+    /// The overrides that move later instances: a start that one moves out of the dates that are
+    /// served has no row.
+    governors: List<Governor>,
 }
 
 /// Whether an EXDATE or an override names a start.
@@ -59,7 +64,34 @@ fn is_taken(zones: &[LocalTimes<'_>], stamp: Stamp, taken: &Taken, start: i64) -
     requires near { IsBetween (neg_ℤ (pos 180_000_000_000_000)) (pos 180_000_000_000_000) start }
     ensures { result ≡ (has_name (alignment.reading_of (tables_of zones.now) stamp) start taken.now.excepted || has_name (alignment.reading_of (tables_of zones.now) stamp) start taken.now.named) }
 {
-    is_named(zones, stamp, &taken.excepted, start) || is_named(zones, stamp, &taken.named, start)
+    is_named(zones, stamp, &taken.excepted, start)
+        || is_named(zones, stamp, &taken.named, start)
+        || is_moved_out(zones, taken.governors.as_slice(), start)
+}
+
+/// Whether an override moves a start out of the dates that are served.
+fn is_moved_out(zones: &[LocalTimes<'_>], governors: &[Governor], start: i64) -> bool {
+    match governing(governors, start) {
+        Some(governor) => !are_served(moved_digits(zones, governor, start)),
+        None => false,
+    }
+}
+
+/// The starts of the master, with their local days, on the days that overrides name which move later
+/// instances.
+fn days_named<L: Ledger>(
+    alloc: Global,
+    zones: &[LocalTimes<'_>],
+    stamp: Stamp,
+    component: &Component,
+    components: &[Component],
+    steps: &mut Steps<L>,
+) -> Result<List<DayStart>, NoMemory> {
+    let Some(range) = named_range(zones, stamp, components) else {
+        return Ok(List::new(alloc));
+    };
+    let rows = instances(alloc, &PeriodStep, zones, stamp, component, 0, range, steps)?;
+    day_starts(alloc, zones, stamp, rows.as_slice())
 }
 
 /// Puts a start behind the others, if nothing takes it away.
@@ -346,12 +378,13 @@ fn own_rows(components: &[Component]) -> u32
 }
 
 /// What takes starts away from the master of an object.
-fn taken_of(
+fn taken_of<L: Ledger>(
     alloc: Global,
     zones: &[LocalTimes<'_>],
     stamp: Stamp,
     component: &Component,
     components: &[Component],
+    steps: &mut Steps<L>,
 ) -> Result<Taken, NoMemory>
     requires stamp { HasZone (length zones.now) stamp }
     requires except { All (IsConvertible (length zones.now)) component.now.except }
@@ -361,7 +394,13 @@ fn taken_of(
 {
     let excepted = component_exceptions(alloc, zones, stamp, component)?;
     let named = names_of_overrides(alloc, zones, stamp, components)?;
-    Ok(Taken { excepted, named })
+    let days = days_named(alloc, zones, stamp, component, components, steps)?;
+    let governors = governors(alloc, zones, stamp, days.as_slice(), components)?;
+    Ok(Taken {
+        excepted,
+        named,
+        governors,
+    })
 }
 
 /// How many rows a master has, where the zones are at hand; none where they are more than there is room
@@ -380,7 +419,7 @@ fn count_beside<L: Ledger>(
     requires components { All (HasConvertibleRow (length zones.now)) components.now }
     ensures { IfOk result (λ r. MatchOption r (room < length (unnamed_starts (tables_of zones.now) stamp component.now components.now)) (λ n. (n ≡ length (unnamed_starts (tables_of zones.now) stamp component.now components.now)) × (n ≤ room))) }
 {
-    let taken = taken_of(alloc, zones, stamp, component, components)?;
+    let taken = taken_of(alloc, zones, stamp, component, components, steps)?;
     count_left(alloc, zones, stamp, component, &taken, room, steps)
 }
 

@@ -11,6 +11,7 @@ mod count;
 mod ends;
 mod even;
 mod fine;
+mod governors;
 mod instances;
 mod later;
 mod near;

@@ -9,6 +9,7 @@ ghost use Rattle.override_merge.specs.Conversions.{tables_of, HasZone, HasConver
 ghost use Rattle.override_merge.specs.NamedStarts.{days_in};
 ghost use Rattle.rrule_sets.specs.NeededDigits.{HasWindow, HasDay, HasRange, days_needed, overrides_in};
 
+use crate::governors::with_moved;
 use crate::range::Digits;
 use cal_base::Steps;
 use cal_model::{Component, LocalTimes};
@@ -134,5 +135,5 @@ pub fn needed<L: Ledger>(
         range = with_day(range, day_needed(zones, ids, window, component));
         rest = behind;
     }
-    range
+    with_moved(zones, ids, components, window_digits(window), range)
 }

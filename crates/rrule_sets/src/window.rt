@@ -9,6 +9,7 @@ ghost use Rattle.rrule_sets.specs.ExpandableObjects.{HasRowsToFind};
 ghost use Rattle.rrule_sets.specs.MasterRows.{masters_from, rows_of_master, masters_cost};
 ghost use Rattle.rrule_sets.specs.NeededDigits.{EndsBy};
 
+use crate::governors::moved_rows;
 use crate::instances::instances;
 use crate::needed::{needed, window_digits};
 use crate::once::{only_row, row_in_windows};
@@ -85,6 +86,7 @@ fn rows_with_overrides<L: Ledger>(
     let components = object.components.as_slice();
     let range = needed(zones, ids, components, window, steps);
     let rows = master_rows(alloc, &PeriodStep, zones, components, range, steps)?;
+    let rows = moved_rows(alloc, zones, ids, object, rows)?;
     merged_rows(
         alloc,
         zones,

@@ -11,6 +11,7 @@ ghost use Rattle.rrule_sets.specs.NearRows.{HasLesserId, LiesWhereInner};
 ghost use Rattle.rrule_sets.specs.NeededDigits.{HasRange};
 ghost use Rattle.rrule_sets.specs.SeveralWindows.{IsNeeded, looks_of};
 
+use crate::governors::moved_rows;
 use crate::near::{near_rows, rows_before, rows_from};
 use crate::needed::needed;
 use crate::once::{only_row, row_in_windows};
@@ -237,6 +238,7 @@ fn rows_of_needed<L: Ledger>(
     let components = object.components.as_slice();
     let range = joined_with(first.range, others);
     let rows = master_rows(alloc, &PeriodStep, zones, components, range, steps)?;
+    let rows = moved_rows(alloc, zones, ids, object, rows)?;
     rows_in_range(alloc, zones, ids, object, range, rows.as_slice(), each)
 }
 

@@ -52,12 +52,13 @@ fn says(param: &Param, word: &[u8]) -> bool
     }
 }
 
-/// Whether a parameter stays beside a new value of a kind: TZID goes, and VALUE=DATE beside a value
+/// Whether a parameter stays beside a new value of a kind: TZID and RANGE go, and VALUE=DATE beside a value
 /// that is no date.
 fn stays(kind: RowKind, param: &Param) -> bool
     ensures { result ≡ spec.stays kind param.now }
 {
     !is_named(param, b"TZID")
+        && !is_named(param, b"RANGE")
         && !(is_named(param, b"VALUE") && says(param, b"DATE") && kind != RowKind::Date)
 }
 

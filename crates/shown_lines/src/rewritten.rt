@@ -29,7 +29,7 @@ fn kept_header(alloc: Global, line: &Line, kind: RowKind) -> Result<Octets, NoMe
 
 /// Writes what is shown of a line with the value of a row, in seconds since 1970 as its kind says:
 /// an instant in UTC, a floating time or a date by its local digits. Up to the colon the line stays as
-/// it was written, but for TZID, and for VALUE=DATE beside a value that is no date.
+/// it was written, but for TZID and RANGE, and for VALUE=DATE beside a value that is no date.
 pub fn write_rewritten(
     alloc: Global,
     line: &Line,

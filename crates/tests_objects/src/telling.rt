@@ -105,6 +105,5 @@ fn word(why: NotResource) -> &'static [u8] {
         NotResource::SameRecurrenceId => b"one instance twice",
         NotResource::ZoneMissing => b"no zone",
         NotResource::ExRule => b"EXRULE",
-        NotResource::ThisAndFuture => b"all later",
     }
 }

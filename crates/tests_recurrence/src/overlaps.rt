@@ -188,6 +188,7 @@ pub fn component(alloc: Global, kind: Kind, start: Option<Stamp>, extent: Extent
         busy: None,
         stored_busy: List::new(alloc),
         alarms: List::new(alloc),
+        future: false,
     }
 }
 

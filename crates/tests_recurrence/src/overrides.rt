@@ -91,6 +91,7 @@ fn override_of(alloc: Global, number: u32, by: Override) -> Component
         busy: None,
         stored_busy: List::new(alloc),
         alarms: List::new(alloc),
+        future: false,
     }
 }
 

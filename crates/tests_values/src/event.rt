@@ -99,6 +99,7 @@ fn event(alloc: Global) -> Result<Component, NoMemory> {
         busy: None,
         stored_busy: List::new(alloc),
         alarms,
+        future: false,
     })
 }
 
