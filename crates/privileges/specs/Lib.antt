@@ -1,4 +1,5 @@
 pub mod LineCuts
+pub mod Marks
 pub mod KnownUsers
 pub mod LineReading
 pub mod ShownUsers

@@ -1,6 +1,8 @@
 //! What a user holds on a calendar (RFC 3744, 5.5; RFC 4791, 6.1.1).
-ghost use Rattle.std.specs.Prelude.{◌≡◌, ◌^◌, ◌<◌, []};
+ghost use Rattle.std.specs.Prelude.{◌≡◌, ◌^◌, ◌<◌, length};
 ghost use Rattle.cal_model.specs.Access.Privileges as spec;
+ghost use Rattle.cal_model.specs.State.ServerState.{groups_of};
+ghost use Rattle.cal_model.specs.State.SoundStates.{AreToUsers, IsToUser};
 
 use cal_model::view::View;
 use cal_model::{Acl, Grant, PrivilegeSet, Who};
@@ -9,9 +11,12 @@ use cal_model::{Acl, Grant, PrivilegeSet, Who};
 const ALL: u16 = 511;
 
 /// The privileges that a user holds on a calendar of an owner: all, where they are the same user,
-/// and else the union of the grants to that user and to everyone. Takes no memory.
+/// and else the union of the grants to that user, to each group that has the user as a member, and to
+/// everyone. Takes no memory.
 pub fn held<V: View>(acl: &Acl, owner: u32, who: u32, view: &V) -> PrivilegeSet
-    ensures { result.0 ≡ spec.privileges_held [] acl.now.grants owner who }
+    requires known { who < length (V.directory view.now).names }
+    requires users { AreToUsers (V.directory view.now) acl.now.grants }
+    ensures { result.0 ≡ spec.privileges_held (groups_of (V.directory view.now) who) acl.now.grants owner who }
 {
     if owner == who {
         PrivilegeSet(ALL)
@@ -22,7 +27,9 @@ pub fn held<V: View>(acl: &Acl, owner: u32, who: u32, view: &V) -> PrivilegeSet
 
 /// The union of the grants to a user.
 fn granted<V: View>(grants: &[Grant], who: u32, view: &V) -> u16
-    ensures { result ≡ spec.granted [] grants.now who }
+    requires known { who < length (V.directory view.now).names }
+    requires users { AreToUsers (V.directory view.now) grants.now }
+    ensures { result ≡ spec.granted (groups_of (V.directory view.now) who) grants.now who }
 {
     let mut set = 0;
     for grant in grants {
@@ -35,7 +42,9 @@ fn granted<V: View>(grants: &[Grant], who: u32, view: &V) -> u16
 
 /// Whether a grant is to a user, or to a group of the user.
 fn is_to<V: View>(whom: Who, who: u32, view: &V) -> bool
-    ensures { result ≡ spec.fits_user [] who whom }
+    requires known { who < length (V.directory view.now).names }
+    requires users { IsToUser (V.directory view.now) whom }
+    ensures { result ≡ spec.fits_user (groups_of (V.directory view.now) who) who whom }
 {
     match whom {
         Who::Everyone => true,

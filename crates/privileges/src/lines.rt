@@ -1,10 +1,10 @@
 //! Lines of a users file.
-ghost use Rattle.std.specs.Prelude.{◌≡◌, ◌+◌, ◌<◌, ◌≤◌, length, IfSome, option_map, bytes_eq, position, ◌==◌, ◌&&◌, codes};
+ghost use Rattle.std.specs.Prelude.{◌≡◌, ◌+◌, ◌<◌, ◌≤◌, false, length, IfSome, option_map, option_and_then, bytes_eq, position, ◌==◌, ◌&&◌, codes};
 ghost use Rattle.std.specs.List.{list_all};
 ghost use Rattle.cal_base.specs.Lines.ContentLines.{pieces};
 ghost use Rattle.cal_model.specs.Users.UsersFile as spec;
 ghost use Rattle.privileges.specs.KnownUsers.{name_limit};
-ghost use Rattle.privileges.specs.LineCuts.{behind_cut, both_texts, user_of_texts, is_digest_octet};
+ghost use Rattle.privileges.specs.LineCuts.{behind_cut, both_texts, user_of_texts, group_of_texts, if_apart, is_digest_octet};
 
 /// The text before the first place of an octet, and the text behind that place.
 pub(crate) fn cut(text: &[u8], separator: u8) -> Option<(&[u8], &[u8])>
@@ -37,15 +37,27 @@ pub(crate) fn user_of_line(line: &[u8]) -> Option<(&[u8], &[u8])>
     }
 }
 
-/// The name of the group whose line this is, and the text of its members.
-pub(crate) fn group_of_line(line: &[u8]) -> Option<(&[u8], &[u8])> {
+/// The name of the group whose line this is, and the text of its members, of whom some may stand
+/// twice.
+pub(crate) fn group_of_line(line: &[u8]) -> Option<(&[u8], &[u8])>
+    ensures group { option_and_then if_apart (option_map group_of_texts result) ≡ spec.group_of_line line.now }
+    ensures said { IfSome result (λ parts. spec.is_silent line.now ≡ false) }
+    ensures short { IfSome result (λ parts. length parts.0.now ≤ name_limit) }
+{
     let (word, behind) = cut(line, b' ')?;
     let (name, members) = cut(behind, b' ')?;
-    if word == b"group".as_slice() && is_user_name(name) {
+    if is_group(word, name) {
         Some((name, members))
     } else {
         None
     }
+}
+
+/// Whether the two first words of a line make it that of a group.
+fn is_group(word: &[u8], name: &[u8]) -> bool
+    ensures { result ≡ (bytes_eq word.now (codes "group") && spec.is_user_name name.now) }
+{
+    word == b"group".as_slice() && is_user_name(name)
 }
 
 /// Whether three words make the line of a user.

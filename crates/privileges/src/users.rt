@@ -1,9 +1,10 @@
 //! The users of the server.
-ghost use Rattle.std.specs.Prelude.{◌≡◌, ◌≤◌, ◌<◌, ◌∷◌, ◌++◌, [], None, Some, length, OnOk, OnErr, IfSome, All, slice_get, option_map, bytes_eq};
-ghost use Rattle.cal_model.specs.State.ServerState.{directory_of, user_name, user_number};
+ghost use Rattle.std.specs.Prelude.{◌≡◌, ◌≤◌, ◌<◌, [], None, Some, length, OnOk, OnErr, IfSome, All, slice_get, option_map, bytes_eq};
+ghost use Rattle.cal_model.specs.State.ServerState.{directory_of, user_name, user_number, group_name, is_member};
 ghost use Rattle.cal_model.specs.State.UserNames.{AreToldApart};
 ghost use Rattle.cal_model.specs.Users.UsersFile as spec;
-ghost use Rattle.privileges.specs.KnownUsers.{name_limit};
+ghost use Rattle.privileges.specs.KnownUsers.{name_limit, HasUsersInOrder, IsShortGroup, and_user, and_group};
+ghost use Rattle.privileges.specs.Marks.{marked_group};
 
 use crate::digests::is_same;
 use cal_base::{List, NameMap, NoMemory, Octets};
@@ -24,7 +25,8 @@ struct KnownGroup {
     members: [bool; 32],
 }
 
-/// The users of the server, whom contracts see in the order of their numbers, which count from 0.
+/// The users of the server and their groups, which contracts see in the order of their numbers. Both
+/// count from 0.
 #[derive(Drop)]
 pub struct Users {
     users: List<KnownUser>,
@@ -36,22 +38,21 @@ pub struct Users {
 }
 
 impl Model for Users {
-    ghost use Rattle.std.specs.Prelude.{List};
-    ghost use Rattle.cal_model.specs.Users.UsersFile.{User};
-    ghost use Rattle.privileges.specs.ShownUsers.{shown_users};
+    ghost use Rattle.cal_model.specs.Users.UsersFile as file;
+    ghost use Rattle.privileges.specs.ShownUsers.{shown};
     ghost use Rattle.privileges.specs.KnownUsers.{AreKnown};
 
-    ghost Value = { List User };
+    ghost Value = { file.Users };
 
-    ghost view = { λ u. shown_users u.users };
+    ghost view = { λ u. shown u.users u.groups };
 
-    ghost invariant = { λ u. AreKnown (shown_users u.users) u.numbers };
+    ghost invariant = { λ u. AreKnown (shown u.users u.groups) u.numbers u.group_numbers };
 }
 
 impl Users {
-    /// No users. Takes no memory yet.
+    /// No users and no groups. Takes no memory yet.
     pub(crate) fn new(alloc: Global) -> Users
-        ensures { result ≡ [] }
+        ensures { result ≡ record { people = []; groups = [] } }
     {
         Users {
             users: List::new(alloc),
@@ -61,20 +62,21 @@ impl Users {
         }
     }
 
-    /// How many users there are. (That they are few, and that their names tell them apart and are
-    /// short, holds of all users of a file.)
+    /// How many users there are. (That they are few, and that names tell users and groups apart and
+    /// are short, holds of all users of a file.)
     pub fn len(&self) -> u32
-        ensures len { result ≡ length self.now }
-        ensures few { length self.now ≤ spec.user_limit }
+        ensures len { result ≡ length self.now.people }
+        ensures few { length self.now.people ≤ spec.user_limit }
         ensures told { AreToldApart (directory_of self.now) }
         ensures short { All (λ name. length name ≤ 200) (directory_of self.now).names }
+        ensures short_groups { All IsShortGroup (directory_of self.now).groups }
     {
         self.users.len() as u32
     }
 
     /// The name of the user of a number. Takes no memory.
     pub fn name(&self, who: u32) -> &[u8]
-        requires { who < length self.now }
+        requires { who < length self.now.people }
         ensures { result.now ≡ user_name (directory_of self.now) who }
     {
         self.users[who as usize].name.as_slice()
@@ -85,38 +87,64 @@ impl Users {
     pub fn find(&self, name: &[u8]) -> Option<u32>
         ensures number { result ≡ spec.number_of self.now name.now }
         ensures in_directory { result ≡ user_number (directory_of self.now) name.now }
-        ensures within { IfSome result (λ who. who < length self.now) }
+        ensures within { IfSome result (λ who. who < length self.now.people) }
     {
         self.numbers.get(name).copied()
     }
 
-    /// How many groups there are.
-    pub fn groups(&self) -> u32 {
+    /// How many groups there are. (That they are few, and that their members are users in the order
+    /// of their numbers, holds of all groups of a file.)
+    pub fn groups(&self) -> u32
+        ensures count { result ≡ length self.now.groups }
+        ensures few { length self.now.groups ≤ spec.group_limit }
+        ensures members { All (HasUsersInOrder (length self.now.people)) self.now.groups }
+    {
         self.groups.len() as u32
     }
 
     /// The name of the group of a number. Takes no memory.
-    pub fn group_name(&self, group: u32) -> &[u8] {
+    pub fn group_name(&self, group: u32) -> &[u8]
+        requires { group < length self.now.groups }
+        ensures { result.now ≡ group_name (directory_of self.now) group }
+    {
         self.groups[group as usize].name.as_slice()
     }
 
-    /// Whether a user is in a group. Takes no memory.
-    pub fn is_member(&self, group: u32, who: u32) -> bool {
+    /// Whether a user is in a group (RFC 3744, 2). Takes no memory.
+    pub fn is_member(&self, group: u32, who: u32) -> bool
+        requires group { group < length self.now.groups }
+        requires known { who < length self.now.people }
+        ensures { result ≡ is_member (directory_of self.now) group who }
+    {
         self.groups[group as usize].members[who as usize]
     }
 
-    /// The number of the group of a name. Takes no memory.
-    pub fn find_group(&self, name: &[u8]) -> Option<u32> {
+    /// The number of the group of a name: none exactly where no group has it. The time grows with the
+    /// logarithm of the number of groups. Takes no memory.
+    pub fn find_group(&self, name: &[u8]) -> Option<u32>
+        ensures number { result ≡ spec.group_number_of self.now name.now }
+        ensures within { IfSome result (λ group. group < length self.now.groups) }
+    {
         self.group_numbers.get(name).copied()
     }
 
-    /// Adds a group of a new name behind the others. Without memory nothing changes.
+    /// Adds a group of a new name behind the others, whose members are marked by their numbers.
+    /// Without memory nothing changes.
     pub(crate) fn add_group(
         &mut self,
         alloc: Global,
         name: &[u8],
         members: [bool; 32],
-    ) -> Result<(), NoMemory> {
+    ) -> Result<(), NoMemory>
+        requires room { length self.old.groups < spec.group_limit }
+        requires named { 0 < length name.now }
+        requires short { length name.now ≤ name_limit }
+        requires apart { spec.number_of self.old name.now ≡ None }
+        requires new { spec.group_number_of self.old name.now ≡ None }
+        requires members { HasUsersInOrder (length self.old.people) (marked_group name.now members) }
+        ensures ok { OnOk result (self.new ≡ and_group self.old (marked_group name.now members)) }
+        ensures err { OnErr result (self.new ≡ self.old) }
+    {
         let number = self.groups.len() as u32;
         let shown = Octets::of(alloc, name)?;
         let key = Octets::of(alloc, name)?;
@@ -137,8 +165,8 @@ impl Users {
     /// hexadecimal digits. All its octets are compared, wherever the first difference is. Takes no
     /// memory.
     pub fn admits(&self, who: u32, digest: &[u8; 64]) -> bool
-        requires { who < length self.now }
-        ensures { option_map (λ (user : spec.User). bytes_eq digest.now user.digest) (slice_get self.now who) ≡ Some result }
+        requires { who < length self.now.people }
+        ensures { option_map (λ (user : spec.User). bytes_eq digest.now user.digest) (slice_get self.now.people who) ≡ Some result }
     {
         is_same(digest, &self.users[who as usize].digest)
     }
@@ -150,11 +178,12 @@ impl Users {
         name: &[u8],
         digest: [u8; 64],
     ) -> Result<(), NoMemory>
-        requires room { length self.old < spec.user_limit }
+        requires room { length self.old.people < spec.user_limit }
         requires named { 0 < length name.now }
         requires short { length name.now ≤ name_limit }
         requires apart { spec.number_of self.old name.now ≡ None }
-        ensures ok { OnOk result (self.new ≡ self.old ++ record { name = name.now; digest = digest } ∷ []) }
+        requires no_group { spec.group_number_of self.old name.now ≡ None }
+        ensures ok { OnOk result (self.new ≡ and_user self.old (record { name = name.now; digest = digest })) }
         ensures err { OnErr result (self.new ≡ self.old) }
     {
         let number = self.users.len() as u32;
