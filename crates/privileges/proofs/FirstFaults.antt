@@ -1,5 +1,5 @@
 -- The least of some numbers, part by part.
-use Rattle.std.proofs.Common.{◌≡◌, ℕ, ◌≤◌, Bool, true, false, cond, ◌||◌, min, nat_le, List, [], ◌∷◌, ◌++◌, map, Option, Some, None, refl, sym, ap, ◌∙◌, arith}
+use Rattle.std.proofs.Common.{◌≡◌, ℕ, ◌≤◌, Bool, true, false, cond, ◌||◌, min, nat_le, List, [], ◌∷◌, ◌++◌, map, Option, Some, None, refl, sym, ap, ◌∙◌, arith, ◌⊎◌, inl, inr}
 use Rattle.std.specs.Prelude.{filter, if◌then◌else◌}
 use Rattle.std.specs.List.{AllByRecursion}
 use Rattle.std.proofs.lemmas.Bool.Decides.{nat_tests}
@@ -66,7 +66,7 @@ pub lesser-own : (n : ℕ) (a : Option ℕ) → AtLeast n a → lesser n a ≡ S
 lesser-own n None past = refl
 lesser-own n (Some m) past = lesser-min n m ∙ ap Some (omega (arith, past))
 
-AtLeast-lesser : (n m : ℕ) (a : Option ℕ) → n ≤ m → AtLeast n a → AtLeast n (lesser m a)
+pub AtLeast-lesser : (n m : ℕ) (a : Option ℕ) → n ≤ m → AtLeast n a → AtLeast n (lesser m a)
 AtLeast-lesser n m None here past = here
 AtLeast-lesser n m (Some k) here past = elim (nat_le m k) as (λ b. n ≤ (if b then m else k)) [ true ↦ here | false ↦ past ]
 
@@ -85,3 +85,35 @@ joined-right n (Some m) b past here = ap (lesser m) here ∙ lesser-min m n ∙ 
 pub least-past : (n : ℕ) (ns : List ℕ) → AllByRecursion (λ m. n ≤ m) ns → AtLeast n (least ns)
 least-past n [] past = tt
 least-past n (m ∷ ns) past = AtLeast-lesser n m (least ns) past.0 (least-past n ns past.1)
+
+-- Several that may be absent
+
+abbrev pub first_of : List (Option ℕ) → Option ℕ
+first_of [] = None
+first_of (place ∷ places) = joined place (first_of places)
+
+joined-none : (a : Option ℕ) → joined a None ≡ a
+joined-none None = refl
+joined-none (Some n) = refl
+
+pub first_of-push : (places : List (Option ℕ)) (place : Option ℕ) → first_of (places ++ place ∷ []) ≡ joined (first_of places) place
+first_of-push [] place = joined-none place
+first_of-push (first ∷ places) place = ap (joined first) (first_of-push places place) ∙ joined-assoc first (first_of places) place
+
+abbrev pub EachAtLeast : ℕ → List (Option ℕ) → Type 0
+EachAtLeast n [] = Unit {0}
+EachAtLeast n (place ∷ places) = AtLeast n place × EachAtLeast n places
+
+abbrev pub IsOneOf : ℕ → List (Option ℕ) → Type 0
+IsOneOf n [] = ⊥
+IsOneOf n (place ∷ places) = (place ≡ Some n) ⊎ IsOneOf n places
+
+first_of-past : (n : ℕ) (places : List (Option ℕ)) → EachAtLeast n places → AtLeast n (first_of places)
+first_of-past n [] past = tt
+first_of-past n (place ∷ places) past = AtLeast-joined n place (first_of places) past.0 (first_of-past n places past.1)
+
+-- where one is that number, and the others are no less
+pub first_of-here : (n : ℕ) (places : List (Option ℕ)) → EachAtLeast n places → IsOneOf n places → first_of places ≡ Some n
+first_of-here n [] past here = absurd here
+first_of-here n (place ∷ places) past (inl here) = joined-left n place (first_of places) here (first_of-past n places past.1)
+first_of-here n (place ∷ places) past (inr there) = joined-right n place (first_of places) past.0 (first_of-here n places past.1 there)

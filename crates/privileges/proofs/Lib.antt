@@ -2,6 +2,8 @@ pub mod Places
 pub mod Cuts
 pub mod DigestSteps
 pub mod FirstFaults
+pub mod Numbered
+pub mod KnownEntries
 pub mod ReadingInOrder
 pub mod UserLines
 pub mod LineSteps

@@ -1,19 +1,19 @@
 -- The first fault of a users file is the one that is met when its lines are read in order.
 use Rattle.std.proofs.Common.{◌≡◌, ℕ, zero, suc, ◌+◌, ◌-◌, ◌<◌, ◌≤◌, Bool, true, false, not, ◌&&◌, ◌||◌, cond, nat_lt, List, [], ◌∷◌, ◌++◌, length, drop, map, Option, Some, None, Result, Ok, Err, refl, sym, ap, ◌∙◌, arith, inl, inr, append_assoc, append-nil}
-use Rattle.std.specs.Prelude.{filter, is_some, is_none, bytes_eq, if◌then◌else◌}
+use Rattle.std.specs.Prelude.{filter, is_none, bytes_eq, option_to_list, if◌then◌else◌}
 use Rattle.std.specs.Option.{option_map}
-use Rattle.std.specs.List.{AllByRecursion, filter_map, cons_option}
+use Rattle.std.specs.List.{AllByRecursion, filter_map, cons_option, list_any, list_all}
 use Rattle.std.proofs.lemmas.Bool.{cases_lt, lt-ltb, le-ltb, cases_Bool}
-use Rattle.std.proofs.lemmas.Bool.Decides.{same_from_decides}
-use Rattle.std.proofs.lemmas.List.{length_push}
-use Rattle.std.proofs.lemmas.Slice.Eq.{bytes_eq-Decides}
+use Rattle.std.proofs.lemmas.List.{length_push, length-map}
+use Rattle.std.proofs.lemmas.List.Folds.{list_any-append}
 use Rattle.cal_base.specs.Lines.ContentLines.{pieces, least}
 use Rattle.cal_base.specs.Texts.Octets.{line_feed}
 use Rattle.cal_model.specs.Words.Lists.{is_empty}
-use Rattle.cal_model.specs.Users.UsersFile.{User, number_of, user_limit, user_of_line, is_silent, is_bad_line, Placed, placed_from, placed_lines, unended, without_last, last_of, placed_user, placed_users, places, repeated, users_fault, users_of}
-use Rattle.privileges.specs.LineReading.{with_user, after_line, read_on}
-use Rattle.privileges.proofs.Places.{position-push}
-use Rattle.privileges.proofs.FirstFaults.{joined, joined-assoc, least-append, least-either, AtLeast, lesser-own, AtLeast-joined, joined-left, joined-right, least-past}
+use Rattle.cal_model.specs.Users.UsersFile.{User, NamedGroup, Users, Entry, a_user, a_group, name_of, user_in, group_in, number_of, user_limit, group_limit, entry_of_line, is_silent, is_bad_line, Placed, placed_from, placed_lines, placed_by, placed_entries, of_sort, unended, without_last, last_of, places, repeated, has_stranger, with_strangers, numbered_group, users_named, users_fault, users_of}
+use Rattle.privileges.specs.KnownUsers.{and_user, and_group}
+use Rattle.privileges.specs.LineReading.{is_taken, with_user, with_group, with_entry, after_line, read_on}
+use Rattle.privileges.proofs.FirstFaults.{joined, joined-assoc, least-append, least-either, AtLeast, AtLeast-lesser, lesser-own, AtLeast-joined, least-past, first_of, first_of-push, first_of-here, EachAtLeast}
+use Rattle.privileges.proofs.KnownEntries.{people_in, groups_in, names_in, has_name, is_taken-named, are_users-named, people-push, groups-push, names-push, IsRead, IsRead-user, IsRead-group, users_named-user, users_named-group}
 
 -- The faults of the lines from a place on
 
@@ -24,23 +24,30 @@ bads lines = filter (λ (line : Placed (List ℕ)). is_bad_line line.it) (withou
 abbrev end : List (Placed (List ℕ)) → Option ℕ
 end lines = least (places (filter unended (last_of lines)))
 
-abbrev users_in : List (Placed (List ℕ)) → List (Placed User)
-users_in lines = filter_map placed_user (without_last lines)
+abbrev entries_in : List (Placed (List ℕ)) → List (Placed Entry)
+entries_in lines = filter_map (placed_by entry_of_line) (without_last lines)
 
--- the users with a name that is known
-abbrev again : List User → List (Placed User) → List ℕ
-again known users = places (filter (λ (user : Placed User). is_some (number_of known user.it.name)) users)
+-- those with a name that is known, and those that are too many
+abbrev again : List Entry → List (Placed Entry) → List ℕ
+again known entries = places (filter (λ (entry : Placed Entry). has_name known (name_of entry.it)) entries)
 
-abbrev fault_of : List User → List ℕ → Option ℕ → List (Placed User) → Option ℕ
-fault_of known bad ended users =
-    joined (least bad) (joined ended (joined (least (again known users)) (joined (least (repeated users)) (least (places (drop (user_limit - length known) users))))))
+abbrev users_past : List Entry → List (Placed Entry) → List ℕ
+users_past known entries = places (drop (user_limit - length (people_in known)) (filter_map (of_sort user_in) entries))
 
-abbrev verdict_by : Option ℕ → List User → Result (List User) ℕ
+abbrev groups_past : List Entry → List (Placed Entry) → List ℕ
+groups_past known entries = places (drop (group_limit - length (groups_in known)) (filter_map (of_sort group_in) entries))
+
+abbrev faults : List Entry → List ℕ → Option ℕ → List (Placed Entry) → List (Option ℕ)
+faults known bad ended entries =
+    least bad ∷ ended ∷ least (again known entries) ∷ least (repeated entries) ∷ least (users_past known entries) ∷ least (groups_past known entries)
+    ∷ least (with_strangers (names_in known) entries) ∷ []
+
+abbrev verdict_by : Option ℕ → Users → Result Users ℕ
 verdict_by None users = Ok users
 verdict_by (Some place) users = Err place
 
-abbrev verdict : List User → List ℕ → Option ℕ → List (Placed User) → Result (List User) ℕ
-verdict known bad ended users = verdict_by (fault_of known bad ended users) (known ++ map (λ (user : Placed User). user.it) users)
+abbrev verdict : List Entry → List ℕ → Option ℕ → List (Placed Entry) → Result Users ℕ
+verdict known bad ended entries = verdict_by (first_of (faults known bad ended entries)) (users_named (known ++ map (λ (entry : Placed Entry). entry.it) entries))
 
 -- Places behind a place
 
@@ -66,13 +73,19 @@ AllFrom-last_of n [] past = tt
 AllFrom-last_of n (x ∷ []) past = past
 AllFrom-last_of n (x ∷ y ∷ xs) past = AllFrom-last_of n (y ∷ xs) past.1
 
-AllFrom-users : (n : ℕ) (lines : List (Placed (List ℕ))) → AllFrom n lines → AllFrom n (filter_map placed_user lines)
-AllFrom-users n [] past = tt
-AllFrom-users n (line ∷ lines) past =
-    elim (user_of_line line.it) as (λ (o : Option User). AllFrom n (cons_option (option_map (λ user. record { place = line.place; it = user }) o) (filter_map placed_user lines))) [
-      | None ↦ AllFrom-users n lines past.1
-      | Some user ↦ (past.0, AllFrom-users n lines past.1)
-    ]
+-- what is read of something stands at its place
+AllFrom-some : {Y : Type 0} (n place : ℕ) (o : Option Y) (rest : List (Placed Y)) → n ≤ place → AllFrom n rest
+    → AllFrom n (cons_option (option_map (λ (it : Y). record { place = place; it = it }) o) rest)
+AllFrom-some n place None rest past all = all
+AllFrom-some n place (Some y) rest past all = (past, all)
+
+AllFrom-entries : (n : ℕ) (lines : List (Placed (List ℕ))) → AllFrom n lines → AllFrom n (filter_map (placed_by entry_of_line) lines)
+AllFrom-entries n [] past = tt
+AllFrom-entries n (line ∷ lines) past = AllFrom-some n line.place (entry_of_line line.it) (filter_map (placed_by entry_of_line) lines) past.0 (AllFrom-entries n lines past.1)
+
+AllFrom-sort : {X : Type 0} (n : ℕ) (sort : Entry → Option X) (entries : List (Placed Entry)) → AllFrom n entries → AllFrom n (filter_map (of_sort sort) entries)
+AllFrom-sort n sort [] past = tt
+AllFrom-sort n sort (entry ∷ entries) past = AllFrom-some n entry.place (sort entry.it) (filter_map (of_sort sort) entries) past.0 (AllFrom-sort n sort entries past.1)
 
 AllFrom-drop : {X : Type 0} (n k : ℕ) (xs : List (Placed X)) → AllFrom n xs → AllFrom n (drop k xs)
 AllFrom-drop n zero [] past = tt
@@ -86,205 +99,339 @@ AtLeast-places {X} n xs past = least-past n (places xs) (numbers xs past) where
   numbers [] past = tt
   numbers (x ∷ xs) past = (past.0, numbers xs past.1)
 
-AtLeast-repeated : (n : ℕ) (users : List (Placed User)) → AllFrom n users → AtLeast n (least (repeated users))
+AtLeast-repeated : (n : ℕ) (entries : List (Placed Entry)) → AllFrom n entries → AtLeast n (least (repeated entries))
 AtLeast-repeated n [] past = tt
-AtLeast-repeated n (user ∷ users) past =
-    let same : Placed User → Bool = λ other. bytes_eq user.it.name other.it.name in
-    rw (least-append (places (filter same users)) (repeated users))
-    (AtLeast-joined n _ _ (AtLeast-places n (filter same users) (AllFrom-filter n same users past.1)) (AtLeast-repeated n users past.1))
+AtLeast-repeated n (entry ∷ entries) past =
+    let same : Placed Entry → Bool = λ other. bytes_eq (name_of entry.it) (name_of other.it) in
+    rw (least-append (places (filter same entries)) (repeated entries))
+    (AtLeast-joined n _ _ (AtLeast-places n (filter same entries) (AllFrom-filter n same entries past.1)) (AtLeast-repeated n entries past.1))
 
--- One line more
+-- whether a line has a stranger
+abbrev has_strangers : List (List ℕ) → Placed Entry → Bool
+has_strangers names entry = list_any (has_stranger names) (option_to_list (group_in entry.it))
 
--- of the users behind a user, those of a name that is known or the user's
-is_known-push : (known : List User) (user : User) (name : List ℕ) → is_some (number_of (known ++ user ∷ []) name) ≡ (is_some (number_of known name) || bytes_eq user.name name)
-is_known-push known user name =
-    ap is_some (position-push (λ (other : User). bytes_eq name other.name) known user)
-    ∙ by_found (number_of known name) (bytes_eq name user.name)
-    ∙ ap (λ same. is_some (number_of known name) || same) (same_names name user.name) where
-      by_found : (o : Option ℕ) (same : Bool) → is_some (elim o [ None ↦ cond same (Some (length known)) None | Some n ↦ Some n ]) ≡ (is_some o || same)
-      by_found None true = refl
-      by_found None false = refl
-      by_found (Some n) same = refl
+AtLeast-strangers : (n : ℕ) (names : List (List ℕ)) (entries : List (Placed Entry)) → AllFrom n entries → AtLeast n (least (with_strangers names entries))
+AtLeast-strangers n names [] past = tt
+AtLeast-strangers n names (entry ∷ entries) past =
+    let more = map (λ (user : User). user.name) (option_to_list (user_in entry.it)) ++ names in
+    rw (least-append (places (filter (has_strangers names) (entry ∷ []))) (with_strangers more entries))
+    (AtLeast-joined n _ _ (AtLeast-places n (filter (has_strangers names) (entry ∷ [])) (AllFrom-filter n (has_strangers names) (entry ∷ []) (past.0, tt))) (AtLeast-strangers n more entries past.1))
 
-      same_names : (one other : List ℕ) → bytes_eq one other ≡ bytes_eq other one
-      same_names one other =
-          same_from_decides _ _ (bytes_eq-Decides one other)
-          (λ e. sym ((bytes_eq-Decides other one).0 e), λ e. (bytes_eq-Decides other one).1 (sym e))
+-- A line that is refused
 
-again-push : (known : List User) (user : User) (users : List (Placed User))
-    → least (again (known ++ user ∷ []) users) ≡ joined (least (again known users)) (least (places (filter (λ (other : Placed User). bytes_eq user.name other.it.name) users)))
-again-push known user users =
-    ap (λ (test : Placed User → Bool). least (places (filter test users))) (λ i other. is_known-push known user other.it.name i)
-    ∙ least-either (λ (other : Placed User). other.place) (λ other. is_some (number_of known other.it.name)) (λ other. bytes_eq user.name other.it.name) users
+faults_past : (known : List Entry) (place : ℕ) (bad : List ℕ) (ended : Option ℕ) (entries : List (Placed Entry)) → AtLeast place (least bad) → AtLeast place ended → AllFrom place entries
+    → EachAtLeast place (faults known bad ended entries)
+faults_past known place bad ended entries past_bad past_end past = (
+  past_bad, (
+    past_end, (
+      AtLeast-places place _ (AllFrom-filter place (λ (entry : Placed Entry). has_name known (name_of entry.it)) entries past), (
+        AtLeast-repeated place entries past, (
+          AtLeast-places place _ (AllFrom-drop place (user_limit - length (people_in known)) _ (AllFrom-sort place user_in entries past)), (
+            AtLeast-places place _ (AllFrom-drop place (group_limit - length (groups_in known)) _ (AllFrom-sort place group_in entries past)), (
+              AtLeast-strangers place (names_in known) entries past, tt,
+            ),
+          ),
+        ),
+      ),
+    ),
+  ),
+)
 
 -- the first fault stands at this line
-at_once : (known : List User) (place : ℕ) (bad : List ℕ) (ended : Option ℕ) (users : List (Placed User)) → fault_of known bad ended users ≡ Some place → Err place ≡ verdict known bad ended users
-at_once known place bad ended users here = ap (λ fault. verdict_by fault (known ++ map (λ (user : Placed User). user.it) users)) (sym here)
+at_once : (known : List Entry) (place : ℕ) (bad : List ℕ) (ended : Option ℕ) (entries : List (Placed Entry)) → first_of (faults known bad ended entries) ≡ Some place
+    → Err place ≡ verdict known bad ended entries
+at_once known place bad ended entries here = ap (λ fault. verdict_by fault (users_named (known ++ map (λ (entry : Placed Entry). entry.it) entries))) (sym here)
 
-module _ (known : List User) (place : ℕ) (bad : List ℕ) (ended : Option ℕ) (users : List (Placed User)) (past_bad : AtLeast place (least bad)) (past_end : AtLeast place ended) (past_users : AllFrom place users) where
-  past_again : AtLeast place (least (again known users))
-  past_again = AtLeast-places place _ (AllFrom-filter place (λ (user : Placed User). is_some (number_of known user.it.name)) users past_users)
-
-  past_more : (k : ℕ) → AtLeast place (least (places (drop k users)))
-  past_more k = AtLeast-places place _ (AllFrom-drop place k users past_users)
-
-  past_repeated : AtLeast place (least (repeated users))
-  past_repeated = AtLeast-repeated place users past_users
-
+module _ (known : List Entry) (place : ℕ) (bad : List ℕ) (ended : Option ℕ) (entries : List (Placed Entry)) (past_bad : AtLeast place (least bad)) (past_end : AtLeast place ended)
+    (past_entries : AllFrom place entries) where
   -- a line outside the grammar
-  bad_line : Err place ≡ verdict known (place ∷ bad) ended users
+  bad_line : Err place ≡ verdict known (place ∷ bad) ended entries
   bad_line =
-      at_once known place (place ∷ bad) ended users
-      (joined-left place _ _ (lesser-own place (least bad) past_bad)
-      (AtLeast-joined place _ _ past_end (AtLeast-joined place _ _ past_again (AtLeast-joined place _ _ past_repeated (past_more (user_limit - length known))))))
+      at_once known place (place ∷ bad) ended entries
+      (first_of-here place (faults known (place ∷ bad) ended entries)
+      (faults_past known place (place ∷ bad) ended entries (AtLeast-lesser place place (least bad) (omega arith) past_bad) past_end past_entries)
+      (inl (lesser-own place (least bad) past_bad)))
+
+  module _ (entry : Entry) where
+    abbrev all : List (Placed Entry)
+    all = record { place = place; it = entry } ∷ entries
+
+    past_all : EachAtLeast place (faults known bad ended all)
+    past_all = faults_past known place bad ended all past_bad past_end (omega arith, past_entries)
+
+    -- a name that is known
+    known_name : has_name known (name_of entry) ≡ true → Err place ≡ verdict known bad ended all
+    known_name there =
+        let others : List (Placed Entry) = filter (λ (other : Placed Entry). has_name known (name_of other.it)) entries in
+        let here : least (again known all) ≡ Some place =
+        ap (λ b. least (places (cond b (record { place = place; it = entry } ∷ others) others))) there
+        ∙ lesser-own place _ (AtLeast-places place others (AllFrom-filter place (λ (other : Placed Entry). has_name known (name_of other.it)) entries past_entries)) in
+        at_once known place bad ended all (first_of-here place (faults known bad ended all) past_all (inr (inr (inl here))))
 
   -- a user too many
-  one_too_many : (user : User) → user_limit ≤ length known → Err place ≡ verdict known bad ended (record { place = place; it = user } ∷ users)
-  one_too_many user full =
-      let all = record { place = place; it = user } ∷ users in
-      let past_all : AllFrom place all = (omega arith, past_users) in
-      let none : user_limit - length known ≡ 0 = omega arith in
-      at_once known place bad ended all
-      (joined-right place _ _ past_bad (joined-right place _ _ past_end
-      (joined-right place _ _ (AtLeast-places place _ (AllFrom-filter place (λ (other : Placed User). is_some (number_of known other.it.name)) all past_all))
-      (joined-right place _ _ (AtLeast-repeated place all past_all)
-      (ap (λ k. least (places (drop k all))) none ∙ lesser-own place _ (AtLeast-places place users past_users))))))
+  user_past : (user : User) → user_limit ≤ length (people_in known) → Err place ≡ verdict known bad ended (all (a_user user))
+  user_past user full =
+      let none : user_limit - length (people_in known) ≡ 0 = omega (arith, full) in
+      let here : least (users_past known (all (a_user user))) ≡ Some place =
+      ap (λ k. least (places (drop k (filter_map (of_sort user_in) (all (a_user user)))))) none
+      ∙ lesser-own place _ (AtLeast-places place _ (AllFrom-sort place user_in entries past_entries)) in
+      at_once known place bad ended (all (a_user user)) (first_of-here place (faults known bad ended (all (a_user user))) (past_all (a_user user)) (inr (inr (inr (inr (inl here))))))
 
-  -- a user of a name that is known
-  known_name : (user : User) → is_some (number_of known user.name) ≡ true → Err place ≡ verdict known bad ended (record { place = place; it = user } ∷ users)
-  known_name user there =
-      let all = record { place = place; it = user } ∷ users in
-      let past_all : AllFrom place all = (omega arith, past_users) in
-      let others = filter (λ (other : Placed User). is_some (number_of known other.it.name)) users in
-      at_once known place bad ended all
-      (joined-right place _ _ past_bad (joined-right place _ _ past_end
-      (joined-left place _ _
-      (ap (λ b. least (places (cond b (record { place = place; it = user } ∷ others) others))) there ∙ lesser-own place _ past_again)
-      (AtLeast-joined place _ _ (AtLeast-repeated place all past_all) (AtLeast-places place _ (AllFrom-drop place (user_limit - length known) all past_all))))))
+  -- a group too many
+  group_past : (group : NamedGroup) → group_limit ≤ length (groups_in known) → Err place ≡ verdict known bad ended (all (a_group group))
+  group_past group full =
+      let none : group_limit - length (groups_in known) ≡ 0 = omega (arith, full) in
+      let here : least (groups_past known (all (a_group group))) ≡ Some place =
+      ap (λ k. least (places (drop k (filter_map (of_sort group_in) (all (a_group group)))))) none
+      ∙ lesser-own place _ (AtLeast-places place _ (AllFrom-sort place group_in entries past_entries)) in
+      at_once known place bad ended (all (a_group group)) (first_of-here place (faults known bad ended (all (a_group group))) (past_all (a_group group)) (inr (inr (inr (inr (inr (inl here)))))))
+
+  -- a group with a member who is no user so far
+  stranger : (group : NamedGroup) → has_stranger (names_in known) group ≡ true → Err place ≡ verdict known bad ended (all (a_group group))
+  stranger group there =
+      let one : Placed Entry = record { place = place; it = a_group group } in
+      let here : least (with_strangers (names_in known) (all (a_group group))) ≡ Some place =
+      ap (λ b. least (places (cond (b || false) (one ∷ []) []) ++ with_strangers (names_in known) entries)) there
+      ∙ lesser-own place _ (AtLeast-strangers place (names_in known) entries past_entries) in
+      at_once known place bad ended (all (a_group group)) (first_of-here place (faults known bad ended (all (a_group group))) (past_all (a_group group)) (inr (inr (inr (inr (inr (inr (inl here))))))))
+
+-- A line that is taken
+
+-- of the entries behind one, those of a name that is known or the entry's
+again-push : (known : List Entry) (entry : Entry) (entries : List (Placed Entry))
+    → least (again (known ++ entry ∷ []) entries) ≡ joined (least (again known entries)) (least (places (filter (λ (other : Placed Entry). bytes_eq (name_of entry) (name_of other.it)) entries)))
+again-push known entry entries =
+    ap (λ (test : Placed Entry → Bool). least (places (filter test entries)))
+    (λ i other. (list_any-append (λ (e : Entry). bytes_eq (name_of e) (name_of other.it)) known (entry ∷ [])
+    ∙ ap (λ b. has_name known (name_of other.it) || b) (or_none (bytes_eq (name_of entry) (name_of other.it)))) i)
+    ∙ least-either (λ (other : Placed Entry). other.place) (λ other. has_name known (name_of other.it)) (λ other. bytes_eq (name_of entry) (name_of other.it)) entries where
+      or_none : (b : Bool) → (b || false) ≡ b
+      or_none true = refl
+      or_none false = refl
+
+-- the names that are known count, and not their order
+strangers-same : (some other : List (List ℕ)) (entries : List (Placed Entry)) → ((name : List ℕ) → list_any (bytes_eq name) some ≡ list_any (bytes_eq name) other)
+    → with_strangers some entries ≡ with_strangers other entries
+strangers-same some other [] same = refl
+strangers-same some other (entry ∷ entries) same =
+    let more = map (λ (user : User). user.name) (option_to_list (user_in entry.it)) in
+    λ i. places (filter (λ (placed : Placed Entry). list_any (λ (group : NamedGroup). list_any (λ member. not (same member i)) group.members) (option_to_list (group_in placed.it))) (entry ∷ []))
+    ++ strangers-same (more ++ some) (more ++ other) entries
+    (λ name. list_any-append (bytes_eq name) more some ∙ ap (λ b. list_any (bytes_eq name) more || b) (same name) ∙ sym (list_any-append (bytes_eq name) more other)) i
+
+module _ (known : List Entry) (place : ℕ) (bad : List ℕ) (ended : Option ℕ) (entry : Entry) (entries : List (Placed Entry)) where
+  abbrev one : Placed Entry
+  one = record { place = place; it = entry }
+
+  welcome : has_name known (name_of entry) ≡ false → users_past (known ++ entry ∷ []) entries ≡ users_past known (one ∷ entries)
+      → groups_past (known ++ entry ∷ []) entries ≡ groups_past known (one ∷ entries)
+      → with_strangers (names_in (known ++ entry ∷ [])) entries ≡ with_strangers (names_in known) (one ∷ entries)
+      → verdict (known ++ entry ∷ []) bad ended entries ≡ verdict known bad ended (one ∷ entries)
+  welcome absent users groups strangers =
+      let same : List (Placed Entry) = filter (λ (other : Placed Entry). bytes_eq (name_of entry) (name_of other.it)) entries in
+      let others : List (Placed Entry) = filter (λ (other : Placed Entry). has_name known (name_of other.it)) entries in
+      let heard : again known (one ∷ entries) ≡ again known entries = ap (λ b. places (cond b (one ∷ others) others)) absent in
+      let twice : least (repeated (one ∷ entries)) ≡ joined (least (places same)) (least (repeated entries)) = least-append (places same) (repeated entries) in
+      let last : Option ℕ = first_of (least (users_past (known ++ entry ∷ []) entries) ∷ least (groups_past (known ++ entry ∷ []) entries) ∷ least (with_strangers (names_in (known ++ entry ∷ [])) entries) ∷ []) in
+      let here : first_of (faults (known ++ entry ∷ []) bad ended entries) ≡ first_of (faults known bad ended (one ∷ entries)) =
+      ap (λ o. joined (least bad) (joined ended (joined o (joined (least (repeated entries)) last)))) (again-push known entry entries)
+      ∙ ap (λ o. joined (least bad) (joined ended o))
+      (sym (joined-assoc (least (again known entries)) (least (places same)) (joined (least (repeated entries)) last))
+      ∙ ap (joined (least (again known entries))) (joined-assoc (least (places same)) (least (repeated entries)) last)
+      ∙ ap (λ o. joined (least (again known entries)) (joined o last)) (sym twice)
+      ∙ ap (λ ns. joined (least ns) (joined (least (repeated (one ∷ entries))) last)) (sym heard)
+      ∙ (λ i. joined (least (again known (one ∷ entries))) (joined (least (repeated (one ∷ entries))) (first_of (least (users i) ∷ least (groups i) ∷ least (strangers i) ∷ []))))) in
+      ap (λ all. verdict_by (first_of (faults (known ++ entry ∷ []) bad ended entries)) (users_named all)) (append_assoc known (entry ∷ []) (map (λ (other : Placed Entry). other.it) entries))
+      ∙ ap (λ fault. verdict_by fault (users_named (known ++ entry ∷ map (λ (other : Placed Entry). other.it) entries))) here
 
 -- a user who is welcome
-welcome : (known : List User) (place : ℕ) (bad : List ℕ) (ended : Option ℕ) (user : User) (users : List (Placed User)) → length known < user_limit → is_some (number_of known user.name) ≡ false
-    → verdict (known ++ user ∷ []) bad ended users ≡ verdict known bad ended (record { place = place; it = user } ∷ users)
-welcome known place bad ended user users room absent =
-    let one : Placed User = record { place = place; it = user } in
-    let same : List (Placed User) = filter (λ (other : Placed User). bytes_eq user.name other.it.name) users in
-    let others : List (Placed User) = filter (λ (other : Placed User). is_some (number_of known other.it.name)) users in
-    let k = user_limit - length (known ++ user ∷ []) in
-    let count : user_limit - length known ≡ suc k = omega (arith, length_push known user) in
-    let fewer : places (drop (user_limit - length known) (one ∷ users)) ≡ places (drop k users) = ap (λ n. places (drop n (one ∷ users))) count in
-    let heard : again known (one ∷ users) ≡ again known users = ap (λ b. places (cond b (one ∷ others) others)) absent in
-    let twice : least (repeated (one ∷ users)) ≡ joined (least (places same)) (least (repeated users)) = least-append (places same) (repeated users) in
-    let last = least (places (drop k users)) in
-    let faults : fault_of (known ++ user ∷ []) bad ended users ≡ fault_of known bad ended (one ∷ users) =
-    ap (λ o. joined (least bad) (joined ended (joined o (joined (least (repeated users)) last)))) (again-push known user users)
-    ∙ ap (λ o. joined (least bad) (joined ended o))
-    (sym (joined-assoc (least (again known users)) (least (places same)) (joined (least (repeated users)) last))
-    ∙ ap (joined (least (again known users))) (joined-assoc (least (places same)) (least (repeated users)) last)
-    ∙ ap (λ o. joined (least (again known users)) (joined o last)) (sym twice)
-    ∙ ap (λ ns. joined (least ns) (joined (least (repeated (one ∷ users))) last)) (sym heard)
-    ∙ ap (λ ns. joined (least (again known (one ∷ users))) (joined (least (repeated (one ∷ users))) (least ns))) (sym fewer)) in
-    ap (λ all. verdict_by (fault_of (known ++ user ∷ []) bad ended users) all) (append_assoc known (user ∷ []) (map (λ (other : Placed User). other.it) users))
-    ∙ ap (λ fault. verdict_by fault (known ++ user ∷ map (λ (other : Placed User). other.it) users)) faults
+welcome_user : (known : List Entry) (place : ℕ) (bad : List ℕ) (ended : Option ℕ) (user : User) (entries : List (Placed Entry)) → length (people_in known) < user_limit → has_name known user.name ≡ false
+    → verdict (known ++ a_user user ∷ []) bad ended entries ≡ verdict known bad ended (record { place = place; it = a_user user } ∷ entries)
+welcome_user known place bad ended user entries room absent =
+    let all = known ++ a_user user ∷ [] in
+    let k = user_limit - length (people_in all) in
+    let more : length (people_in all) ≡ length (people_in known ++ user ∷ []) = ap length (people-push known (a_user user)) in
+    let count : user_limit - length (people_in known) ≡ suc k = omega (arith, room, more, length_push (people_in known) user) in
+    let groups : groups_in all ≡ groups_in known = groups-push known (a_user user) ∙ append-nil (groups_in known) in
+    welcome known place bad ended (a_user user) entries absent
+    (sym (ap (λ n. places (drop n (filter_map (of_sort user_in) (record { place = place; it = a_user user } ∷ entries)))) count))
+    (ap (λ (gs : List NamedGroup). places (drop (group_limit - length gs) (filter_map (of_sort group_in) entries))) groups)
+    (ap (λ names. with_strangers names entries) (names-push known (a_user user))
+    ∙ strangers-same (names_in known ++ user.name ∷ []) (user.name ∷ names_in known) entries
+    (λ name. list_any-append (bytes_eq name) (names_in known) (user.name ∷ []) ∙ turned (list_any (bytes_eq name) (names_in known)) (bytes_eq name user.name))) where
+      turned : (a b : Bool) → (a || (b || false)) ≡ (b || a)
+      turned true true = refl
+      turned true false = refl
+      turned false true = refl
+      turned false false = refl
+
+-- a group that is
+welcome_group : (known : List Entry) (place : ℕ) (bad : List ℕ) (ended : Option ℕ) (group : NamedGroup) (entries : List (Placed Entry)) → length (groups_in known) < group_limit
+    → has_name known group.name ≡ false → has_stranger (names_in known) group ≡ false
+    → verdict (known ++ a_group group ∷ []) bad ended entries ≡ verdict known bad ended (record { place = place; it = a_group group } ∷ entries)
+welcome_group known place bad ended group entries room absent none =
+    let one : Placed Entry = record { place = place; it = a_group group } in
+    let all = known ++ a_group group ∷ [] in
+    let k = group_limit - length (groups_in all) in
+    let more : length (groups_in all) ≡ length (groups_in known ++ group ∷ []) = ap length (groups-push known (a_group group)) in
+    let count : group_limit - length (groups_in known) ≡ suc k = omega (arith, room, more, length_push (groups_in known) group) in
+    let people : people_in all ≡ people_in known = people-push known (a_group group) ∙ append-nil (people_in known) in
+    welcome known place bad ended (a_group group) entries absent
+    (ap (λ (us : List User). places (drop (user_limit - length us) (filter_map (of_sort user_in) entries))) people)
+    (sym (ap (λ n. places (drop n (filter_map (of_sort group_in) (one ∷ entries)))) count))
+    (ap (λ names. with_strangers names entries) (names-push known (a_group group) ∙ append-nil (names_in known))
+    ∙ sym (ap (λ b. places (cond (b || false) (one ∷ []) []) ++ with_strangers (names_in known) entries) none))
 
 -- what a reading goes on with
-abbrev then_on : Result (List User) ℕ → (List User → Result (List User) ℕ) → Result (List User) ℕ
+abbrev then_on : Result Users ℕ → (Users → Result Users ℕ) → Result Users ℕ
 then_on result rest = elim result [ Ok known ↦ rest known | Err refused ↦ Err refused ]
 
 -- the lines of a place: what they are held against
-module _ (place : ℕ) (bad : List (Placed (List ℕ))) (ended : Option ℕ) (users : List (Placed User)) (rest : List User → Result (List User) ℕ)
-    (past_bad : AllFrom place bad) (past_end : AtLeast place ended) (past_users : AllFrom place users)
-    (on : (known : List User) → length known ≤ user_limit → rest known ≡ verdict known (places bad) ended users) where
-  of_user : (known : List User) (user : User) → length known ≤ user_limit
-      → then_on (with_user known place user) rest ≡ verdict known (places bad) ended (record { place = place; it = user } ∷ users)
-  of_user known user few = elim (cases_lt (length known) user_limit) [
-    | inl room ↦ elim (cases_Bool (is_some (number_of known user.name))) [
-      | inl there ↦
-          ap (λ b. then_on (if b then Ok (known ++ user ∷ []) else Err place) rest) (refused (nat_lt (length known) user_limit) (number_of known user.name) there)
-          ∙ known_name known place (places bad) ended users (AtLeast-places place bad past_bad) past_end past_users user there
-      | inr absent ↦
-          ap (λ b. then_on (if b then Ok (known ++ user ∷ []) else Err place) rest) (taken (nat_lt (length known) user_limit) (number_of known user.name) (lt-ltb (length known) user_limit room) absent)
-          ∙ on (known ++ user ∷ []) (omega (arith, length_push known user))
-          ∙ welcome known place (places bad) ended user users room absent
-    ]
-    | inr full ↦
-        ap (λ b. then_on (if b && is_none (number_of known user.name) then Ok (known ++ user ∷ []) else Err place) rest) (le-ltb (length known) user_limit full)
-        ∙ one_too_many known place (places bad) ended users (AtLeast-places place bad past_bad) past_end past_users user full
-  ] where
-    refused : (room : Bool) (o : Option ℕ) → is_some o ≡ true → (room && is_none o) ≡ false
-    refused true None there = sym there
-    refused true (Some n) there = refl
-    refused false o there = refl
+module _ (place : ℕ) (bad : List (Placed (List ℕ))) (ended : Option ℕ) (entries : List (Placed Entry)) (rest : Users → Result Users ℕ)
+    (past_bad : AllFrom place bad) (past_end : AtLeast place ended) (past_entries : AllFrom place entries)
+    (on : (known : List Entry) → IsRead known → rest (users_named known) ≡ verdict known (places bad) ended entries) where
+  of_user : (known : List Entry) (user : User) → IsRead known
+      → then_on (with_user (users_named known) place user) rest ≡ verdict known (places bad) ended (record { place = place; it = a_user user } ∷ entries)
+  of_user known user read =
+      let users = users_named known in
+      let bad_past = AtLeast-places place bad past_bad in
+      ap (λ b. then_on (if nat_lt (length (people_in known)) user_limit && not b then Ok (and_user users user) else Err place) rest) (is_taken-named known user.name)
+      ∙ elim (cases_lt (length (people_in known)) user_limit) [
+        | inl room ↦ elim (cases_Bool (has_name known user.name)) [
+          | inl there ↦
+              (λ i. then_on (if lt-ltb (length (people_in known)) user_limit room i && not (there i) then Ok (and_user users user) else Err place) rest)
+              ∙ known_name known place (places bad) ended entries bad_past past_end past_entries (a_user user) there
+          | inr absent ↦
+              (λ i. then_on (if lt-ltb (length (people_in known)) user_limit room i && not (absent i) then Ok (and_user users user) else Err place) rest)
+              ∙ ap rest (users_named-user known user read absent)
+              ∙ on (known ++ a_user user ∷ []) (IsRead-user known user read room)
+              ∙ welcome_user known place (places bad) ended user entries room absent
+        ]
+        | inr full ↦
+            ap (λ b. then_on (if b && not (has_name known user.name) then Ok (and_user users user) else Err place) rest) (le-ltb (length (people_in known)) user_limit full)
+            ∙ user_past known place (places bad) ended entries bad_past past_end past_entries user full
+      ]
 
-    taken : (room : Bool) (o : Option ℕ) → room ≡ true → is_some o ≡ false → (room && is_none o) ≡ true
-    taken true None room absent = refl
-    taken true (Some n) room absent = sym absent
-    taken false o room absent = room
+  of_group : (known : List Entry) (group : NamedGroup) → IsRead known
+      → then_on (with_group (users_named known) place group) rest ≡ verdict known (places bad) ended (record { place = place; it = a_group group } ∷ entries)
+  of_group known group read =
+      let users = users_named known in
+      let bad_past = AtLeast-places place bad past_bad in
+      let count : length users.groups ≡ length (groups_in known) = length-map (groups_in known) (numbered_group (people_in known)) in
+      let more = and_group users (numbered_group (people_in known) group) in
+      (λ i. then_on (if nat_lt (count i) group_limit && not (is_taken-named known group.name i) && are_users-named known group i then Ok more else Err place) rest)
+      ∙ elim (cases_lt (length (groups_in known)) group_limit) [
+        | inl room ↦ elim (cases_Bool (has_name known group.name)) [
+          | inl there ↦
+              (λ i. then_on (if lt-ltb (length (groups_in known)) group_limit room i && not (there i) && not (has_stranger (names_in known) group) then Ok more else Err place) rest)
+              ∙ known_name known place (places bad) ended entries bad_past past_end past_entries (a_group group) there
+          | inr absent ↦ elim (cases_Bool (has_stranger (names_in known) group)) [
+            | inl strange ↦
+                (λ i. then_on (if lt-ltb (length (groups_in known)) group_limit room i && not (absent i) && not (strange i) then Ok more else Err place) rest)
+                ∙ stranger known place (places bad) ended entries bad_past past_end past_entries group strange
+            | inr none ↦
+                (λ i. then_on (if lt-ltb (length (groups_in known)) group_limit room i && not (absent i) && not (none i) then Ok more else Err place) rest)
+                ∙ ap rest (users_named-group known group)
+                ∙ on (known ++ a_group group ∷ []) (IsRead-group known group read room none)
+                ∙ welcome_group known place (places bad) ended group entries room absent none
+          ]
+        ]
+        | inr full ↦
+            ap (λ b. then_on (if b && not (has_name known group.name) && not (has_stranger (names_in known) group) then Ok more else Err place) rest) (le-ltb (length (groups_in known)) group_limit full)
+            ∙ group_past known place (places bad) ended entries bad_past past_end past_entries group full
+      ]
 
-  of_line : (known : List User) (line : List ℕ) (silent : Bool) (o : Option User) → length known ≤ user_limit
-      → then_on (after_line known place silent o) rest
-      ≡ verdict known (places (cond (not silent && is_none o) (record { place = place; it = line } ∷ bad) bad)) ended (cons_option (option_map (λ user. record { place = place; it = user }) o) users)
-  of_line known line true None few = on known few
-  of_line known line false None few = bad_line known place (places bad) ended users (AtLeast-places place bad past_bad) past_end past_users
-  of_line known line true (Some user) few = of_user known user few
-  of_line known line false (Some user) few = of_user known user few
+  of_entry : (known : List Entry) (entry : Entry) → IsRead known
+      → then_on (with_entry (users_named known) place entry) rest ≡ verdict known (places bad) ended (record { place = place; it = entry } ∷ entries)
+  of_entry known (a_user user) read = of_user known user read
+  of_entry known (a_group group) read = of_group known group read
+
+  of_line : (known : List Entry) (line : List ℕ) (silent : Bool) (o : Option Entry) → IsRead known
+      → then_on (after_line (users_named known) place silent o) rest
+      ≡ verdict known (places (cond (not silent && is_none o) (record { place = place; it = line } ∷ bad) bad)) ended (cons_option (option_map (λ entry. record { place = place; it = entry }) o) entries)
+  of_line known line true None read = on known read
+  of_line known line false None read = bad_line known place (places bad) ended entries (AtLeast-places place bad past_bad) past_end past_entries
+  of_line known line true (Some entry) read = of_entry known entry read
+  of_line known line false (Some entry) read = of_entry known entry read
 
 drop_none : {X : Type 0} (k : ℕ) → drop {A = X} k [] ≡ []
 drop_none zero = refl
 drop_none (suc k) = refl
 
+-- where no lines are left
+none_left : (known : List Entry) (bad : List ℕ) (ended : Option ℕ) → first_of (faults known bad ended []) ≡ first_of (least bad ∷ ended ∷ [])
+none_left known bad ended =
+    λ i. first_of (least bad ∷ ended ∷ None ∷ None ∷ least (places (drop_none {X = Placed User} (user_limit - length (people_in known)) i)) ∷ least (places (drop_none {X = Placed NamedGroup} (group_limit - length (groups_in known)) i)) ∷ None ∷ [])
+
+all_read : (known : List Entry) → users_named known ≡ users_named (known ++ [])
+all_read known = ap users_named (sym (append-nil known))
+
 -- the last piece
-of_last : (known : List User) (place : ℕ) (last : List ℕ)
-    → (if is_empty last then Ok known else Err place) ≡ verdict known [] (least (places (filter unended (record { place = place; it = last } ∷ [])))) []
+of_last : (known : List Entry) (place : ℕ) (last : List ℕ)
+    → (if is_empty last then Ok (users_named known) else Err place) ≡ verdict known [] (least (places (filter unended (record { place = place; it = last } ∷ [])))) []
 of_last known place last =
     by_end (is_empty last)
-    ∙ ap (λ o. verdict_by (joined (least (places (cond (not (is_empty last)) (record { place = place; it = last } ∷ []) []))) o) (known ++ [])) (sym (ap (λ us. least (places us)) (drop_none {X = Placed User} (user_limit - length known)))) where
+    ∙ ap (λ o. verdict_by o (users_named (known ++ []))) (sym (none_left known [] (least (places (filter unended (record { place = place; it = last } ∷ [])))))) where
       one : Placed (List ℕ)
       one = record { place = place; it = last }
 
-      by_end : (empty : Bool) → (if empty then Ok known else Err place) ≡ verdict_by (joined (least (places (cond (not empty) (one ∷ []) []))) None) (known ++ [])
-      by_end true = ap Ok (sym (append-nil known))
+      by_end : (empty : Bool) → (if empty then Ok (users_named known) else Err place) ≡ verdict_by (first_of (None ∷ least (places (cond (not empty) (one ∷ []) [])) ∷ [])) (users_named (known ++ []))
+      by_end true = ap Ok (all_read known)
       by_end false = refl
 
-read_on-verdict : (known : List User) (place : ℕ) (lines : List (List ℕ)) → length known ≤ user_limit
-    → read_on known place lines ≡ verdict known (places (bads (placed_from place lines))) (end (placed_from place lines)) (users_in (placed_from place lines))
-read_on-verdict known place [] few =
-    ap Ok (sym (append-nil known)) ∙ ap (λ o. verdict_by o (known ++ [])) (sym (ap (λ us. least (places us)) (drop_none {X = Placed User} (user_limit - length known))))
-read_on-verdict known place (last ∷ []) few = of_last known place last
-read_on-verdict known place (line ∷ next ∷ more) few =
+read_on-verdict : (known : List Entry) (place : ℕ) (lines : List (List ℕ)) → IsRead known
+    → read_on (users_named known) place lines ≡ verdict known (places (bads (placed_from place lines))) (end (placed_from place lines)) (entries_in (placed_from place lines))
+read_on-verdict known place [] read = ap Ok (all_read known) ∙ ap (λ o. verdict_by o (users_named (known ++ []))) (sym (none_left known [] None))
+read_on-verdict known place (last ∷ []) read = of_last known place last
+read_on-verdict known place (line ∷ next ∷ more) read =
     let behind = place + length line + 1 in
     let rest = placed_from behind (next ∷ more) in
     let past : AllFrom place rest = AllFrom-placed place behind (next ∷ more) (omega arith) in
     let front = AllFrom-without_last place rest past in
-    of_line place (bads rest) (end rest) (users_in rest) (λ known. read_on known behind (next ∷ more))
+    of_line place (bads rest) (end rest) (entries_in rest) (λ known. read_on known behind (next ∷ more))
     (AllFrom-filter place (λ (line : Placed (List ℕ)). is_bad_line line.it) (without_last rest) front)
     (AtLeast-places place _ (AllFrom-filter place unended (last_of rest) (AllFrom-last_of place rest past)))
-    (AllFrom-users place (without_last rest) front)
-    (λ known few. read_on-verdict known behind (next ∷ more) few)
-    known line (is_silent line) (user_of_line line) few
+    (AllFrom-entries place (without_last rest) front)
+    (λ known read. read_on-verdict known behind (next ∷ more) read)
+    known line (is_silent line) (entry_of_line line) read
 
 -- Whole files
 
-nobody : (users : List (Placed User)) → again [] users ≡ []
+nobody : (entries : List (Placed Entry)) → again [] entries ≡ []
 nobody [] = refl
-nobody (user ∷ users) = nobody users
+nobody (entry ∷ entries) = nobody entries
 
-whole : (bad last twice many : List ℕ) → least (bad ++ last ++ twice ++ many) ≡ joined (least bad) (joined (least last) (joined (least twice) (least many)))
-whole bad last twice many =
-    least-append (bad ++ last ++ twice) many
-    ∙ ap (λ o. joined o (least many)) (least-append (bad ++ last) twice ∙ ap (λ o. joined o (least twice)) (least-append bad last))
-    ∙ sym (joined-assoc (joined (least bad) (least last)) (least twice) (least many))
-    ∙ sym (joined-assoc (least bad) (least last) (joined (least twice) (least many)))
+whole : (bad last twice users groups strangers : List ℕ)
+    → least (bad ++ last ++ twice ++ users ++ groups ++ strangers) ≡ first_of (least bad ∷ least last ∷ None ∷ least twice ∷ least users ∷ least groups ∷ least strangers ∷ [])
+whole bad last twice users groups strangers =
+    least-append (bad ++ last ++ twice ++ users ++ groups) strangers
+    ∙ ap (λ o. joined o (least strangers))
+    (least-append (bad ++ last ++ twice ++ users) groups
+    ∙ ap (λ o. joined o (least groups))
+    (least-append (bad ++ last ++ twice) users
+    ∙ ap (λ o. joined o (least users))
+    (least-append (bad ++ last) twice
+    ∙ ap (λ o. joined o (least twice)) (least-append bad last ∙ sym (pair (least bad) (least last)))
+    ∙ sym (first_of-push (least bad ∷ least last ∷ None ∷ []) (least twice)))
+    ∙ sym (first_of-push (least bad ∷ least last ∷ None ∷ least twice ∷ []) (least users)))
+    ∙ sym (first_of-push (least bad ∷ least last ∷ None ∷ least twice ∷ least users ∷ []) (least groups)))
+    ∙ sym (first_of-push (least bad ∷ least last ∷ None ∷ least twice ∷ least users ∷ least groups ∷ []) (least strangers)) where
+      pair : (a b : Option ℕ) → first_of (a ∷ b ∷ None ∷ []) ≡ joined a b
+      pair a None = refl
+      pair a (Some n) = refl
 
 -- The users of a file, or the place of its first fault, are what the lines give when they are read in order.
-pub users_of-read_on : (octets : List ℕ) → read_on [] 0 (pieces line_feed octets) ≡ users_of octets
+pub users_of-read_on : (octets : List ℕ) → read_on (record { people = []; groups = [] }) 0 (pieces line_feed octets) ≡ users_of octets
 unfolding users_of users_fault
 users_of-read_on octets =
     let lines = placed_lines octets in
-    let users = users_in lines in
-    read_on-verdict [] 0 (pieces line_feed octets) (omega arith)
-    ∙ ap (λ ns. verdict_by (joined (least (places (bads lines))) (joined (end lines) (joined (least ns) (joined (least (repeated users)) (least (places (drop user_limit users))))))) (map (λ (user : Placed User). user.it) users)) (nobody users)
-    ∙ ap (λ fault. verdict_by fault (map (λ (user : Placed User). user.it) users)) (sym (whole (places (bads lines)) (places (filter unended (last_of lines))) (repeated users) (places (drop user_limit users))))
+    let entries = entries_in lines in
+    let all : Users = users_named (map (λ (entry : Placed Entry). entry.it) entries) in
+    read_on-verdict [] 0 (pieces line_feed octets) (record { few = omega arith; few_groups = omega arith; users = tt })
+    ∙ ap (λ ns. verdict_by (first_of (least (places (bads lines)) ∷ end lines ∷ least ns ∷ least (repeated entries) ∷ least (users_past [] entries) ∷ least (groups_past [] entries) ∷ least (with_strangers [] entries) ∷ [])) all) (nobody entries)
+    ∙ ap (λ fault. verdict_by fault all)
+    (sym (whole (places (bads lines)) (places (filter unended (last_of lines))) (repeated entries) (users_past [] entries) (groups_past [] entries) (with_strangers [] entries)))
     ∙ as_result (users_fault octets) where
-      as_result : (o : Option ℕ) → verdict_by o (map (λ (user : Placed User). user.it) (placed_users octets)) ≡ elim o [ None ↦ Ok (map (λ (user : Placed User). user.it) (placed_users octets)) | Some place ↦ Err place ]
+      as_result : (o : Option ℕ) → verdict_by o (users_named (map (λ (entry : Placed Entry). entry.it) (placed_entries octets))) ≡ elim o [ None ↦ Ok (users_named (map (λ (entry : Placed Entry). entry.it) (placed_entries octets))) | Some place ↦ Err place ]
       as_result None = refl
       as_result (Some place) = refl

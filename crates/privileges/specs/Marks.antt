@@ -1,5 +1,5 @@
 -- The members of a group, marked by their numbers, and the marks that names make.
-use Rattle.std.specs.Prelude.{ℕ, Bool, true, false, List, [], ◌∷◌, map, filter, slice_set, slice_index_or, Option, Some, None, if◌then◌else◌}
+use Rattle.std.specs.Prelude.{ℕ, Bool, true, false, List, [], ◌∷◌, map, filter, replicate, slice_set, slice_index_or, Option, Some, None, if◌then◌else◌}
 use Rattle.std.specs.List.{enumerate_from}
 use Rattle.cal_model.specs.Users.UsersFile.{Group, Users, number_of}
 
