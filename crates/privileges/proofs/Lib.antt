@@ -8,4 +8,6 @@ pub mod ReadingInOrder
 pub mod UserLines
 pub mod LineSteps
 pub mod UserNumbers
+pub mod KeptUsers
+pub mod Marking
 pub mod Authentication

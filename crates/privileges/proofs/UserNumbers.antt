@@ -1,64 +1,41 @@
--- Users by number and by name, and one user more.
-use Rattle.std.proofs.Common.{◌≡◌, ℕ, ◌<◌, ◌≤◌, Bool, true, false, cond, List, [], ◌∷◌, ◌++◌, length, get_or, Option, Some, None, refl, sym, ap, ◌∙◌, subst, arith, inl, inr}
-use Rattle.std.specs.Prelude.{All, map, bytes_eq, slice_get, unwrap_or}
+-- Users and groups by number and by name, and one more.
+use Rattle.std.proofs.Common.{◌≡◌, ℕ, ◌+◌, ◌<◌, ◌≤◌, Bool, true, false, cond, List, [], ◌∷◌, ◌++◌, length, get_or, Option, Some, None, refl, sym, ap, ◌∙◌, subst, arith, inl, inr}
+use Rattle.std.specs.Prelude.{All, map, filter, bytes_eq, slice_get, unwrap_or}
 use Rattle.std.specs.Option.{option_map}
+use Rattle.std.specs.List.{position}
 use Rattle.std.proofs.lemmas.Bool.{cases_Bool, cases_lt}
 use Rattle.std.proofs.lemmas.List.{length_push, get_or_append_left, length-map, map-append}
-use Rattle.std.proofs.lemmas.List.Elements.{All-append, All-cons, All-nil}
+use Rattle.std.proofs.lemmas.List.Elements.{All-append, All-cons, All-nil, All-weaker}
 use Rattle.std.proofs.Math.Seq.{get_or-append_seam}
 use Rattle.std.proofs.lemmas.Option.{slice_get-map, slice_get-get_or}
 use Rattle.std.proofs.lemmas.Slice.Eq.{bytes_eq-Decides}
 use Rattle.cal_base.specs.Lists.NameMap.{Named, value_at, with_value}
 use Rattle.cal_base.proofs.Lists.NameMapLemmas.{value_at_with}
-use Rattle.cal_model.specs.State.ServerState.{directory_of, user_name, user_number}
+use Rattle.cal_model.specs.State.ServerState.{Directory, directory_of, has_member, user_name, user_number, group_name, group_number}
 use Rattle.cal_model.specs.State.UserNames.{AreToldApart}
-use Rattle.cal_model.specs.Users.UsersFile.{User, number_of, user_limit}
-use Rattle.privileges.specs.KnownUsers.{AreKnown, name_limit}
-use Rattle.privileges.specs.declared.users.KnownUser.{KnownUser}
-use Rattle.privileges.specs.ShownUsers.{shown_user, shown_users}
+use Rattle.cal_model.specs.Users.UsersFile.{User, Group, Users, number_of, group_number_of, user_limit, group_limit}
+use Rattle.cal_model.specs.Words.Lists.{counted_from}
+use Rattle.privileges.specs.KnownUsers.{AreKnown, HasUsersInOrder, and_user, and_group, name_limit}
+use Rattle.privileges.proofs.Numbered.{in_order-more}
 use Rattle.privileges.proofs.Places.{or_last, position-push, position-map}
 
--- the number of a name in the directory
-pub number_of-directory : (users : List User) (name : List ℕ) → number_of users name ≡ user_number (directory_of users) name
-number_of-directory users name = sym (position-map (λ (user : User). user.name) (bytes_eq name) users)
+-- Names of a list, each with its number
 
--- the name of a number
-pub user_name-slice_get : (users : List User) (who : ℕ) (user : User) → slice_get users who ≡ Some user → user_name (directory_of users) who ≡ user.name
-user_name-slice_get users who user there =
-    ap (λ o. unwrap_or o []) (slice_get-map (λ (user : User). user.name) users who ∙ ap (option_map (λ (user : User). user.name)) there)
+-- the number of a name, where items have names
+abbrev pub number_in : {X : Type 0} → (X → List ℕ) → List X → List ℕ → Option ℕ
+number_in name_of xs name = position (λ x. bytes_eq name (name_of x)) xs
 
--- of the users that are kept
-pub user_name-shown : (users : List KnownUser) (who : ℕ) (user : KnownUser) → who < length users → user ≡ get_or users who user → user.name ≡ user_name (directory_of (shown_users users)) who
-user_name-shown users who user within is =
-    sym (user_name-slice_get (shown_users users) who (shown_user user)
-    (slice_get-map shown_user users who ∙ ap (option_map shown_user) (slice_get-get_or users who user within ∙ ap Some (sym is))))
+-- and the name of a number
+abbrev pub name_in : {X : Type 0} → (X → List ℕ) → List X → ℕ → List ℕ
+name_in name_of xs n = unwrap_or (option_map name_of (slice_get xs n)) []
 
--- with one user more
-number_of-push : (users : List User) (user : User) (name : List ℕ) → number_of (users ++ user ∷ []) name ≡ or_last (λ (other : User). bytes_eq name other.name) users user (number_of users name)
-number_of-push users user name = position-push (λ (other : User). bytes_eq name other.name) users user
+-- each is found by the own name, and none is without one
+pub record AreApart {X : Type 0} (name_of : X → List ℕ) (xs : List X) : Type 0 where
+  pub own : (n : ℕ) → n < length xs → number_in name_of xs (name_in name_of xs n) ≡ Some n
+  pub named : number_in name_of xs [] ≡ None
 
-some≢none : (n : ℕ) → Some n ≡ None → ⊥
+pub some≢none : (n : ℕ) → Some n ≡ None → ⊥
 some≢none n e = cc
-
--- the number that a name has, with a user more behind the others
-or_new : (users : List User) (user : User) (name : List ℕ) (o : Option ℕ) (same : Bool) → (same ≡ true → o ≡ None)
-    → cond same (Some (length users)) o ≡ elim o [ None ↦ cond same (Some (length users)) None | Some n ↦ Some n ]
-or_new users user name None same apart = refl
-or_new users user name (Some n) true apart = absurd (some≢none n (apart refl))
-or_new users user name (Some n) false apart = refl
-
--- a name of the others is not the user's
-is_apart : (users : List User) (user : User) (name : List ℕ) → number_of users user.name ≡ None → bytes_eq name user.name ≡ true → number_of users name ≡ None
-is_apart users user name new same = ap (number_of users) ((bytes_eq-Decides name user.name).0 same) ∙ new
-
--- the map with the user's number
-agree-push : (users : List User) (numbers : Named ℕ) (user : User) (name : List ℕ) → ((name : List ℕ) → value_at numbers name ≡ number_of users name) → number_of users user.name ≡ None
-    → value_at (with_value numbers user.name (length users)) name ≡ number_of (users ++ user ∷ []) name
-agree-push users numbers user name agree new =
-    value_at_with user.name (length users) name numbers
-    ∙ ap (cond (bytes_eq name user.name) (Some (length users))) (agree name)
-    ∙ or_new users user name (number_of users name) (bytes_eq name user.name) (is_apart users user name new)
-    ∙ sym (number_of-push users user name)
 
 -- the items before a further one, and that one
 slice_get_before : {X : Type 0} (xs : List X) (x : X) (n : ℕ) → n < length xs → slice_get (xs ++ x ∷ []) n ≡ slice_get xs n
@@ -70,89 +47,184 @@ slice_get_before xs x n within =
 slice_get_last : {X : Type 0} (xs : List X) (x : X) → slice_get (xs ++ x ∷ []) (length xs) ≡ Some x
 slice_get_last xs x = slice_get-get_or (xs ++ x ∷ []) (length xs) x (omega (arith, length_push xs x)) ∙ ap Some (get_or-append_seam xs x [] x)
 
--- the names with the user's
-abbrev name_at : List User → ℕ → List ℕ
-name_at users who = user_name (directory_of users) who
-
-name_at-slice_get : (users : List User) (who : ℕ) → name_at users who ≡ unwrap_or (option_map (λ (user : User). user.name) (slice_get users who)) []
-name_at-slice_get users who = ap (λ o. unwrap_or o []) (slice_get-map (λ (user : User). user.name) users who)
-
-name_before : (users : List User) (user : User) (who : ℕ) → who < length users → name_at (users ++ user ∷ []) who ≡ name_at users who
-name_before users user who within =
-    name_at-slice_get (users ++ user ∷ []) who
-    ∙ ap (λ o. unwrap_or (option_map (λ (other : User). other.name) o) []) (slice_get_before users user who within)
-    ∙ sym (name_at-slice_get users who)
-
-name_last : (users : List User) (user : User) → name_at (users ++ user ∷ []) (length users) ≡ user.name
-name_last users user =
-    name_at-slice_get (users ++ user ∷ []) (length users) ∙ ap (λ o. unwrap_or (option_map (λ (other : User). other.name) o) []) (slice_get_last users user)
-
-directory_size : (users : List User) → length (directory_of users).names ≡ length users
-directory_size users = length-map users (λ (user : User). user.name)
-
-same_name : (name : List ℕ) → bytes_eq name name ≡ true
+pub same_name : (name : List ℕ) → bytes_eq name name ≡ true
 same_name name = (bytes_eq-Decides name name).1 refl
 
 -- nobody is without a name
-unnamed : (user : User) → 0 < length user.name → bytes_eq [] user.name ≡ false
-unnamed user some = elim (cases_Bool (bytes_eq [] user.name)) [
-  | inl same ↦ absurd (omega (arith, some, ap length ((bytes_eq-Decides [] user.name).0 same)))
+unnamed : (name : List ℕ) → 0 < length name → bytes_eq [] name ≡ false
+unnamed name some = elim (cases_Bool (bytes_eq [] name)) [
+  | inl same ↦ absurd (omega (arith, some, ap length ((bytes_eq-Decides [] name).0 same)))
   | inr other ↦ other
 ]
 
--- names that tell the users apart do so with a new one
-told-push : (users : List User) (user : User) → AreToldApart (directory_of users) → 0 < length user.name → number_of users user.name ≡ None → AreToldApart (directory_of (users ++ user ∷ []))
-told-push users user told some new = record {
+module _ {X : Type 0} (name_of : X → List ℕ) (xs : List X) (x : X) where
+  -- with one item more
+  number-push : (name : List ℕ) → number_in name_of (xs ++ x ∷ []) name ≡ or_last (λ other. bytes_eq name (name_of other)) xs x (number_in name_of xs name)
+  number-push name = position-push (λ other. bytes_eq name (name_of other)) xs x
+
+  name_before : (n : ℕ) → n < length xs → name_in name_of (xs ++ x ∷ []) n ≡ name_in name_of xs n
+  name_before n within = ap (λ o. unwrap_or (option_map name_of o) []) (slice_get_before xs x n within)
+
+  name_last : name_in name_of (xs ++ x ∷ []) (length xs) ≡ name_of x
+  name_last = ap (λ o. unwrap_or (option_map name_of o) []) (slice_get_last xs x)
+
+  -- the number that a name has, with an item more behind the others
+  or_new : (o : Option ℕ) (same : Bool) → (same ≡ true → o ≡ None) → cond same (Some (length xs)) o ≡ elim o [ None ↦ cond same (Some (length xs)) None | Some n ↦ Some n ]
+  or_new None same apart = refl
+  or_new (Some n) true apart = absurd (some≢none n (apart refl))
+  or_new (Some n) false apart = refl
+
+  -- the map with the item's number
+  agree-push : (numbers : Named ℕ) (name : List ℕ) → ((name : List ℕ) → value_at numbers name ≡ number_in name_of xs name) → number_in name_of xs (name_of x) ≡ None
+      → value_at (with_value numbers (name_of x) (length xs)) name ≡ number_in name_of (xs ++ x ∷ []) name
+  agree-push numbers name agree new =
+      value_at_with (name_of x) (length xs) name numbers
+      ∙ ap (cond (bytes_eq name (name_of x)) (Some (length xs))) (agree name)
+      ∙ or_new (number_in name_of xs name) (bytes_eq name (name_of x)) (λ same. ap (number_in name_of xs) ((bytes_eq-Decides name (name_of x)).0 same) ∙ new)
+      ∙ sym (number-push name)
+
+  -- names that tell the items apart do so with a new one
+  apart-push : AreApart name_of xs → 0 < length (name_of x) → number_in name_of xs (name_of x) ≡ None → AreApart name_of (xs ++ x ∷ [])
+  apart-push apart some new = record {
+    own = λ n within. elim (cases_lt n (length xs)) [
+      | inl before ↦
+          ap (number_in name_of (xs ++ x ∷ [])) (name_before n before)
+          ∙ number-push (name_in name_of xs n)
+          ∙ ap (or_last (λ other. bytes_eq (name_in name_of xs n) (name_of other)) xs x) (apart.own n before)
+      | inr behind ↦
+          let last : n ≡ length xs = omega (arith, within, behind, length_push xs x) in
+          ap (λ m. number_in name_of (xs ++ x ∷ []) (name_in name_of (xs ++ x ∷ []) m)) last
+          ∙ ap (number_in name_of (xs ++ x ∷ [])) name_last
+          ∙ number-push (name_of x)
+          ∙ ap (or_last (λ other. bytes_eq (name_of x) (name_of other)) xs x) new
+          ∙ ap (λ b. cond b (Some (length xs)) None) (same_name (name_of x))
+          ∙ ap Some (sym last)
+    ];
+    named =
+        number-push []
+        ∙ ap (or_last (λ other. bytes_eq [] (name_of other)) xs x) apart.named
+        ∙ ap (λ b. cond b (Some (length xs)) None) (unnamed (name_of x) some);
+  }
+
+-- Users and groups
+
+abbrev pub name_of_user : User → List ℕ
+name_of_user user = user.name
+
+abbrev pub name_of_group : Group → List ℕ
+name_of_group group = group.name
+
+-- the number of a name in the directory
+pub number_of-directory : (users : Users) (name : List ℕ) → number_of users name ≡ user_number (directory_of users) name
+number_of-directory users name = sym (position-map name_of_user (bytes_eq name) users.people)
+
+pub name_in-directory : (users : Users) (who : ℕ) → user_name (directory_of users) who ≡ name_in name_of_user users.people who
+name_in-directory users who = ap (λ o. unwrap_or o []) (slice_get-map name_of_user users.people who)
+
+directory_size : (users : Users) → length (directory_of users).names ≡ length users.people
+directory_size users = length-map users.people name_of_user
+
+-- what tells apart is each of the two, and that no user has a group's name
+pub people_apart : (users : Users) → AreToldApart (directory_of users) → AreApart name_of_user users.people
+people_apart users told = record {
   own = λ who within.
-      sym (number_of-directory (users ++ user ∷ []) (name_at (users ++ user ∷ []) who))
-      ∙ elim (cases_lt who (length users)) [
-        | inl before ↦
-            ap (number_of (users ++ user ∷ [])) (name_before users user who before)
-            ∙ number_of-push users user (name_at users who)
-            ∙ ap (or_last (λ (other : User). bytes_eq (name_at users who) other.name) users user)
-            (number_of-directory users (name_at users who) ∙ told.own who (omega (arith, before, directory_size users)))
-        | inr behind ↦
-            let last : who ≡ length users = omega (arith, within, behind, directory_size (users ++ user ∷ []), length_push users user) in
-            ap (λ n. number_of (users ++ user ∷ []) (name_at (users ++ user ∷ []) n)) last
-            ∙ ap (number_of (users ++ user ∷ [])) (name_last users user)
-            ∙ number_of-push users user user.name
-            ∙ ap (or_last (λ (other : User). bytes_eq user.name other.name) users user) new
-            ∙ ap (λ b. cond b (Some (length users)) None) (same_name user.name)
-            ∙ ap Some (sym last)
-      ];
-  named =
-      sym (number_of-directory (users ++ user ∷ []) [])
-      ∙ number_of-push users user []
-      ∙ ap (or_last (λ (other : User). bytes_eq [] other.name) users user) (number_of-directory users [] ∙ told.named)
-      ∙ ap (λ b. cond b (Some (length users)) None) (unnamed user some);
+      number_of-directory users (name_in name_of_user users.people who)
+      ∙ ap (user_number (directory_of users)) (sym (name_in-directory users who))
+      ∙ told.own who (omega (arith, within, directory_size users));
+  named = number_of-directory users [] ∙ told.named;
 }
+
+groups_apart : (users : Users) → AreToldApart (directory_of users) → AreApart name_of_group users.groups
+groups_apart users told = record { own = told.own_group; named = told.named_group }
+
+told_by : (users : Users) → AreApart name_of_user users.people → AreApart name_of_group users.groups
+    → ((group : ℕ) → group < length users.groups → number_of users (name_in name_of_group users.groups group) ≡ None) → AreToldApart (directory_of users)
+told_by users people groups apart = record {
+  own = λ who within.
+      ap (user_number (directory_of users)) (name_in-directory users who)
+      ∙ sym (number_of-directory users (name_in name_of_user users.people who))
+      ∙ people.own who (omega (arith, within, directory_size users));
+  named = sym (number_of-directory users []) ∙ people.named;
+  own_group = groups.own;
+  named_group = groups.named;
+  apart = λ group within. sym (number_of-directory users (name_in name_of_group users.groups group)) ∙ apart group within;
+}
+
+-- of no group the name is a user's
+names_apart : (users : Users) → AreToldApart (directory_of users) → (group : ℕ) → group < length users.groups → number_of users (name_in name_of_group users.groups group) ≡ None
+names_apart users told group within = number_of-directory users (name_in name_of_group users.groups group) ∙ told.apart group within
+
+-- With a user more
+
+-- a group's name is not the new user's
+not_new : (users : Users) (user : User) (group : ℕ) → AreToldApart (directory_of users) → group_number_of users user.name ≡ None → group < length users.groups
+    → bytes_eq (name_in name_of_group users.groups group) user.name ≡ false
+not_new users user group told new within = elim (cases_Bool (bytes_eq (name_in name_of_group users.groups group) user.name)) [
+  | inl same ↦ absurd (some≢none group (sym (told.own_group group within) ∙ ap (group_number_of users) ((bytes_eq-Decides (name_in name_of_group users.groups group) user.name).0 same) ∙ new))
+  | inr other ↦ other
+]
+
+told-user : (users : Users) (user : User) → AreToldApart (directory_of users) → 0 < length user.name → number_of users user.name ≡ None → group_number_of users user.name ≡ None
+    → AreToldApart (directory_of (and_user users user))
+told-user users user told some new no_group =
+    told_by (and_user users user) (apart-push name_of_user users.people user (people_apart users told) some new) (groups_apart users told)
+    (λ group within.
+        let name = name_in name_of_group users.groups group in
+        number-push name_of_user users.people user name
+        ∙ ap (or_last (λ (other : User). bytes_eq name other.name) users.people user) (names_apart users told group within)
+        ∙ ap (λ b. cond b (Some (length users.people)) None) (not_new users user group told no_group within))
 
 -- names that are short are so with a short one more
 abbrev IsShort : List ℕ → Type 0
 IsShort name = length name ≤ name_limit
 
-short-push : (users : List User) (user : User) → All IsShort (directory_of users).names → length user.name ≤ name_limit → All IsShort (directory_of (users ++ user ∷ [])).names
-short-push users user are is =
-    subst (All IsShort) (sym (map-append (λ (other : User). other.name) users (user ∷ [])))
+short-user : (users : Users) (user : User) → All IsShort (directory_of users).names → length user.name ≤ name_limit → All IsShort (directory_of (and_user users user)).names
+short-user users user are is =
+    subst (All IsShort) (sym (map-append name_of_user users.people (user ∷ [])))
     (All-append IsShort (directory_of users).names (user.name ∷ []) are (All-cons IsShort user.name [] is (All-nil IsShort)))
 
-pub AreKnown-push : (users : List User) (numbers : Named ℕ) (user : User) → AreKnown users numbers → length users < user_limit → 0 < length user.name → length user.name ≤ name_limit → number_of users user.name ≡ None
-    → AreKnown (users ++ user ∷ []) (with_value numbers user.name (length users))
-AreKnown-push users numbers user known room some short new = record {
-  agree = λ name. agree-push users numbers user name known.agree new;
-  few = omega (arith, length_push users user);
-  told = told-push users user known.told some new;
-  short = short-push users user known.short short;
+pub AreKnown-user : (users : Users) (numbers group_numbers : Named ℕ) (user : User) → AreKnown users numbers group_numbers → length users.people < user_limit → 0 < length user.name → length user.name ≤ name_limit
+    → number_of users user.name ≡ None → group_number_of users user.name ≡ None → AreKnown (and_user users user) (with_value numbers user.name (length users.people)) group_numbers
+AreKnown-user users numbers group_numbers user known room some short new no_group = record {
+  agree = λ name. agree-push name_of_user users.people user numbers name known.agree new;
+  agree_groups = known.agree_groups;
+  few = omega (arith, room, length_push users.people user);
+  few_groups = known.few_groups;
+  told = told-user users user known.told some new no_group;
+  short = short-user users user known.short short;
+  short_groups = known.short_groups;
+  members = All-weaker (HasUsersInOrder (length users.people)) (HasUsersInOrder (length (users.people ++ user ∷ [])))
+      (λ group is. in_order-more group.members (length users.people) is ∙ ap (λ n. filter (λ who. has_member who group) (counted_from 0 n)) (sym (length_push users.people user)))
+      users.groups known.members;
 }
 
--- the same of the users that are kept
-pub AreKnown-kept : (users : List KnownUser) (numbers : Named ℕ) (user : KnownUser) (kept : List KnownUser) (name : List ℕ) (number : ℕ) (with_it : Named ℕ)
-    → kept ≡ users ++ user ∷ [] → with_it ≡ with_value numbers name number → name ≡ user.name → number ≡ length users
-    → AreKnown (shown_users users) numbers → length (shown_users users) < user_limit → 0 < length user.name → length user.name ≤ name_limit → number_of (shown_users users) user.name ≡ None
-    → AreKnown (shown_users kept) with_it
-AreKnown-kept users numbers user kept name number with_it kept_is with_is name_is number_is known room some short new =
-    let shown : shown_users kept ≡ shown_users users ++ shown_user user ∷ [] = ap shown_users kept_is ∙ map-append shown_user users (user ∷ []) in
-    let count : number ≡ length (shown_users users) = number_is ∙ sym (length-map users shown_user) in
-    let put : with_it ≡ with_value numbers user.name (length (shown_users users)) = with_is ∙ ap (λ n. with_value numbers n number) name_is ∙ ap (with_value numbers user.name) count in
-    subst (λ them. AreKnown them with_it) (sym shown)
-    (subst (AreKnown (shown_users users ++ shown_user user ∷ [])) (sym put) (AreKnown-push (shown_users users) numbers (shown_user user) known room some short new))
+-- With a group more
+
+told-group : (users : Users) (group : Group) → AreToldApart (directory_of users) → 0 < length group.name → number_of users group.name ≡ None → group_number_of users group.name ≡ None
+    → AreToldApart (directory_of (and_group users group))
+told-group users group told some apart new =
+    told_by (and_group users group) (people_apart users told) (apart-push name_of_group users.groups group (groups_apart users told) some new)
+    (λ number within. elim (cases_lt number (length users.groups)) [
+      | inl before ↦ ap (number_of users) (name_before name_of_group users.groups group number before) ∙ names_apart users told number before
+      | inr behind ↦
+          let last : number ≡ length users.groups = omega (arith, within, behind, length_push users.groups group) in
+          ap (λ n. number_of users (name_in name_of_group (users.groups ++ group ∷ []) n)) last
+          ∙ ap (number_of users) (name_last name_of_group users.groups group)
+          ∙ apart
+    ])
+
+pub AreKnown-group : (users : Users) (numbers group_numbers : Named ℕ) (group : Group) → AreKnown users numbers group_numbers → length users.groups < group_limit → 0 < length group.name → length group.name ≤ name_limit
+    → number_of users group.name ≡ None → group_number_of users group.name ≡ None → HasUsersInOrder (length users.people) group
+    → AreKnown (and_group users group) numbers (with_value group_numbers group.name (length users.groups))
+AreKnown-group users numbers group_numbers group known room some short apart new members = record {
+  agree = known.agree;
+  agree_groups = λ name. agree-push name_of_group users.groups group group_numbers name known.agree_groups new;
+  few = known.few;
+  few_groups = omega (arith, room, length_push users.groups group);
+  told = told-group users group known.told some apart new;
+  short = known.short;
+  short_groups = let P : Group → Type 0 = λ g. IsShort g.name in
+      All-append P users.groups (group ∷ []) known.short_groups (All-cons P group [] short (All-nil P));
+  members = let P : Group → Type 0 = HasUsersInOrder (length users.people) in
+      All-append P users.groups (group ∷ []) known.members (All-cons P group [] members (All-nil P));
+}
