@@ -3,6 +3,7 @@ pub mod Cuts
 pub mod DigestSteps
 pub mod FirstFaults
 pub mod Numbered
+pub mod GroupMembers
 pub mod KnownEntries
 pub mod ReadingInOrder
 pub mod UserLines

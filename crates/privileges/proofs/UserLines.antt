@@ -1,4 +1,4 @@
--- Lines that name no user, of three words that are not right, and of more.
+-- Lines that name no user, of three words that are not right, and of more; and lines of groups.
 use Rattle.std.proofs.Common.{◌≡◌, ℕ, ◌<◌, Bool, true, false, not, ◌&&◌, ◌==◌, List, [], ◌∷◌, length, Option, Some, None, refl, sym, ap, ◌∙◌, arith}
 use Rattle.std.specs.Prelude.{bytes_eq, codes, is_some, if◌then◌else◌}
 use Rattle.std.specs.Borrow.{Bor}
@@ -6,8 +6,8 @@ use Rattle.std.specs.Option.{option_map}
 use Rattle.std.proofs.lemmas.Bool.{false≢true, cond_both}
 use Rattle.cal_base.specs.Lines.ContentLines.{pieces, onto_first}
 use Rattle.cal_base.specs.Texts.Octets.{space}
-use Rattle.cal_model.specs.Users.UsersFile.{user_of_words, user_of_line, is_user_name, is_digest}
-use Rattle.privileges.specs.LineCuts.{both_texts, behind_cut}
+use Rattle.cal_model.specs.Users.UsersFile.{user_of_words, user_of_line, group_of_words, group_of_line, are_apart, is_user_name, is_digest}
+use Rattle.privileges.specs.LineCuts.{both_texts, behind_cut, if_apart}
 
 onto_first-some : (octet : ℕ) (them : List (List ℕ)) → 0 < length (onto_first octet them)
 onto_first-some octet [] = omega arith
@@ -48,3 +48,14 @@ module _ (line word behind name digest : List ℕ) (first : pieces space line �
       → is_some r ≡ not none → none ≡ true → right ≡ is_right → right ≡ false → None ≡ user_of_line line
   not_right r none right third is there wrong here =
       sym (of_three r none third is there ∙ ap (λ b. if b then Some (record { name = name; digest = digest }) else None) (sym wrong ∙ here))
+
+-- Lines of groups
+
+-- what two cuts make of one
+pub right_group : (line word behind name members : List ℕ) → pieces space line ≡ word ∷ pieces space behind → pieces space behind ≡ name ∷ pieces space members
+    → (bytes_eq word (codes "group") && is_user_name name) ≡ true → if_apart (record { name = name; members = pieces space members }) ≡ group_of_line line
+right_group line word behind name members first second right =
+    of_some (pieces space members) (pieces-some space members) ∙ sym (ap group_of_words (first ∙ ap (λ them. word ∷ them) second)) where
+      of_some : (them : List (List ℕ)) → 0 < length them → if_apart (record { name = name; members = them }) ≡ group_of_words (word ∷ name ∷ them)
+      of_some [] some = absurd (omega (arith, some))
+      of_some (one ∷ them) some = ap (λ b. if b && are_apart (one ∷ them) then Some (record { name = name; members = one ∷ them }) else None) (sym right)

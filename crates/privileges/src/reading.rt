@@ -2,7 +2,7 @@
 ghost use Rattle.std.specs.Prelude.{◌≡◌, ℕ, ◌+◌, ◌<◌, ◌≤◌, ◌^◌, length, Ok, Err, IfOk, IfNone, IfSome, OnOk, OnErr, IsErrOf, IsNone, Option, Some};
 ghost use Rattle.cal_base.specs.Lines.ContentLines.{pieces};
 ghost use Rattle.cal_base.specs.Texts.Octets.{line_feed, space};
-ghost use Rattle.cal_model.specs.Users.UsersFile.{users_of, user_of_line, number_of};
+ghost use Rattle.cal_model.specs.Users.UsersFile.{users_of, user_of_line, number_of, user_limit};
 ghost use Rattle.privileges.specs.KnownUsers.{name_limit};
 ghost use Rattle.privileges.specs.LineReading.{read_line, read_on, with_user, with_named, is_taken};
 ghost use Rattle.privileges.specs.Marks.{no_marks, with_mark, with_marks};
@@ -116,6 +116,7 @@ fn is_taken(users: &Users, name: &[u8]) -> bool
 /// The marks of the users whom a text names, each once; none where it names somebody else, or
 /// somebody twice.
 fn members_of(users: &Users, text: &[u8]) -> Option<[bool; 32]>
+    requires { length users.now.people ≤ user_limit }
     ensures { result ≡ with_marks users.now (pieces space text.now) no_marks }
 {
     let mut members = [false; 32];
@@ -129,6 +130,7 @@ fn members_of(users: &Users, text: &[u8]) -> Option<[bool; 32]>
 
 /// With the mark of the user of a name; none where nobody has it, or the user is marked already.
 fn with_member(users: &Users, name: &[u8], members: [bool; 32]) -> Option<[bool; 32]>
+    requires { length users.now.people ≤ user_limit }
     ensures { result ≡ with_mark members (number_of users.now name.now) }
 {
     let who = users.find(name)? as usize;
@@ -154,6 +156,8 @@ fn add_group(
     ensures users { OnOk result (with_named users.old place (record { name = name.now; members = pieces space members.now }) ≡ Ok users.new) }
     ensures fault { (at : ℕ) → IsErrOf result (UsersFault.Line at) → with_named users.old place (record { name = name.now; members = pieces space members.now }) ≡ Err at }
 {
+    // A look at how many they are, which tells a proof that they are few and told apart.
+    let _count = users.len();
     if users.groups() >= MOST_GROUPS || is_taken(users, name) {
         return Err(UsersFault::Line { place });
     }

@@ -5,8 +5,8 @@ use Rattle.privileges.proofs.grants.held.Goals as goal
 
 pub returns-then-owner-who : goal.returns-then-owner-who
 unfolding privileges_held
-returns-then-owner-who c = grind (arith, nat_tests)
+returns-then-owner-who g c = grind (arith, nat_tests)
 
 pub returns-else-owner-who : goal.returns-else-owner-who
 unfolding privileges_held
-returns-else-owner-who c = grind (arith, nat_tests)
+returns-else-owner-who g c = grind (arith, nat_tests)
