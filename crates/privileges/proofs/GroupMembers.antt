@@ -1,5 +1,5 @@
 -- Whether a grant to a group is to a user who may be in it.
-use Rattle.std.proofs.Common.{◌≡◌, ℕ, Bool, ◌==◌, List, sym, ap, ◌∙◌, zero-add, arith}
+use Rattle.std.proofs.Common.{◌≡◌, ℕ, Bool, ◌==◌, sym, ap, ◌∙◌, zero-add, arith}
 use Rattle.std.specs.List.{list_any}
 use Rattle.std.proofs.lemmas.Bool.Decides.{nat_tests}
 use Rattle.cal_model.specs.Access.Privileges.{fits_user}

@@ -1,5 +1,5 @@
 -- Users and groups that are kept, by number, and one more.
-use Rattle.std.proofs.Common.{◌≡◌, ℕ, ◌<◌, ◌≤◌, Bool, true, false, ◌||◌, List, [], ◌∷◌, ◌++◌, length, get_or, Option, Some, None, refl, sym, ap, ◌∙◌, subst, zero-add}
+use Rattle.std.proofs.Common.{◌≡◌, ℕ, ◌<◌, ◌≤◌, Bool, true, false, ◌||◌, List, [], ◌∷◌, ◌++◌, length, get_or, Some, None, refl, sym, ap, ◌∙◌, subst, zero-add}
 use Rattle.std.specs.Prelude.{map, slice_get, unwrap_or, option_to_list}
 use Rattle.std.specs.Option.{option_map}
 use Rattle.std.specs.List.{list_any}
@@ -7,7 +7,7 @@ use Rattle.std.proofs.lemmas.List.{length-map, map-append}
 use Rattle.std.proofs.lemmas.Option.{slice_get-map, slice_get-get_or}
 use Rattle.cal_base.specs.Lists.NameMap.{Named, with_value}
 use Rattle.cal_model.specs.State.ServerState.{directory_of, has_member, is_member, user_name, group_name}
-use Rattle.cal_model.specs.Users.UsersFile.{User, Group, Users, number_of, group_number_of, user_limit, group_limit}
+use Rattle.cal_model.specs.Users.UsersFile.{number_of, group_number_of, user_limit, group_limit}
 use Rattle.privileges.specs.KnownUsers.{AreKnown, HasUsersInOrder, and_user, and_group, name_limit}
 use Rattle.privileges.specs.declared.users.KnownUser.{KnownUser}
 use Rattle.privileges.specs.declared.users.KnownGroup.{KnownGroup}

@@ -1,15 +1,15 @@
 -- The users and the groups that some lines name, and one line more: who has a name, and what a group's members are.
 use Rattle.std.proofs.Common.{◌≡◌, ℕ, suc, ◌<◌, ◌≤◌, Bool, true, false, not, ◌&&◌, ◌||◌, cond, List, [], ◌∷◌, ◌++◌, map, length, Option, Some, None, refl, sym, ap, subst, ◌∙◌, arith, append-nil}
-use Rattle.std.specs.Prelude.{filter, is_some, bytes_eq, option_to_list, position}
+use Rattle.std.specs.Prelude.{is_some, bytes_eq, position}
 use Rattle.std.specs.Option.{option_map}
-use Rattle.std.specs.List.{list_any, list_all, filter_map, cons_option, enumerate_from}
-use Rattle.std.proofs.lemmas.Bool.{false≢true, cases_Bool}
+use Rattle.std.specs.List.{list_any, list_all, filter_map, cons_option}
+use Rattle.std.proofs.lemmas.Bool.{false≢true}
 use Rattle.std.proofs.lemmas.Bool.Decides.{same_from_decides}
 use Rattle.std.proofs.lemmas.List.{map-append, length_push}
 use Rattle.std.proofs.lemmas.List.Elements.{filter_map-append}
 use Rattle.std.proofs.lemmas.List.Folds.{list_any-append}
 use Rattle.std.proofs.lemmas.Slice.Eq.{bytes_eq-Decides}
-use Rattle.cal_model.specs.Users.UsersFile.{User, Group, NamedGroup, Users, Entry, a_user, a_group, name_of, user_in, group_in, number_of, group_number_of, numbered_group, users_named, has_stranger, user_limit, group_limit}
+use Rattle.cal_model.specs.Users.UsersFile.{User, Group, NamedGroup, Entry, a_user, a_group, name_of, user_in, group_in, number_of, numbered_group, users_named, has_stranger, user_limit, group_limit}
 use Rattle.privileges.specs.KnownUsers.{and_user, and_group}
 use Rattle.privileges.specs.LineReading.{is_taken}
 use Rattle.privileges.proofs.Numbered.{numbers-push}

@@ -11,4 +11,5 @@ pub mod LineSteps
 pub mod UserNumbers
 pub mod KeptUsers
 pub mod Marking
+pub mod NamedGroups
 pub mod Authentication

@@ -1,6 +1,6 @@
 -- The marks that names make, and the group whose members they are.
-use Rattle.std.proofs.Common.{◌≡◌, ℕ, ◌+◌, ◌<◌, ◌≤◌, Bool, true, false, not, ◌&&◌, ◌||◌, cond, ◌==◌, List, [], ◌∷◌, map, length, get_or, Option, Some, None, refl, sym, ap, ◌∙◌, subst, arith, inl, inr, zero-add, set}
-use Rattle.std.specs.Prelude.{bytes_eq, is_some, option_to_list, position, replicate, slice_get, unwrap_or}
+use Rattle.std.proofs.Common.{◌≡◌, ℕ, ◌<◌, ◌≤◌, Bool, true, false, not, ◌&&◌, ◌||◌, cond, ◌==◌, List, [], ◌∷◌, length, get_or, Option, Some, None, refl, sym, ap, ◌∙◌, subst, arith, inl, inr, set}
+use Rattle.std.specs.Prelude.{bytes_eq, is_some, option_to_list, slice_get, unwrap_or}
 use Rattle.std.specs.Option.{option_map}
 use Rattle.std.specs.List.{list_any, list_all}
 use Rattle.std.proofs.lemmas.Bool.{false≢true, cases_Bool, cases_lt, ne_eqb, eq-eqb, eqb-true}
@@ -10,7 +10,7 @@ use Rattle.std.proofs.lemmas.Option.{slice_get-get_or, slice_get_past}
 use Rattle.std.proofs.lemmas.Slice.Eq.{bytes_eq-Decides}
 use Rattle.cal_model.specs.State.ServerState.{directory_of}
 use Rattle.cal_model.specs.State.UserNames.{AreToldApart}
-use Rattle.cal_model.specs.Users.UsersFile.{User, NamedGroup, Users, number_of, user_limit, are_apart, numbered_group}
+use Rattle.cal_model.specs.Users.UsersFile.{User, Users, number_of, user_limit, are_apart, numbered_group}
 use Rattle.privileges.specs.KnownUsers.{HasUsersInOrder}
 use Rattle.privileges.specs.Marks.{marked, marked_group, no_marks, with_mark, with_marks}
 use Rattle.privileges.proofs.Numbered.{numbers-same, numbers-in_order, passes_at}

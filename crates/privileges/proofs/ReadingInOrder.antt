@@ -2,16 +2,16 @@
 use Rattle.std.proofs.Common.{◌≡◌, ℕ, zero, suc, ◌+◌, ◌-◌, ◌<◌, ◌≤◌, Bool, true, false, not, ◌&&◌, ◌||◌, cond, nat_lt, List, [], ◌∷◌, ◌++◌, length, drop, map, Option, Some, None, Result, Ok, Err, refl, sym, ap, ◌∙◌, arith, inl, inr, append_assoc, append-nil}
 use Rattle.std.specs.Prelude.{filter, is_none, bytes_eq, option_to_list, if◌then◌else◌}
 use Rattle.std.specs.Option.{option_map}
-use Rattle.std.specs.List.{AllByRecursion, filter_map, cons_option, list_any, list_all}
+use Rattle.std.specs.List.{AllByRecursion, filter_map, cons_option, list_any}
 use Rattle.std.proofs.lemmas.Bool.{cases_lt, lt-ltb, le-ltb, cases_Bool}
 use Rattle.std.proofs.lemmas.List.{length_push, length-map}
 use Rattle.std.proofs.lemmas.List.Folds.{list_any-append}
 use Rattle.cal_base.specs.Lines.ContentLines.{pieces, least}
 use Rattle.cal_base.specs.Texts.Octets.{line_feed}
 use Rattle.cal_model.specs.Words.Lists.{is_empty}
-use Rattle.cal_model.specs.Users.UsersFile.{User, NamedGroup, Users, Entry, a_user, a_group, name_of, user_in, group_in, number_of, user_limit, group_limit, entry_of_line, is_silent, is_bad_line, Placed, placed_from, placed_lines, placed_by, placed_entries, of_sort, unended, without_last, last_of, places, repeated, has_stranger, with_strangers, numbered_group, users_named, users_fault, users_of}
+use Rattle.cal_model.specs.Users.UsersFile.{User, NamedGroup, Users, Entry, a_user, a_group, name_of, user_in, group_in, user_limit, group_limit, entry_of_line, is_silent, is_bad_line, Placed, placed_from, placed_lines, placed_by, placed_entries, of_sort, unended, without_last, last_of, places, repeated, has_stranger, with_strangers, numbered_group, users_named, users_fault, users_of}
 use Rattle.privileges.specs.KnownUsers.{and_user, and_group}
-use Rattle.privileges.specs.LineReading.{is_taken, with_user, with_group, with_entry, after_line, read_on}
+use Rattle.privileges.specs.LineReading.{with_user, with_group, with_entry, after_line, read_on}
 use Rattle.privileges.proofs.FirstFaults.{joined, joined-assoc, least-append, least-either, AtLeast, AtLeast-lesser, lesser-own, AtLeast-joined, least-past, first_of, first_of-push, first_of-here, EachAtLeast}
 use Rattle.privileges.proofs.KnownEntries.{people_in, groups_in, names_in, has_name, is_taken-named, are_users-named, people-push, groups-push, names-push, IsRead, IsRead-user, IsRead-group, users_named-user, users_named-group}
 
@@ -122,13 +122,20 @@ AtLeast-strangers n names (entry ∷ entries) past =
 faults_past : (known : List Entry) (place : ℕ) (bad : List ℕ) (ended : Option ℕ) (entries : List (Placed Entry)) → AtLeast place (least bad) → AtLeast place ended → AllFrom place entries
     → EachAtLeast place (faults known bad ended entries)
 faults_past known place bad ended entries past_bad past_end past = (
-  past_bad, (
-    past_end, (
-      AtLeast-places place _ (AllFrom-filter place (λ (entry : Placed Entry). has_name known (name_of entry.it)) entries past), (
-        AtLeast-repeated place entries past, (
-          AtLeast-places place _ (AllFrom-drop place (user_limit - length (people_in known)) _ (AllFrom-sort place user_in entries past)), (
-            AtLeast-places place _ (AllFrom-drop place (group_limit - length (groups_in known)) _ (AllFrom-sort place group_in entries past)), (
-              AtLeast-strangers place (names_in known) entries past, tt,
+  past_bad,
+  (
+    past_end,
+    (
+      AtLeast-places place _ (AllFrom-filter place (λ (entry : Placed Entry). has_name known (name_of entry.it)) entries past),
+      (
+        AtLeast-repeated place entries past,
+        (
+          AtLeast-places place _ (AllFrom-drop place (user_limit - length (people_in known)) _ (AllFrom-sort place user_in entries past)),
+          (
+            AtLeast-places place _ (AllFrom-drop place (group_limit - length (groups_in known)) _ (AllFrom-sort place group_in entries past)),
+            (
+              AtLeast-strangers place (names_in known) entries past,
+              tt,
             ),
           ),
         ),

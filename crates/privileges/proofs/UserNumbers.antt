@@ -1,6 +1,6 @@
 -- Users and groups by number and by name, and one more.
-use Rattle.std.proofs.Common.{◌≡◌, ℕ, ◌+◌, ◌<◌, ◌≤◌, Bool, true, false, cond, List, [], ◌∷◌, ◌++◌, length, get_or, Option, Some, None, refl, sym, ap, ◌∙◌, subst, arith, inl, inr}
-use Rattle.std.specs.Prelude.{All, map, filter, bytes_eq, slice_get, unwrap_or}
+use Rattle.std.proofs.Common.{◌≡◌, ℕ, ◌<◌, ◌≤◌, Bool, true, false, cond, List, [], ◌∷◌, ◌++◌, length, Option, Some, None, refl, sym, ap, ◌∙◌, subst, arith, inl, inr}
+use Rattle.std.specs.Prelude.{All, filter, bytes_eq, slice_get, unwrap_or}
 use Rattle.std.specs.Option.{option_map}
 use Rattle.std.specs.List.{position}
 use Rattle.std.proofs.lemmas.Bool.{cases_Bool, cases_lt}
@@ -11,7 +11,7 @@ use Rattle.std.proofs.lemmas.Option.{slice_get-map, slice_get-get_or}
 use Rattle.std.proofs.lemmas.Slice.Eq.{bytes_eq-Decides}
 use Rattle.cal_base.specs.Lists.NameMap.{Named, value_at, with_value}
 use Rattle.cal_base.proofs.Lists.NameMapLemmas.{value_at_with}
-use Rattle.cal_model.specs.State.ServerState.{Directory, directory_of, has_member, user_name, user_number, group_name, group_number}
+use Rattle.cal_model.specs.State.ServerState.{directory_of, has_member, user_name, user_number}
 use Rattle.cal_model.specs.State.UserNames.{AreToldApart}
 use Rattle.cal_model.specs.Users.UsersFile.{User, Group, Users, number_of, group_number_of, user_limit, group_limit}
 use Rattle.cal_model.specs.Words.Lists.{counted_from}
@@ -169,10 +169,10 @@ told-user : (users : Users) (user : User) → AreToldApart (directory_of users) 
 told-user users user told some new no_group =
     told_by (and_user users user) (apart-push name_of_user users.people user (people_apart users told) some new) (groups_apart users told)
     (λ group within.
-        let name = name_in name_of_group users.groups group in
-        number-push name_of_user users.people user name
-        ∙ ap (or_last (λ (other : User). bytes_eq name other.name) users.people user) (names_apart users told group within)
-        ∙ ap (λ b. cond b (Some (length users.people)) None) (not_new users user group told no_group within))
+    let name = name_in name_of_group users.groups group in
+    number-push name_of_user users.people user name
+    ∙ ap (or_last (λ (other : User). bytes_eq name other.name) users.people user) (names_apart users told group within)
+    ∙ ap (λ b. cond b (Some (length users.people)) None) (not_new users user group told no_group within))
 
 -- names that are short are so with a short one more
 abbrev IsShort : List ℕ → Type 0

@@ -1,5 +1,5 @@
 -- A users file read line by line: what one line adds to the users and the groups that are known, or its place where it is refused.
-use Rattle.std.specs.Prelude.{ℕ, ◌+◌, Bool, not, ◌&&◌, ◌||◌, nat_lt, if◌then◌else◌, List, [], ◌∷◌, length, Option, Some, None, is_some, option_map, Result, Ok, Err}
+use Rattle.std.specs.Prelude.{ℕ, ◌+◌, Bool, not, ◌&&◌, ◌||◌, nat_lt, if◌then◌else◌, List, [], ◌∷◌, length, Option, Some, None, is_some, Result, Ok, Err}
 use Rattle.std.specs.List.{list_all}
 use Rattle.cal_model.specs.Users.UsersFile.{User, NamedGroup, Users, Entry, a_user, a_group, number_of, group_number_of, user_limit, group_limit, numbered_group, are_apart, entry_of_line, is_silent}
 use Rattle.cal_model.specs.Words.Lists.{is_empty}

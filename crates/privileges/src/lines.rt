@@ -42,6 +42,7 @@ pub(crate) fn user_of_line(line: &[u8]) -> Option<(&[u8], &[u8])>
 pub(crate) fn group_of_line(line: &[u8]) -> Option<(&[u8], &[u8])>
     ensures group { option_and_then if_apart (option_map group_of_texts result) ≡ spec.group_of_line line.now }
     ensures said { IfSome result (λ parts. spec.is_silent line.now ≡ false) }
+    ensures named { IfSome result (λ parts. 0 < length parts.0.now) }
     ensures short { IfSome result (λ parts. length parts.0.now ≤ name_limit) }
 {
     let (word, behind) = cut(line, b' ')?;

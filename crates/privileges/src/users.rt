@@ -116,7 +116,8 @@ impl Users {
         requires known { who < length self.now.people }
         ensures { result ≡ is_member (directory_of self.now) group who }
     {
-        self.groups[group as usize].members[who as usize]
+        let members = &self.groups[group as usize].members;
+        members[who as usize]
     }
 
     /// The number of the group of a name: none exactly where no group has it. The time grows with the
