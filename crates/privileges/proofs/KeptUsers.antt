@@ -8,7 +8,7 @@ use Rattle.std.proofs.lemmas.Option.{slice_get-map, slice_get-get_or}
 use Rattle.cal_base.specs.Lists.NameMap.{Named, with_value}
 use Rattle.cal_model.specs.State.ServerState.{directory_of, has_member, is_member, user_name, group_name}
 use Rattle.cal_model.specs.Users.UsersFile.{number_of, group_number_of, user_limit, group_limit}
-use Rattle.privileges.specs.KnownUsers.{AreKnown, HasUsersInOrder, and_user, and_group, name_limit}
+use Rattle.privileges.specs.KnownUsers.{AreKnown, and_user, and_group, name_limit}
 use Rattle.privileges.specs.declared.users.KnownUser.{KnownUser}
 use Rattle.privileges.specs.declared.users.KnownGroup.{KnownGroup}
 use Rattle.privileges.specs.ShownUsers.{shown_user, shown_group, shown}
@@ -66,13 +66,13 @@ AreKnown-kept_user users groups numbers group_numbers user kept name number with
 pub AreKnown-kept_group : (users : List KnownUser) (groups : List KnownGroup) (numbers group_numbers : Named ℕ) (group : KnownGroup) (kept : List KnownGroup) (name : List ℕ) (number : ℕ) (with_it : Named ℕ)
     → kept ≡ groups ++ group ∷ [] → with_it ≡ with_value group_numbers name number → name ≡ group.name → number ≡ length groups
     → AreKnown (shown users groups) numbers group_numbers → length (map shown_group groups) < group_limit → 0 < length group.name → length group.name ≤ name_limit
-    → number_of (shown users groups) group.name ≡ None → group_number_of (shown users groups) group.name ≡ None → HasUsersInOrder (length (map shown_user users)) (shown_group group)
+    → number_of (shown users groups) group.name ≡ None → group_number_of (shown users groups) group.name ≡ None
     → AreKnown (shown users kept) numbers with_it
-AreKnown-kept_group users groups numbers group_numbers group kept name number with_it kept_is with_is name_is number_is known room some short apart new members =
+AreKnown-kept_group users groups numbers group_numbers group kept name number with_it kept_is with_is name_is number_is known room some short apart new =
     let all : shown users kept ≡ and_group (shown users groups) (shown_group group) =
     ap (λ gs. shown users gs) kept_is ∙ ap (λ them. record { people = map shown_user users; groups = them }) (map-append shown_group groups (group ∷ [])) in
     let count : number ≡ length (map shown_group groups) = number_is ∙ sym (length-map groups shown_group) in
     let put : with_it ≡ with_value group_numbers group.name (length (map shown_group groups)) = with_is ∙ (λ i. with_value group_numbers (name_is i) (count i)) in
     subst (λ them. AreKnown them numbers with_it) (sym all)
     (subst (AreKnown (and_group (shown users groups) (shown_group group)) numbers) (sym put)
-    (AreKnown-group (shown users groups) numbers group_numbers (shown_group group) known room some short apart new members))
+    (AreKnown-group (shown users groups) numbers group_numbers (shown_group group) known room some short apart new))

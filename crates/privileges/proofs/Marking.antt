@@ -11,9 +11,8 @@ use Rattle.std.proofs.lemmas.Slice.Eq.{bytes_eq-Decides}
 use Rattle.cal_model.specs.State.ServerState.{directory_of}
 use Rattle.cal_model.specs.State.UserNames.{AreToldApart}
 use Rattle.cal_model.specs.Users.UsersFile.{User, Users, number_of, user_limit, are_apart, numbered_group}
-use Rattle.privileges.specs.KnownUsers.{HasUsersInOrder}
 use Rattle.privileges.specs.Marks.{marked, marked_group, no_marks, with_mark, with_marks}
-use Rattle.privileges.proofs.Numbered.{numbers-same, numbers-in_order, passes_at}
+use Rattle.privileges.proofs.Numbered.{numbers-same, passes_at}
 use Rattle.privileges.proofs.KnownEntries.{same_names}
 use Rattle.privileges.proofs.UserNumbers.{people_apart, name_in, name_of_user}
 
@@ -196,7 +195,6 @@ marks_lost users names few is = sym (can_be_marked users names) ∙ subst (IsMar
 pub record AreMembers (users : Users) (names : List (List ℕ)) (marks : List Bool) : Type 0 where
   pub can : (list_all (is_user users) names && are_apart names) ≡ true
   pub members : (name : List ℕ) → marked_group name marks ≡ numbered_group users.people (record { name = name; members = names })
-  pub in_order : (name : List ℕ) → HasUsersInOrder (length users.people) (marked_group name marks)
 
 module _ (users : Users) (told : AreToldApart (directory_of users)) (few : length users.people ≤ user_limit) (names : List (List ℕ)) where
   or_none : (b : Bool) → (b || false) ≡ b
@@ -245,5 +243,4 @@ module _ (users : Users) (told : AreToldApart (directory_of users)) (few : lengt
       record {
         can = sym (can_be_marked users names) ∙ made.0;
         members = members;
-        in_order = λ name. subst (HasUsersInOrder (length users.people)) (sym (members name)) (numbers-in_order is_named users.people);
       }

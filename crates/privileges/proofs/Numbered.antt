@@ -1,10 +1,8 @@
 -- Numbered lists: the numbers of the elements that pass a test, and who is among them.
-use Rattle.std.proofs.Common.{◌≡◌, ℕ, zero, suc, ◌+◌, ◌<◌, ◌≤◌, Bool, true, false, ◌&&◌, ◌||◌, cond, ◌==◌, List, [], ◌∷◌, ◌++◌, map, length, refl, sym, ap, ◌∙◌, arith, append-nil}
+use Rattle.std.proofs.Common.{◌≡◌, ℕ, zero, suc, ◌+◌, ◌<◌, Bool, true, false, ◌&&◌, ◌||◌, cond, ◌==◌, List, [], ◌∷◌, ◌++◌, map, refl, sym, ap, ◌∙◌, arith}
 use Rattle.std.specs.Prelude.{filter, option_to_list, slice_get}
 use Rattle.std.specs.List.{list_any, enumerate_from}
 use Rattle.std.proofs.lemmas.Bool.{ne_eqb, eq-eqb}
-use Rattle.std.proofs.lemmas.List.Elements.{filter-append}
-use Rattle.cal_model.specs.Words.Lists.{counted_from}
 
 -- the numbers of those that pass, in order, where the first has a number
 abbrev pub numbers_from : {X : Type 0} → (X → Bool) → ℕ → List X → List ℕ
@@ -60,23 +58,11 @@ has-numbers test n m (x ∷ xs) (suc k) is =
     ∙ ap (λ b. b || has m (numbers_from test (n + 1) xs)) (and_none (test x))
     ∙ has-numbers test (n + 1) m xs k (omega (arith, is))
 
--- They are those of all numbers that pass.
+-- the numbers of the first element and of the others
 front_kept : {X : Type 0} (b : Bool) (n : ℕ) (x : X) (rest : List (ℕ × X)) (all : List ℕ) (c : Bool) → b ≡ c → map (λ (p : ℕ × X). p.0) rest ≡ all
     → map (λ (p : ℕ × X). p.0) (cond b ((n, x) ∷ rest) rest) ≡ cond c (n ∷ all) all
 front_kept true n x rest all c here e = (λ i. cond true (n ∷ e i) (e i)) ∙ ap (λ d. cond d (n ∷ all) all) here
 front_kept false n x rest all c here e = (λ i. cond false (n ∷ e i) (e i)) ∙ ap (λ d. cond d (n ∷ all) all) here
-
-numbers-counted : {X : Type 0} (test : X → Bool) (mem : ℕ → Bool) (n : ℕ) (xs : List X) → ((k : ℕ) → mem (n + k) ≡ passes_at test xs k)
-    → numbers_from test n xs ≡ filter mem (counted_from n (length xs))
-unfolding counted_from
-numbers-counted test mem n [] same = refl
-numbers-counted {X} test mem n (x ∷ xs) same =
-    front_kept (test x) n x (filter (λ (p : ℕ × X). test p.1) (enumerate_from (n + 1) xs)) (filter mem (counted_from (n + 1) (length xs))) (mem n)
-    (sym (ap mem (omega arith) ∙ same 0 ∙ or_none (test x)))
-    (numbers-counted test mem (n + 1) xs (λ k. ap mem (omega arith) ∙ same (suc k)))
-
-pub numbers-in_order : {X : Type 0} (test : X → Bool) (xs : List X) → numbers_from test 0 xs ≡ filter (λ m. has m (numbers_from test 0 xs)) (counted_from 0 (length xs))
-numbers-in_order test xs = numbers-counted test (λ m. has m (numbers_from test 0 xs)) 0 xs (λ k. has-numbers test 0 (0 + k) xs k refl)
 
 -- Two lists that pass two tests at the same places have the same numbers.
 none_passes : {X : Type 0} (test : X → Bool) (n : ℕ) (xs : List X) → ((k : ℕ) → passes_at test xs k ≡ false) → numbers_from test n xs ≡ []
@@ -102,32 +88,3 @@ numbers-push {X} test n (y ∷ xs) x fails =
     front_kept (test y) n y (filter (λ (p : ℕ × X). test p.1) (enumerate_from (n + 1) (xs ++ x ∷ []))) (numbers_from test (n + 1) xs) (test y) refl
     (numbers-push test (n + 1) xs x fails)
     ∙ sym (front_kept (test y) n y (filter (λ (p : ℕ × X). test p.1) (enumerate_from (n + 1) xs)) (numbers_from test (n + 1) xs) (test y) refl refl)
-
--- Numbers in order below a number are so below the next.
-counted-push : (n count : ℕ) → counted_from n (count + 1) ≡ counted_from n count ++ (n + count) ∷ []
-unfolding counted_from
-counted-push n zero = ap (λ m. m ∷ []) (omega arith)
-counted-push n (suc count) =
-    let one : suc count + 1 ≡ suc (count + 1) = omega arith in
-    let last : n + 1 + count ≡ n + suc count = omega arith in
-    ap (counted_from n) one
-    ∙ ap (λ rest. n ∷ rest) (counted-push (n + 1) count)
-    ∙ ap (λ m. n ∷ (counted_from (n + 1) count ++ m ∷ [])) last
-
-counted-past : (mem : ℕ → Bool) (m n count : ℕ) → n + count ≤ m → has m (filter mem (counted_from n count)) ≡ false
-unfolding counted_from
-counted-past mem m n zero past = refl
-counted-past mem m n (suc count) past = by (mem n) (counted-past mem m (n + 1) count (omega (arith, past))) where
-  by : (b : Bool) → has m (filter mem (counted_from (n + 1) count)) ≡ false → has m (cond b (n ∷ filter mem (counted_from (n + 1) count)) (filter mem (counted_from (n + 1) count))) ≡ false
-  by true rest = ap (λ b. b || has m (filter mem (counted_from (n + 1) count))) (ne_eqb n m (λ e. omega (arith, past, e))) ∙ rest
-  by false rest = rest
-
-pub in_order-more : (ns : List ℕ) (count : ℕ) → ns ≡ filter (λ m. has m ns) (counted_from 0 count) → ns ≡ filter (λ m. has m ns) (counted_from 0 (count + 1))
-in_order-more ns count is =
-    let mem : ℕ → Bool = λ m. has m ns in
-    let absent : mem (0 + count) ≡ false = ap (λ all. has (0 + count) all) is ∙ counted-past mem (0 + count) 0 count (omega arith) in
-    is
-    ∙ sym (append-nil (filter mem (counted_from 0 count)))
-    ∙ ap (λ b. filter mem (counted_from 0 count) ++ cond b ((0 + count) ∷ []) []) (sym absent)
-    ∙ sym (filter-append mem (counted_from 0 count) ((0 + count) ∷ []))
-    ∙ ap (filter mem) (sym (counted-push 0 count))

@@ -1,22 +1,20 @@
 -- Users and groups by number and by name, and one more.
 use Rattle.std.proofs.Common.{◌≡◌, ℕ, ◌<◌, ◌≤◌, Bool, true, false, cond, List, [], ◌∷◌, ◌++◌, length, Option, Some, None, refl, sym, ap, ◌∙◌, subst, arith, inl, inr}
-use Rattle.std.specs.Prelude.{All, filter, bytes_eq, slice_get, unwrap_or}
+use Rattle.std.specs.Prelude.{All, bytes_eq, slice_get, unwrap_or}
 use Rattle.std.specs.Option.{option_map}
 use Rattle.std.specs.List.{position}
 use Rattle.std.proofs.lemmas.Bool.{cases_Bool, cases_lt}
 use Rattle.std.proofs.lemmas.List.{length_push, get_or_append_left, length-map, map-append}
-use Rattle.std.proofs.lemmas.List.Elements.{All-append, All-cons, All-nil, All-weaker}
+use Rattle.std.proofs.lemmas.List.Elements.{All-append, All-cons, All-nil}
 use Rattle.std.proofs.Math.Seq.{get_or-append_seam}
 use Rattle.std.proofs.lemmas.Option.{slice_get-map, slice_get-get_or}
 use Rattle.std.proofs.lemmas.Slice.Eq.{bytes_eq-Decides}
 use Rattle.cal_base.specs.Lists.NameMap.{Named, value_at, with_value}
 use Rattle.cal_base.proofs.Lists.NameMapLemmas.{value_at_with}
-use Rattle.cal_model.specs.State.ServerState.{directory_of, has_member, user_name, user_number}
+use Rattle.cal_model.specs.State.ServerState.{directory_of, user_name, user_number}
 use Rattle.cal_model.specs.State.UserNames.{AreToldApart}
 use Rattle.cal_model.specs.Users.UsersFile.{User, Group, Users, number_of, group_number_of, user_limit, group_limit}
-use Rattle.cal_model.specs.Words.Lists.{counted_from}
-use Rattle.privileges.specs.KnownUsers.{AreKnown, HasUsersInOrder, and_user, and_group, name_limit}
-use Rattle.privileges.proofs.Numbered.{in_order-more}
+use Rattle.privileges.specs.KnownUsers.{AreKnown, and_user, and_group, name_limit}
 use Rattle.privileges.proofs.Places.{or_last, position-push, position-map}
 
 -- Names of a list, each with its number
@@ -193,9 +191,6 @@ AreKnown-user users numbers group_numbers user known room some short new no_grou
   told = told-user users user known.told some new no_group;
   short = short-user users user known.short short;
   short_groups = known.short_groups;
-  members = All-weaker (HasUsersInOrder (length users.people)) (HasUsersInOrder (length (users.people ++ user ∷ [])))
-      (λ group is. in_order-more group.members (length users.people) is ∙ ap (λ n. filter (λ who. has_member who group) (counted_from 0 n)) (sym (length_push users.people user)))
-      users.groups known.members;
 }
 
 -- With a group more
@@ -214,9 +209,9 @@ told-group users group told some apart new =
     ])
 
 pub AreKnown-group : (users : Users) (numbers group_numbers : Named ℕ) (group : Group) → AreKnown users numbers group_numbers → length users.groups < group_limit → 0 < length group.name → length group.name ≤ name_limit
-    → number_of users group.name ≡ None → group_number_of users group.name ≡ None → HasUsersInOrder (length users.people) group
+    → number_of users group.name ≡ None → group_number_of users group.name ≡ None
     → AreKnown (and_group users group) numbers (with_value group_numbers group.name (length users.groups))
-AreKnown-group users numbers group_numbers group known room some short apart new members = record {
+AreKnown-group users numbers group_numbers group known room some short apart new = record {
   agree = known.agree;
   agree_groups = λ name. agree-push name_of_group users.groups group group_numbers name known.agree_groups new;
   few = known.few;
@@ -225,6 +220,4 @@ AreKnown-group users numbers group_numbers group known room some short apart new
   short = known.short;
   short_groups = let P : Group → Type 0 = λ g. IsShort g.name in
       All-append P users.groups (group ∷ []) known.short_groups (All-cons P group [] short (All-nil P));
-  members = let P : Group → Type 0 = HasUsersInOrder (length users.people) in
-      All-append P users.groups (group ∷ []) known.members (All-cons P group [] members (All-nil P));
 }

@@ -1,10 +1,9 @@
 -- What holds of the users and the groups of a file, and of the maps from their names to their numbers.
-use Rattle.std.specs.Prelude.{◌≡◌, ℕ, ◌≤◌, List, [], ◌∷◌, ◌++◌, All, filter, length}
+use Rattle.std.specs.Prelude.{◌≡◌, ℕ, ◌≤◌, List, [], ◌∷◌, ◌++◌, All, length}
 use Rattle.cal_base.specs.Lists.NameMap.{Named, value_at}
-use Rattle.cal_model.specs.State.ServerState.{directory_of, has_member}
+use Rattle.cal_model.specs.State.ServerState.{directory_of}
 use Rattle.cal_model.specs.State.UserNames.{AreToldApart}
 use Rattle.cal_model.specs.Users.UsersFile.{User, Group, Users, number_of, group_number_of, user_limit, group_limit}
-use Rattle.cal_model.specs.Words.Lists.{counted_from}
 
 -- the most octets of a name
 abbrev pub name_limit : ℕ
@@ -17,15 +16,11 @@ and_user users user = record { people = users.people ++ user ∷ []; groups = us
 abbrev pub and_group : Users → Group → Users
 and_group users group = record { people = users.people; groups = users.groups ++ group ∷ [] }
 
--- of so many users, the members of a group are some, in the order of their numbers
-abbrev pub HasUsersInOrder : ℕ → Group → Type 0
-HasUsersInOrder count group = group.members ≡ filter (λ user. has_member user group) (counted_from 0 count)
-
 -- a group's name has at most 200 octets
 abbrev pub IsShortGroup : Group → Type 0
 IsShortGroup group = length group.name ≤ 200
 
--- The maps have each number at its name, and nothing else; users and groups are few, their names are short and tell them apart, and the members of groups are users.
+-- The maps have each number at its name, and nothing else; users and groups are few, their names are short and tell them apart.
 pub record AreKnown (users : Users) (numbers group_numbers : Named ℕ) : Type 0 where
   pub agree : (name : List ℕ) → value_at numbers name ≡ number_of users name
   pub agree_groups : (name : List ℕ) → value_at group_numbers name ≡ group_number_of users name
@@ -34,4 +29,3 @@ pub record AreKnown (users : Users) (numbers group_numbers : Named ℕ) : Type 0
   pub told : AreToldApart (directory_of users)
   pub short : All (λ name. length name ≤ name_limit) (directory_of users).names
   pub short_groups : All (λ (group : Group). length group.name ≤ name_limit) users.groups
-  pub members : All (HasUsersInOrder (length users.people)) users.groups

@@ -3,7 +3,7 @@ ghost use Rattle.std.specs.Prelude.{◌≡◌, ◌≤◌, ◌<◌, [], None, Som
 ghost use Rattle.cal_model.specs.State.ServerState.{directory_of, user_name, user_number, group_name, is_member};
 ghost use Rattle.cal_model.specs.State.UserNames.{AreToldApart};
 ghost use Rattle.cal_model.specs.Users.UsersFile as spec;
-ghost use Rattle.privileges.specs.KnownUsers.{name_limit, HasUsersInOrder, IsShortGroup, and_user, and_group};
+ghost use Rattle.privileges.specs.KnownUsers.{name_limit, IsShortGroup, and_user, and_group};
 ghost use Rattle.privileges.specs.Marks.{marked_group};
 
 use crate::digests::is_same;
@@ -92,12 +92,10 @@ impl Users {
         self.numbers.get(name).copied()
     }
 
-    /// How many groups there are. (That they are few, and that their members are users in the order
-    /// of their numbers, holds of all groups of a file.)
+    /// How many groups there are. (That they are few holds of all groups of a file.)
     pub fn groups(&self) -> u32
         ensures count { result ≡ length self.now.groups }
         ensures few { length self.now.groups ≤ spec.group_limit }
-        ensures members { All (HasUsersInOrder (length self.now.people)) self.now.groups }
     {
         self.groups.len() as u32
     }
@@ -142,7 +140,6 @@ impl Users {
         requires short { length name.now ≤ name_limit }
         requires apart { spec.number_of self.old name.now ≡ None }
         requires new { spec.group_number_of self.old name.now ≡ None }
-        requires members { HasUsersInOrder (length self.old.people) (marked_group name.now members) }
         ensures ok { OnOk result (self.new ≡ and_group self.old (marked_group name.now members)) }
         ensures err { OnErr result (self.new ≡ self.old) }
     {

@@ -1,13 +1,8 @@
 use Rattle.std.proofs.Common.{Ok, Err, sym, ap, ◌∙◌, arith}
 use Rattle.cal_base.specs.Lines.ContentLines.{pieces}
 use Rattle.cal_base.specs.Texts.Octets.{space}
-use Rattle.privileges.proofs.Marking.{marks_found}
 use Rattle.privileges.proofs.NamedGroups.{with_named-found, with_named-lost}
 use Rattle.privileges.proofs.reading.add_group.Goals as goal
-
-pub add_group-requires-clause-members : goal.add_group-requires-clause-members
-add_group-requires-clause-members c =
-    (marks_found c.args.users.now c.len-count.ensures.told c.len-count.ensures.few (pieces space c.args.members.now) c.in-Some.members (sym c.in-Some.ensures)).in_order c.args.name.now
 
 pub returns-in_ok-add_group-in-Some-clause-users : goal.returns-in_ok-add_group-in-Some-clause-users
 returns-in_ok-add_group-in-Some-clause-users c =

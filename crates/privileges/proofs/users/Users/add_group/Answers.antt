@@ -1,7 +1,5 @@
-use Rattle.std.proofs.Common.{◌∙◌, sym, ap, subst, arith, length}
+use Rattle.std.proofs.Common.{◌∙◌, sym, ap, arith, length}
 use Rattle.cal_model.specs.Users.UsersFile.{Users, number_of, group_number_of}
-use Rattle.privileges.specs.KnownUsers.{HasUsersInOrder}
-use Rattle.privileges.specs.Marks.{marked_group}
 use Rattle.privileges.specs.ShownUsers.{shown}
 use Rattle.privileges.proofs.KeptUsers.{AreKnown-kept_group}
 use Rattle.privileges.proofs.users.Users.add_group.Goals as goal
@@ -16,5 +14,3 @@ invariant_of-self-in-Ok c =
     c.self.invariant (omega (arith, c.requires.room, ap (λ (users : Users). length users.groups) seen)) (omega (arith, c.requires.named, ap length name)) (omega (arith, c.requires.short, ap length name))
     (ap (number_of before) name ∙ ap (λ users. number_of users c.args.name.now) seen ∙ c.requires.apart)
     (ap (group_number_of before) name ∙ ap (λ users. group_number_of users c.args.name.now) seen ∙ c.requires.new)
-    (subst (λ (users : Users). HasUsersInOrder (length users.people) (marked_group c.in_ok-shown.shown c.args.members)) (sym seen)
-    (subst (λ text. HasUsersInOrder (length c.args.self.now.people) (marked_group text c.args.members)) (sym name) c.requires.members))
