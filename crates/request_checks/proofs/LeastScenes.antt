@@ -1,6 +1,8 @@
 -- Refusals go by no more of a scene than what a scene in memory has of it.
-use Rattle.std.proofs.Common.{◌≡◌, ℕ, Bool, true, false, not, ◌&&◌, ◌||◌, cond, ◌==◌, List, [], ◌∷◌, Option, Some, None, refl, sym, ap, ◌∙◌}
-use Rattle.std.specs.Prelude.{is_some, is_none, option_map, IsSome, IfSome}
+use Rattle.std.proofs.Common.{◌≡◌, ℕ, Bool, true, false, not, ◌&&◌, ◌||◌, cond, ◌==◌, List, [], ◌∷◌, Option, Some, None, refl, sym, ap, ◌∙◌, ◌⊎◌, inl, inr}
+use Rattle.std.specs.Prelude.{is_some, is_none, option_map, option_to_list, map, position, bytes_eq, IsSome, IfSome}
+use Rattle.std.proofs.lemmas.Iterator.Adapters.{position_from-zero}
+use Rattle.std.proofs.lemmas.Slice.Eq.{bytes_eq-Decides}
 use Rattle.std.specs.Borrow.{Bor}
 use Rattle.std.specs.Option.{option_map_or}
 use Rattle.std.proofs.lemmas.Bool.{false≢true}
@@ -22,12 +24,14 @@ use Rattle.cal_model.specs.Refusals.RefusalReplies.{when, refusal_reply, need_pr
 use Rattle.cal_model.specs.Refusals.SharedRefusals.{Need, nothing, held, owned, makes_or_asks, is_missing, need, unmet, needs_object, is_object_missing, fault_of, is_options, is_get, not_modified, if_match_fails, if_none_match_fails, shared_rows}
 use Rattle.cal_model.specs.Serving.Outcomes.{accepted_status}
 use Rattle.cal_model.specs.Serving.ReadingReplies.{get_reply}
-use Rattle.cal_model.specs.Sight.Scenes.{Scene as Sighted, held_in, object_in}
+use Rattle.cal_model.specs.Sight.Scenes.{Scene as Sighted, held_in, object_in, user_in}
+use Rattle.cal_model.specs.State.ServerState.{group_number}
+use Rattle.cal_model.specs.Users.UsersFile.{Group}
 use Rattle.cal_model.specs.Sight.Views.{Sight}
 use Rattle.request_checks.specs.declared.refusals.SharedRefusal.{SharedRefusal}
 use Rattle.request_checks.specs.declared.refusals.SharedRefusal.TheVariants.{NotFound, NeedPrivileges, Refused, PreconditionFailed, NotModified}
 use Rattle.request_checks.specs.declared.scenes.Scene.{Scene}
-use Rattle.request_checks.specs.Sightings.{names_home, held_of, held_on_sight}
+use Rattle.request_checks.specs.Sightings.{names_group, names_home, held_of, held_on_sight}
 use Rattle.request_checks.specs.Scenes.{IsFoundAt, IsScene, sight_held, least_of}
 use Rattle.request_checks.specs.SharedReplies.{unmet_set, condition_rows, takes_room, IsFaultOf, IsFaultless}
 
@@ -50,14 +54,31 @@ no_calendar (Some p) None e = absurd cc
 abbrev calendar_gone : Method → Bool → Bool → Bool
 calendar_gone method home calendar = home || (calendar && not (makes_or_asks method))
 
-missing-least : (method : Method) (path : Path) (shown : Scene) (scene : Sighted) → shown.user ≡ scene.user → shown.home ≡ (names_home path && is_some scene.home)
+-- the group whose principal's path it is
+pub group-least : (shown : Scene) (name : List ℕ) → shown.path.now ≡ Principal name → is_none (group_number (least_of shown).directory name) ≡ not shown.group
+group-least shown name is = by shown.group where
+  one : is_none (position (λ (group : Group). bytes_eq name group.name) (record { name = name; members = [] } ∷ [])) ≡ false
+  one =
+      ap (λ (o : Option ℕ). is_none o) (position_from-zero (λ (group : Group). bytes_eq name group.name) (record { name = name; members = [] } ∷ []))
+      ∙ ap (λ (b : Bool). is_none {T = ℕ} (cond b (Some 0) None)) ((bytes_eq-Decides name name).1 refl)
+
+  by : (group : Bool)
+      → is_none (position (λ (other : Group). bytes_eq name other.name) (cond group (map (λ (n : List ℕ). record { name = n; members = [] }) (option_to_list (user_in shown.path.now))) [])) ≡ not group
+  by true = ap (λ path. is_none (position (λ (other : Group). bytes_eq name other.name) (map (λ (n : List ℕ). record { name = n; members = [] }) (option_to_list (user_in path))))) is ∙ one
+  by false = refl
+
+missing-least : (method : Method) (path : Path) (shown : Scene) (scene : Sighted) → shown.path.now ≡ path → shown.group ≡ names_group scene.directory path → shown.user ≡ scene.user → shown.home ≡ (names_home path && is_some scene.home)
     → held_of shown.calendar ≡ held_on_sight scene.calendar → is_missing method (least_of shown) path ≡ is_missing method scene path
-missing-least method Root shown scene user home calendar = refl
-missing-least method (Principal name) shown scene user home calendar = ap is_none user
-missing-least method (Home name) shown scene user home calendar = no_home shown.home scene.home [] home
-missing-least method (Calendar name within) shown scene user home calendar =
+missing-least method Root shown scene is group user home calendar = refl
+missing-least method (Principal name) shown scene is group user home calendar =
+    λ i. is_none (user i) && (group-least shown name is ∙ ap not group ∙ none_some (group_number scene.directory name)) i where
+      none_some : (o : Option ℕ) → not (is_some o) ≡ is_none o
+      none_some None = refl
+      none_some (Some n) = refl
+missing-least method (Home name) shown scene is group user home calendar = no_home shown.home scene.home [] home
+missing-least method (Calendar name within) shown scene is group user home calendar =
     λ i. calendar_gone method (no_home shown.home scene.home [] home i) (no_calendar shown.calendar scene.calendar calendar i)
-missing-least method (Object name within object) shown scene user home calendar =
+missing-least method (Object name within object) shown scene is group user home calendar =
     λ i. calendar_gone method (no_home shown.home scene.home [] home i) (no_calendar shown.calendar scene.calendar calendar i)
 
 abbrev nothing_seen : Named Sight
@@ -74,10 +95,13 @@ home_alone false e = absurd (false≢true e)
 -- what is not missing is there
 pub found : (method : Method) (shown : Scene) (path : Path) → false ≡ is_missing method (least_of shown) path → IsFoundAt shown path
 found method shown Root e = tt
-found method shown (Principal name) e = user shown.user e where
-  user : (o : Option ℕ) → false ≡ is_none o → IsSome o
-  user None e = absurd (false≢true e)
-  user (Some number) e = refl
+found method shown (Principal name) e = by shown.user shown.group e where
+  by : (user : Option ℕ) (group : Bool)
+      → false ≡ (is_none user && is_none (position (λ (other : Group). bytes_eq name other.name) (cond group (map (λ (n : List ℕ). record { name = n; members = [] }) (option_to_list (user_in shown.path.now))) [])))
+      → IsSome user ⊎ (group ≡ true)
+  by (Some number) group e = inl refl
+  by None true e = inr refl
+  by None false e = absurd (false≢true e)
 found method shown (Home name) e = home_alone shown.home e
 found method shown (Calendar name within) e = home_there shown.home _ e
 found method shown (Object name within object) e = home_there shown.home _ e
@@ -121,7 +145,7 @@ pub rows-least : (shown : Scene) (scene : Sighted) (request : Request) → IsSce
 unfolding shared_rows
 rows-least shown scene request is =
     let missing : is_missing request.method (least_of shown) shown.path.now ≡ is_missing request.method scene scene.path =
-    ap (is_missing request.method (least_of shown)) is.path ∙ missing-least request.method scene.path shown scene is.user is.home is.calendar in
+    ap (is_missing request.method (least_of shown)) is.path ∙ missing-least request.method scene.path shown scene is.path is.group is.user is.home is.calendar in
     let lacked : unmet (least_of shown) (need (least_of shown) request.method request.content) ≡ unmet scene (need scene request.method request.content) =
     ap (unmet (least_of shown)) (need-least request.method request.content shown scene is) ∙ unmet-least (need scene request.method request.content) shown scene is in
     λ i. when (missing i) (bare_reply 404)

@@ -1,5 +1,5 @@
 -- What a store's look-ups give of a calendar and of an object is what is seen of them at a path.
-use Rattle.std.proofs.Common.{◌≡◌, ℕ, Bool, true, false, not, ◌||◌, cond, ◌==◌, List, [], Option, Some, None, refl, sym, ap, subst, ◌∙◌, arith}
+use Rattle.std.proofs.Common.{◌≡◌, ℕ, Bool, true, false, not, ◌||◌, cond, ◌==◌, List, Option, Some, None, refl, sym, ap, subst, ◌∙◌, arith}
 use Rattle.std.specs.Prelude.{option_map, option_and_then}
 use Rattle.std.specs.Borrow.{Bor}
 use Rattle.std.proofs.lemmas.Bool.Decides.{nat_tests}
@@ -10,13 +10,13 @@ use Rattle.cal_model.specs.declared.path.Path.TheVariants.{Object as ObjectPath}
 use Rattle.cal_model.specs.declared.store.CalendarData.{CalendarData}
 use Rattle.cal_model.specs.Words.Lists.{is_empty}
 use Rattle.cal_model.specs.Access.Privileges.{privileges_held, has_all, read}
-use Rattle.cal_model.specs.State.ServerState.{Directory, Calendar, Home as UserHome, ServerState, home_at, calendar_at, octets_at}
+use Rattle.cal_model.specs.State.ServerState.{Directory, Calendar, Home as UserHome, ServerState, groups_of, home_at, calendar_at, octets_at}
 use Rattle.cal_model.specs.State.StoredData.{data_of, data_at}
-use Rattle.cal_model.specs.State.SoundStates.{IsSound}
+use Rattle.cal_model.specs.State.SoundStates.{AreToUsers, IsSound}
 use Rattle.cal_model.specs.Sight.Views.{Sight, Contents, held_on, contents_of, only_where, home_by}
 use Rattle.cal_model.specs.Sight.Scenes.{at_both, octets_seen, object_in, calendar_in}
 use Rattle.cal_model.proofs.Sight.SceneLaws.{holds_some, home_in-view, calendar_in-scene}
-use Rattle.cal_model.proofs.State.NameWalkLaws.{home-sound}
+use Rattle.cal_model.proofs.State.NameWalkLaws.{calendar-sound, home-sound}
 use Rattle.request_checks.specs.declared.looks.Look.{Look}
 use Rattle.request_checks.specs.declared.looks.Look.TheVariants.{Own, Whole}
 use Rattle.request_checks.specs.Sightings.{eyes_of, calendar_seen, held_of, held_on_sight, held_or_nothing, shows_objects, IsSoundAt}
@@ -45,6 +45,13 @@ some_calendar state owner name kept e = by (calendar_at state owner name) (e ∙
   by : (found : Option Calendar) → Some kept ≡ option_map (data_of owner) found → (c : Calendar) × (found ≡ Some c) × (kept ≡ data_of owner c)
   by None e = absurd cc
   by (Some c) e = let same : kept ≡ data_of owner c = cc in (c, refl, same)
+
+-- the grants of a calendar that is looked up are to users
+pub grants_of : (directory : Directory) (state : ServerState) (owner : ℕ) (name : List ℕ) (kept : CalendarData) → IsSound directory state → Some kept ≡ data_at state owner name
+    → AreToUsers directory kept.acl.grants
+grants_of directory state owner name kept sound e =
+    let found = some_calendar state owner name kept e in
+    subst (λ (k : CalendarData). AreToUsers directory k.acl.grants) (sym found.2) (calendar-sound directory state owner name found.0 sound found.1).grants
 
 -- without a name no calendar is seen, and no object
 no_name : {X : Type 0} (named : Option (Named X)) → at_both named None ≡ None
@@ -93,19 +100,19 @@ module _ (look : Look) (directory : Directory) (state : ServerState) (who : ℕ)
   not_there owner name sound e = nothing_known owner name sound (no_calendar state owner name e)
 
   pub hidden : (owner : ℕ) (name : List ℕ) (kept : CalendarData) (held : ℕ) → IsSound directory state → Some kept ≡ data_at state owner name
-      → held ≡ privileges_held [] kept.acl.grants owner who → held ≡ 0 → looked owner name ≡ None
+      → held ≡ privileges_held (groups_of directory who) kept.acl.grants owner who → held ≡ 0 → looked owner name ≡ None
   hidden owner name kept held sound e is none =
       let found = some_calendar state owner name kept e in
-      let same : held ≡ held_on directory owner who found.0 = is ∙ ap (λ (k : CalendarData). privileges_held [] k.acl.grants owner who) found.2 in
+      let same : held ≡ held_on directory owner who found.0 = is ∙ ap (λ (k : CalendarData). privileges_held (groups_of directory who) k.acl.grants owner who) found.2 in
       let test : holds_some directory owner who found.0 ≡ false = ap (λ h. not (h == 0)) (sym same ∙ none) in
       sight_there owner name found.0 sound found.1 ∙ ap (λ b. cond b (Some (eyes_of look directory owner who found.0)) None) test
 
   -- a calendar is seen on which this is held
   pub visible : (owner : ℕ) (name : List ℕ) (kept : CalendarData) (held : ℕ) → IsSound directory state → Some kept ≡ data_at state owner name
-      → held ≡ privileges_held [] kept.acl.grants owner who → (held ≡ 0 → ⊥) → Some held ≡ held_on_sight (looked owner name)
+      → held ≡ privileges_held (groups_of directory who) kept.acl.grants owner who → (held ≡ 0 → ⊥) → Some held ≡ held_on_sight (looked owner name)
   visible owner name kept held sound e is some =
       let found = some_calendar state owner name kept e in
-      let same : held ≡ held_on directory owner who found.0 = is ∙ ap (λ (k : CalendarData). privileges_held [] k.acl.grants owner who) found.2 in
+      let same : held ≡ held_on directory owner who found.0 = is ∙ ap (λ (k : CalendarData). privileges_held (groups_of directory who) k.acl.grants owner who) found.2 in
       let test : holds_some directory owner who found.0 ≡ true = ap (λ h. not (h == 0)) (sym same) ∙ not_zero held some in
       let seen : looked owner name ≡ Some (eyes_of look directory owner who found.0) =
       sight_there owner name found.0 sound found.1 ∙ ap (λ b. cond b (Some (eyes_of look directory owner who found.0)) None) test in

@@ -1,20 +1,20 @@
 -- What a scene in memory stands for: that of the definitions, part by part, as far as refusals go by it.
-use Rattle.std.specs.Prelude.{◌≡◌, ℕ, true, ◌&&◌, [], Some, None, is_some, IsSome, option_map, if◌then◌else◌}
+use Rattle.std.specs.Prelude.{◌≡◌, ℕ, true, ◌&&◌, ◌⊎◌, List, [], map, Some, None, is_some, IsSome, option_map, option_to_list, if◌then◌else◌}
 use Rattle.std.specs.Borrow.{Bor}
 use Rattle.cal_model.specs.declared.path.Path.{Path}
 use Rattle.cal_model.specs.declared.path.Path.TheVariants.{Root, Principal}
 use Rattle.cal_model.specs.declared.store.CalendarData.{CalendarData}
-use Rattle.cal_model.specs.declared.path.Path.{Path}
-use Rattle.cal_model.specs.declared.path.Path.TheVariants.{Root, Principal}
-use Rattle.cal_model.specs.Sight.Scenes.{Scene as Sighted}
+use Rattle.cal_model.specs.Sight.Scenes.{Scene as Sighted, user_in}
 use Rattle.cal_model.specs.Sight.Views.{Sight}
 use Rattle.request_checks.specs.declared.scenes.Scene.{Scene}
-use Rattle.request_checks.specs.Sightings.{names_home, octets_lent}
+use Rattle.cal_model.specs.Users.UsersFile.{Group}
+use Rattle.request_checks.specs.Sightings.{names_group, names_home, octets_lent}
 
 pub record IsScene (shown : Scene) (scene : Sighted) : Type 0 where
   pub who : shown.who ≡ scene.who
   pub path : shown.path.now ≡ scene.path
   pub user : shown.user ≡ scene.user
+  pub group : shown.group ≡ names_group scene.directory scene.path
   -- the home of a principal plays no part
   pub home : shown.home ≡ (names_home scene.path && is_some scene.home)
   -- with the privileges that are held on it
@@ -26,9 +26,13 @@ pub record IsScene (shown : Scene) (scene : Sighted) : Type 0 where
 abbrev pub sight_held : ℕ → Sight
 sight_held held = record { held = held; contents = None; grants = None; busy = None }
 
+-- of the groups, the one whose principal's path it is
+abbrev pub least_groups : Scene → List Group
+least_groups shown = if shown.group then map (λ name. record { name = name; members = [] }) (option_to_list (user_in shown.path.now)) else []
+
 abbrev pub least_of : Scene → Sighted
 least_of shown = record {
-  directory = record { names = [] };
+  directory = record { names = []; groups = least_groups shown };
   who = shown.who;
   path = shown.path.now;
   user = shown.user;
@@ -37,8 +41,8 @@ least_of shown = record {
   object = octets_lent shown.object;
 }
 
--- what a path names is there, down to the home: so its user is known
+-- what a path names is there, down to the home: so its user, or its group, is known
 abbrev pub IsFoundAt : Scene → Path → Type 0
 IsFoundAt shown Root = Unit {0}
-IsFoundAt shown (Principal user) = IsSome shown.user
+IsFoundAt shown (Principal name) = IsSome shown.user ⊎ (shown.group ≡ true)
 IsFoundAt shown other = shown.home ≡ true

@@ -7,11 +7,12 @@ use Rattle.cal_model.specs.declared.store.CalendarData.{CalendarData}
 use Rattle.cal_model.specs.declared.stored.Stored.{Stored}
 use Rattle.cal_model.specs.Access.Privileges.{has_all, read}
 use Rattle.cal_model.specs.History.Origins.{Origins}
-use Rattle.cal_model.specs.State.ServerState.{Directory, ServerState, user_number}
+use Rattle.cal_model.specs.State.ServerState.{Directory, ServerState, user_number, group_number}
 use Rattle.cal_model.specs.State.SoundStates.{IsSound}
 use Rattle.cal_model.specs.State.StoredData.{data_at}
 use Rattle.cal_model.specs.Sight.Views.{Look as Eyes, Sight, view_by, sight_of, whole_sight}
 use Rattle.cal_model.specs.Sight.Scenes.{user_in, visible_home, at_both}
+use Rattle.cal_model.specs.Users.UsersFile.{Group}
 use Rattle.request_checks.specs.declared.looks.Look.{Look}
 use Rattle.request_checks.specs.declared.looks.Look.TheVariants.{Own, Whole}
 
@@ -23,6 +24,11 @@ eyes_of Whole = whole_sight
 -- the user whose name a path has
 abbrev pub user_seen : Directory → Path → Option ℕ
 user_seen directory path = option_and_then (user_number directory) (user_in path)
+
+-- whether a path is that of a group's principal
+abbrev pub names_group : Directory → Path → Bool
+names_group directory (Principal name) = is_some (group_number directory name)
+names_group directory other = false
 
 -- whether a user's home is visible
 abbrev pub home_shows : Look → Directory → ServerState → ℕ → Option ℕ → Bool
@@ -71,6 +77,6 @@ abbrev pub IsSoundAt : Option ℕ → Option (List ℕ) → Directory → Server
 IsSoundAt (Some owner) (Some name) directory state = IsSound directory state
 IsSoundAt user name directory state = Unit {0}
 
--- the names of all users have at most 200 octets
+-- the names of all users and of all groups have at most 200 octets
 abbrev pub AreShort : Directory → Type 0
-AreShort directory = All (λ name. length name ≤ 200) directory.names
+AreShort directory = All (λ name. length name ≤ 200) directory.names × All (λ (group : Group). length group.name ≤ 200) directory.groups

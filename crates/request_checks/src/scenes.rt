@@ -1,5 +1,5 @@
 //! What stands at each part of a request's path, as its caller sees it.
-ghost use Rattle.std.specs.Prelude.{◌≡◌, true, IfSome, IsSome, IsTrue};
+ghost use Rattle.std.specs.Prelude.{◌≡◌, ◌<◌, true, length, IfSome, IsSome, IsTrue};
 ghost use Rattle.cal_model.specs.Paths.TargetPaths.{is_path};
 ghost use Rattle.cal_model.specs.Sight.Scenes as sight;
 ghost use Rattle.cal_model.specs.Sight.Views.{view_by};
@@ -36,6 +36,7 @@ pub struct Scene<'a> {
 /// of a home, or where a calendar is hidden or not there, also a walk over the calendars of the home
 /// up to the first that is visible.
 pub fn scene_at<'a, V: View>(seen: &Seen<'a, V>, path: &'a Path, look: Look) -> Scene<'a>
+    requires { seen.now.who < length (V.directory seen.now.view.now).names }
     ensures scene { IsScene result (sight.scene_at (V.directory seen.now.view.now) (view_by (eyes_of look) (V.directory seen.now.view.now) (V.state seen.now.view.now) seen.now.who) seen.now.who path.now) }
     ensures known { result.home ≡ true → IsSome result.user }
     ensures names { AreShort (V.directory seen.now.view.now) → IsTrue (is_path path.now) → IsFoundAt result path.now → HasShortNames path.now }

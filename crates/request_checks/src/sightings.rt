@@ -25,7 +25,9 @@ pub(crate) fn user_at<V: View>(view: &V, path: &Path) -> Option<u32>
 }
 
 /// Whether a path is that of a group's principal.
-pub(crate) fn is_group<V: View>(view: &V, path: &Path) -> bool {
+pub(crate) fn is_group<V: View>(view: &V, path: &Path) -> bool
+    ensures { result ≡ sightings.names_group (V.directory view.now) path.now }
+{
     match path {
         Path::Principal(name) => view.find_group(name.as_slice()).is_some(),
         _ => false,
@@ -39,6 +41,7 @@ fn look_up<'a, V: View>(
     name: &[u8],
     who: u32,
 ) -> Option<(u16, &'a CalendarData)>
+    requires { who < length (V.directory view.now).names }
     ensures held { (look : Looks) → sightings.held_of result ≡ sightings.held_on_sight (sightings.calendar_seen look (V.directory view.now) (V.state view.now) who (Some owner) (Some name.now)) }
     ensures kept { IfSome result (λ p. sightings.IsDataAt (V.state view.now) (Some owner) (Some name.now) p.1.now) }
     ensures sound { IsSound (V.directory view.now) (V.state view.now) }
@@ -57,6 +60,7 @@ pub(crate) fn calendar_at<'a, V: View>(
     path: &Path,
     who: u32,
 ) -> Option<(u16, &'a CalendarData)>
+    requires { who < length (V.directory view.now).names }
     ensures held { (look : Looks) → sightings.held_of result ≡ sightings.held_on_sight (sightings.calendar_seen look (V.directory view.now) (V.state view.now) who user (calendar_in path.now)) }
     ensures kept { IfSome result (λ p. sightings.IsDataAt (V.state view.now) user (calendar_in path.now) p.1.now) }
     ensures sound { sightings.IsSoundAt user (calendar_in path.now) (V.directory view.now) (V.state view.now) }
@@ -79,6 +83,7 @@ pub(crate) fn home_at<V: View>(
     who: u32,
 ) -> bool
     requires known { IfSome user (λ owner. owner < length (V.directory view.now).names) }
+    requires who { who < length (V.directory view.now).names }
     requires calendar { (look : Looks) → sightings.held_of calendar.now ≡ sightings.held_on_sight (sightings.calendar_seen look (V.directory view.now) (V.state view.now) who user (calendar_in path.now)) }
     ensures { (look : Looks) → result ≡ (sightings.names_home path.now && sightings.home_shows look (V.directory view.now) (V.state view.now) who user) }
 {

@@ -21,6 +21,7 @@ returns-clause-scene g c =
       who = refl;
       path = refl;
       user = known;
+      group = c.is_group.ensures;
       home = c.home_at-home.ensures c.args.look ∙ ap (λ user. names_home path && home_shows c.args.look directory state who user) known;
       calendar = c.calendar_at-calendar.ensures.held c.args.look ∙ ap (λ user. held_on_sight (calendar_seen c.args.look directory state who user (calendar_in path))) known;
       object = c.object_at-object.ensures.octets ∙ ap (λ user. at_both (octets_seen (calendar_seen c.args.look directory state who user (calendar_in path))) (object_in path)) known;
@@ -37,10 +38,11 @@ returns-clause-names g c = λ short is there.
       who = c.args.seen.now.who;
       path = c.args.path;
       user = c.user_at-user.result;
+      group = c.is_group.result;
       home = c.home_at-home.result;
       calendar = c.calendar_at-calendar.result;
       object = c.object_at-object.result;
     } in
     short_names (g.V.View.directory c.args.seen.now.view.now) shown c.args.path.now short c.user_at-user.ensures.user
     (λ home. user_known c.args.look (g.V.View.directory c.args.seen.now.view.now) (g.V.View.state c.args.seen.now.view.now) c.args.seen.now.who (names_home c.args.path.now) c.user_at-user.result
-    (sym (c.home_at-home.ensures c.args.look) ∙ home)) is there
+    (sym (c.home_at-home.ensures c.args.look) ∙ home)) c.is_group.ensures is there

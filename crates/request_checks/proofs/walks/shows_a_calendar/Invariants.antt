@@ -6,7 +6,7 @@ use Rattle.request_checks.proofs.walks.shows_a_calendar.Given as goal
 -- nothing is held on what the walk has met
 abbrev pub invariant-calendars : goal.invariant-calendars
 invariant-calendars g l =
-    any_held l.owner l.who (calendars_above (g.V.View.state l.view) l.owner []) ≡ any_held l.owner l.who (calendars_above (g.V.View.state l.view) l.owner l.last)
+    any_held (g.V.View.directory l.view) l.owner l.who (calendars_above (g.V.View.state l.view) l.owner []) ≡ any_held (g.V.View.directory l.view) l.owner l.who (calendars_above (g.V.View.state l.view) l.owner l.last)
 
 abbrev pub decreases-calendars : goal.decreases-calendars
 decreases-calendars g l = length (calendars_above (g.V.View.state l.view) l.owner l.last)
