@@ -14,7 +14,7 @@ use Rattle.cal_model.specs.Bodies.AskedProperties.{property_name}
 use Rattle.cal_model.specs.Bodies.ElementParts.{children, named, first_named}
 use Rattle.cal_model.specs.Bodies.AclBodies.{other_form, holds, is_form, meant_by_form, meant_by, meant, granted_elements, granted_sets, bits_of, ace_rows}
 use Rattle.cal_model.specs.Bodies.Refusals.{first_row}
-use Rattle.cal_model.specs.Users.UsersFile.{User}
+use Rattle.cal_model.specs.Users.UsersFile.{Users}
 use Rattle.dav_elements.specs.declared.aces.GrantedBits.{GrantedBits}
 use Rattle.dav_elements.specs.declared.aces.Whom.{Whom}
 use Rattle.dav_elements.specs.AceAnswers.{as_meant, with_sets, refusals_from}
@@ -88,16 +88,16 @@ granted_nothing ace none =
 
 -- Principals
 
-pub meant_one : {E : Type 0} (users : List User) (ace principal : Element) (read : Result Whom E) → (principal ∷ []) ≡ first_named dav (codes "principal") ace
+pub meant_one : {E : Type 0} (users : Users) (ace principal : Element) (read : Result Whom E) → (principal ∷ []) ≡ first_named dav (codes "principal") ace
     → IfOk read (λ whom. as_meant whom ≡ meant_by users (filter is_form (children principal))) → IfOk read (λ whom. meant users ace ≡ as_meant whom ∷ [])
 meant_one users ace principal read one =
     IfOk-weaker read (λ whom. as_meant whom ≡ meant_by users (filter is_form (children principal))) (λ whom. meant users ace ≡ as_meant whom ∷ [])
     (λ whom is. ap (map (λ those. meant_by users (filter is_form (children those)))) (sym one) ∙ ap (λ m. m ∷ []) (sym is))
 
-pub meant_never : (users : List User) (ace : Element) → [] ≡ first_named dav (codes "principal") ace → holds (codes "principal") ace ≡ true → meant users ace ≡ other_form ∷ []
+pub meant_never : (users : Users) (ace : Element) → [] ≡ first_named dav (codes "principal") ace → holds (codes "principal") ace ≡ true → meant users ace ≡ other_form ∷ []
 meant_never users ace none there = absurd (false≢true (ap (λ those. not (is_empty those)) (sym (none_from_first (named dav (codes "principal") ace) none)) ∙ there))
 
-pub meant_first : {E : Type 0} (users : List User) (form : Element) (forms : List Element) (read : Result Whom E) → (form ∷ []) ≡ take 1 forms
+pub meant_first : {E : Type 0} (users : Users) (form : Element) (forms : List Element) (read : Result Whom E) → (form ∷ []) ≡ take 1 forms
     → IfOk read (λ whom. as_meant whom ≡ meant_by_form users form) → IfOk read (λ whom. as_meant whom ≡ meant_by users forms)
 meant_first users form forms read first =
     IfOk-weaker read (λ whom. as_meant whom ≡ meant_by_form users form) (λ whom. as_meant whom ≡ meant_by users forms) (λ whom is. is ∙ by forms first)
@@ -106,7 +106,7 @@ meant_first users form forms read first =
     by [] e = absurd cc
     by (other ∷ more) e = let same : form ≡ other = cc in ap (meant_by_form users) same
 
-pub meant_by_none : (users : List User) (forms : List Element) → [] ≡ take 1 forms → other_form ≡ meant_by users forms
+pub meant_by_none : (users : Users) (forms : List Element) → [] ≡ take 1 forms → other_form ≡ meant_by users forms
 meant_by_none users forms none = ap (meant_by users) (sym (none_from_first forms none))
 
 -- an empty privilege
@@ -131,7 +131,7 @@ nothing_none ace none =
 
 -- Aces
 
-pub refusals-append : (users : List User) (before : ℕ) (aces more : List Element) → refusals_from users before (aces ++ more) ≡ refusals_from users before aces ++ refusals_from users (before + length aces) more
+pub refusals-append : (users : Users) (before : ℕ) (aces more : List Element) → refusals_from users before (aces ++ more) ≡ refusals_from users before aces ++ refusals_from users (before + length aces) more
 refusals-append users before [] more = ap (λ n. refusals_from users n more) (omega arith)
 refusals-append users before (ace ∷ aces) more =
     let first = option_to_list (first_row (ace_rows users before ace)) in

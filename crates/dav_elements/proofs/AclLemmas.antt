@@ -17,7 +17,7 @@ use Rattle.cal_model.specs.Words.Namespaces.{dav}
 use Rattle.cal_model.specs.Bodies.ElementParts.{children, has_name}
 use Rattle.cal_model.specs.Bodies.AclBodies.{Meant, someone, nobody, other_form, grant_limit, holds, meant, is_nobody, is_other_form, who_of, granted_elements, granted_sets, bits_of, lacks_part, aces, ace_rows, grants_of, acl_by, acl_content}
 use Rattle.cal_model.specs.Bodies.Refusals.{bad_request, dav_refusal, first_row}
-use Rattle.cal_model.specs.Users.UsersFile.{User}
+use Rattle.cal_model.specs.Users.UsersFile.{Users}
 use Rattle.dav_elements.specs.AceAnswers.{refusals_from, late_rows}
 use Rattle.dav_elements.proofs.AceLemmas.{refusals-append}
 use Rattle.dav_elements.proofs.ListSteps.{More, Split}
@@ -51,11 +51,11 @@ rows_by deny invert none form unknown full =
     else if full then Some (dav_refusal (codes "limited-number-of-aces"))
     else None
 
-pub deny_row : (users : List User) (before : ℕ) (ace : Element) → holds (codes "deny") ace ≡ true → first_row (ace_rows users before ace) ≡ Some (dav_refusal (codes "grant-only"))
+pub deny_row : (users : Users) (before : ℕ) (ace : Element) → holds (codes "deny") ace ≡ true → first_row (ace_rows users before ace) ≡ Some (dav_refusal (codes "grant-only"))
 deny_row users before ace deny =
     ap (λ b. rows_by b (holds (codes "invert") ace) (list_any is_nobody (meant users ace)) (list_any is_other_form (meant users ace)) (list_any is_none (granted_sets ace)) (nat_le grant_limit before)) deny
 
-pub invert_row : (users : List User) (before : ℕ) (ace : Element) → holds (codes "deny") ace ≡ false → holds (codes "invert") ace ≡ true → first_row (ace_rows users before ace) ≡ Some (dav_refusal (codes "no-invert"))
+pub invert_row : (users : Users) (before : ℕ) (ace : Element) → holds (codes "deny") ace ≡ false → holds (codes "invert") ace ≡ true → first_row (ace_rows users before ace) ≡ Some (dav_refusal (codes "no-invert"))
 invert_row users before ace deny invert = λ i.
     rows_by (deny i) (invert i) (list_any is_nobody (meant users ace)) (list_any is_other_form (meant users ace)) (list_any is_none (granted_sets ace)) (nat_le grant_limit before)
 
@@ -63,24 +63,24 @@ invert_row users before ace deny invert = λ i.
 abbrev meant_rows : ℕ → Element → List Meant → Option Refusal
 meant_rows before ace whom = rows_by false false (list_any is_nobody whom) (list_any is_other_form whom) (list_any is_none (granted_sets ace)) (nat_le grant_limit before)
 
-rows_meant : (users : List User) (before : ℕ) (ace : Element) (whom : Meant) → holds (codes "deny") ace ≡ false → holds (codes "invert") ace ≡ false → meant users ace ≡ whom ∷ []
+rows_meant : (users : Users) (before : ℕ) (ace : Element) (whom : Meant) → holds (codes "deny") ace ≡ false → holds (codes "invert") ace ≡ false → meant users ace ≡ whom ∷ []
     → first_row (ace_rows users before ace) ≡ meant_rows before ace (whom ∷ [])
 rows_meant users before ace whom deny invert is = λ i.
     rows_by (deny i) (invert i) (list_any is_nobody (is i)) (list_any is_other_form (is i)) (list_any is_none (granted_sets ace)) (nat_le grant_limit before)
 
-pub nobody_row : (users : List User) (before : ℕ) (ace : Element) → holds (codes "deny") ace ≡ false → holds (codes "invert") ace ≡ false → meant users ace ≡ nobody ∷ []
+pub nobody_row : (users : Users) (before : ℕ) (ace : Element) → holds (codes "deny") ace ≡ false → holds (codes "invert") ace ≡ false → meant users ace ≡ nobody ∷ []
     → first_row (ace_rows users before ace) ≡ Some (dav_refusal (codes "recognized-principal"))
 nobody_row users before ace deny invert is = rows_meant users before ace nobody deny invert is
 
-pub other_row : (users : List User) (before : ℕ) (ace : Element) → holds (codes "deny") ace ≡ false → holds (codes "invert") ace ≡ false → meant users ace ≡ other_form ∷ []
+pub other_row : (users : Users) (before : ℕ) (ace : Element) → holds (codes "deny") ace ≡ false → holds (codes "invert") ace ≡ false → meant users ace ≡ other_form ∷ []
     → first_row (ace_rows users before ace) ≡ Some (dav_refusal (codes "allowed-principal"))
 other_row users before ace deny invert is = rows_meant users before ace other_form deny invert is
 
-pub someone_row : (users : List User) (before : ℕ) (ace : Element) (who : Who) → holds (codes "deny") ace ≡ false → holds (codes "invert") ace ≡ false → meant users ace ≡ someone who ∷ []
+pub someone_row : (users : Users) (before : ℕ) (ace : Element) (who : Who) → holds (codes "deny") ace ≡ false → holds (codes "invert") ace ≡ false → meant users ace ≡ someone who ∷ []
     → first_row (ace_rows users before ace) ≡ first_row (late_rows before ace)
 someone_row users before ace who deny invert is = rows_meant users before ace (someone who) deny invert is
 
-pub someone_grants : (users : List User) (ace : Element) (who : Who) → meant users ace ≡ someone who ∷ [] → grants_of users ace ≡ record { who = who; held = record { 0 = bits_of ace } } ∷ []
+pub someone_grants : (users : Users) (ace : Element) (who : Who) → meant users ace ≡ someone who ∷ [] → grants_of users ace ≡ record { who = who; held = record { 0 = bits_of ace } } ∷ []
 someone_grants users ace who is =
     let grant : Who → Grant = λ someone. record { who = someone; held = record { 0 = bits_of ace } } in
     ap (λ whom. map grant (flat_map who_of whom)) is
@@ -88,7 +88,7 @@ someone_grants users ace who is =
 -- Aces one after another
 
 -- none so far is refused, nor is one in the next item
-pub refused_none_more : (users : List User) (start : ℕ) {before piece after : List Element} (count : ℕ) → More before piece after → count ≡ start + length before → refusals_from users start before ≡ [] → [] ≡ refusals_from users count piece
+pub refused_none_more : (users : Users) (start : ℕ) {before piece after : List Element} (count : ℕ) → More before piece after → count ≡ start + length before → refusals_from users start before ≡ [] → [] ≡ refusals_from users count piece
     → refusals_from users start after ≡ []
 refused_none_more users start {before} {piece} {after} count more counted none sound =
     ap (refusals_from users start) more.is
@@ -98,7 +98,7 @@ refused_none_more users start {before} {piece} {after} count more counted none s
     ∙ sym sound
 
 -- none so far is refused, but one in the next item
-pub refused_found : (users : List User) (start : ℕ) {before piece rest all : List Element} (count : ℕ) (refusal : Refusal) → Split before piece rest all → count ≡ start + length before → refusals_from users start before ≡ []
+pub refused_found : (users : Users) (start : ℕ) {before piece rest all : List Element} (count : ℕ) (refusal : Refusal) → Split before piece rest all → count ≡ start + length before → refusals_from users start before ≡ []
     → (refusal ∷ []) ≡ refusals_from users count piece → (refusal ∷ []) ≡ take 1 (refusals_from users start all)
 refused_found users start {before} {piece} {rest} {all} count refusal split counted none refused =
     let behind = refusals_from users (start + length (before ++ piece)) rest in
@@ -124,7 +124,7 @@ count_more start old new {before} {piece} {after} more counted now =
     let further = ap length more.is ∙ length-append before piece in omega (arith, further, counted, now)
 
 -- one ace alone, and none
-pub refusals_one : (users : List User) (count : ℕ) (ace : Element) (aces : List Element) (found : Option Refusal) → (ace ∷ []) ≡ aces → found ≡ first_row (ace_rows users count ace) → option_to_list found ≡ refusals_from users count aces
+pub refusals_one : (users : Users) (count : ℕ) (ace : Element) (aces : List Element) (found : Option Refusal) → (ace ∷ []) ≡ aces → found ≡ first_row (ace_rows users count ace) → option_to_list found ≡ refusals_from users count aces
 refusals_one users count ace aces found one is =
     sym (append-nil (option_to_list found)) ∙ ap (λ (row : Option Refusal). option_to_list row ++ []) is ∙ ap (refusals_from users count) one
 
@@ -142,18 +142,18 @@ content_granted [] grants made e same = ap Acl same
 content_granted (other ∷ more) grants made e same = absurd cc
 
 -- a body that is an ACL, and lacks no part
-acl_is : (users : List User) (root : Element) → has_name dav (codes "acl") root ≡ true → list_any lacks_part (aces root) ≡ false
+acl_is : (users : Users) (root : Element) → has_name dav (codes "acl") root ≡ true → list_any lacks_part (aces root) ≡ false
     → acl_content users root ≡ acl_by (refusals_from users 0 (aces root)) (flat_map (grants_of users) (aces root))
 unfolding acl_content
 acl_is users root is whole = λ i.
     if not (is i) || whole i then Bad bad_request else acl_by (refusals_from users 0 (aces root)) (flat_map (grants_of users) (aces root))
 
-pub acl_refused : {E : Type 0} (users : List User) (root : Element) (refusal : Refusal) (read : Result Content E) → has_name dav (codes "acl") root ≡ true → list_any lacks_part (aces root) ≡ false
+pub acl_refused : {E : Type 0} (users : Users) (root : Element) (refusal : Refusal) (read : Result Content E) → has_name dav (codes "acl") root ≡ true → list_any lacks_part (aces root) ≡ false
     → (refusal ∷ []) ≡ take 1 (refusals_from users 0 (aces root)) → IfOk read (λ content. content ≡ Bad refusal) → IfOk read (λ content. content ≡ acl_content users root)
 acl_refused users root refusal read is whole first =
     IfOk-weaker read (λ content. content ≡ Bad refusal) (λ content. content ≡ acl_content users root)
     (λ content bad. bad ∙ content_refused (refusals_from users 0 (aces root)) (flat_map (grants_of users) (aces root)) refusal first ∙ sym (acl_is users root is whole))
 
-pub acl_granted : (users : List User) (root : Element) (made : List Grant) → has_name dav (codes "acl") root ≡ true → list_any lacks_part (aces root) ≡ false
+pub acl_granted : (users : Users) (root : Element) (made : List Grant) → has_name dav (codes "acl") root ≡ true → list_any lacks_part (aces root) ≡ false
     → [] ≡ take 1 (refusals_from users 0 (aces root)) → made ≡ flat_map (grants_of users) (aces root) → Acl made ≡ acl_content users root
 acl_granted users root made is whole none same = content_granted (refusals_from users 0 (aces root)) (flat_map (grants_of users) (aces root)) made none same ∙ sym (acl_is users root is whole)

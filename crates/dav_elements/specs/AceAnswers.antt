@@ -8,7 +8,7 @@ use Rattle.cal_model.specs.declared.reply.Refusal.{Refusal}
 use Rattle.cal_model.specs.declared.reply.Cond.TheVariants.{Dav}
 use Rattle.cal_model.specs.Bodies.AclBodies.{Meant, someone, nobody, other_form, grant_limit, granted_sets, ace_rows}
 use Rattle.cal_model.specs.Bodies.Refusals.{Row, first_row, dav_refusal}
-use Rattle.cal_model.specs.Users.UsersFile.{User}
+use Rattle.cal_model.specs.Users.UsersFile.{Users}
 use Rattle.dav_elements.specs.declared.acl.AceAnswer.{AceAnswer}
 use Rattle.dav_elements.specs.declared.acl.AceAnswer.TheVariants.{Granted, Refused}
 use Rattle.dav_elements.specs.declared.aces.GrantedBits.{GrantedBits}
@@ -35,7 +35,7 @@ answer_grants (Refused condition) = []
 abbrev pub refusal_by : Bor (List ℕ) → Refusal
 refusal_by condition = record { status = 403; cond = Dav condition.now }
 
-abbrev pub refusals_from : List User → ℕ → List Element → List Refusal
+abbrev pub refusals_from : Users → ℕ → List Element → List Refusal
 refusals_from users before kept = flat_map (λ (ace : ℕ × Element). option_to_list (first_row (ace_rows users ace.0 ace.1))) (enumerate_from before kept)
 
 -- the refusal of one that is

@@ -1,9 +1,10 @@
 //! One ace of an ACL (RFC 3744, 5.5): whom it means, and what it grants.
 ghost use Rattle.std.specs.Prelude.{◌≡◌, not, ◌&&◌, ◌||◌, ◌∷◌, [], take, map, filter, flat_map, codes, bytes_eq, true, false, is_none, if◌then◌else◌, Some, None, IfOk};
 ghost use Rattle.cal_model.specs.Bodies.ElementParts.{own_text};
-ghost use Rattle.cal_model.specs.Users.UsersFile.{number_of};
+ghost use Rattle.cal_base.specs.Lines.ComponentTrees.{or_else};
+ghost use Rattle.cal_model.specs.Users.UsersFile.{number_of, group_number_of};
 ghost use Rattle.std.specs.List.{list_any};
-ghost use Rattle.std.specs.Option.{option_copied, option_to_list};
+ghost use Rattle.std.specs.Option.{option_copied, option_map, option_to_list};
 ghost use Rattle.cal_model.specs.Access.Privileges.{set_named};
 ghost use Rattle.cal_model.specs.Words.Lists.{is_empty};
 ghost use Rattle.cal_model.specs.Bodies.AclBodies as spec;
@@ -190,7 +191,7 @@ fn meant_by_href(alloc: Global, users: &Users, form: &Element) -> Result<Whom, N
 }
 
 fn meant_by_path(users: &Users, path: &Path) -> Whom
-    ensures { as_meant result ≡ elim (spec.principal_at users.now path.now) [ None ↦ spec.nobody | Some number ↦ spec.someone (Who.Principal number) ] }
+    ensures { as_meant result ≡ elim (spec.principal_at users.now path.now) [ None ↦ spec.nobody | Some who ↦ spec.someone who ] }
 {
     match path {
         Path::Principal(name) => meant_by_name(users, name.as_slice()),
@@ -198,8 +199,9 @@ fn meant_by_path(users: &Users, path: &Path) -> Whom
     }
 }
 
+/// The user of a name, or the group.
 fn meant_by_name(users: &Users, name: &[u8]) -> Whom
-    ensures { as_meant result ≡ elim (number_of users.now name.now) [ None ↦ spec.nobody | Some number ↦ spec.someone (Who.Principal number) ] }
+    ensures { as_meant result ≡ elim (or_else (option_map Who.Principal (number_of users.now name.now)) (option_map Who.Group (group_number_of users.now name.now))) [ None ↦ spec.nobody | Some who ↦ spec.someone who ] }
 {
     match users.find(name) {
         Some(number) => Whom::Someone(Who::Principal(number)),
@@ -208,7 +210,9 @@ fn meant_by_name(users: &Users, name: &[u8]) -> Whom
 }
 
 /// The group of a name.
-fn meant_by_group(users: &Users, name: &[u8]) -> Whom {
+fn meant_by_group(users: &Users, name: &[u8]) -> Whom
+    ensures { as_meant result ≡ elim (group_number_of users.now name.now) [ None ↦ spec.nobody | Some number ↦ spec.someone (Who.Group number) ] }
+{
     match users.find_group(name) {
         Some(number) => Whom::Someone(Who::Group(number)),
         None => Whom::Nobody,
