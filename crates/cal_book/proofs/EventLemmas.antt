@@ -24,7 +24,7 @@ use Rattle.cal_model.specs.Serving.ServingLaws.{IsNoWant}
 use Rattle.cal_model.specs.Sight.Views.{whole_sight}
 use Rattle.cal_model.specs.State.Changes.{Change, change_of}
 use Rattle.cal_model.specs.State.ServerState.{Directory, ServerState, directory_of}
-use Rattle.cal_model.specs.Users.UsersFile.{User}
+use Rattle.cal_model.specs.Users.UsersFile.{Users}
 use Rattle.cal_model.proofs.History.EntryLaws.{accepted_keeps_legal}
 use Rattle.cal_model.proofs.History.ReplayLaws.{accepted-rows}
 use Rattle.piece_claims.specs.Boards.{Board}
@@ -37,12 +37,12 @@ entries-none : (event : Event) (asked : Option Change) (reply : Reply) → entri
 entries-none event None reply = refl
 entries-none event (Some change) reply = refl
 
-pub entries-unchanged : (users : List User) (state : ServerState) (event : Event) (reply : Reply) → outcome (directory_of users) state event ≡ unchanged reply → entries_made users state event ≡ []
+pub entries-unchanged : (users : Users) (state : ServerState) (event : Event) (reply : Reply) → outcome (directory_of users) state event ≡ unchanged reply → entries_made users state event ≡ []
 entries-unchanged users state event reply e =
     ap (entries_by event (change_of (directory_of users) event.request)) e ∙ entries-none event (change_of (directory_of users) event.request) reply
 
 -- one entry is, where it is accepted
-pub entries-accepted : (users : List User) (state after : ServerState) (event : Event) (status : ℕ) (change : Change) → change_of (directory_of users) event.request ≡ Some change
+pub entries-accepted : (users : Users) (state after : ServerState) (event : Event) (status : ℕ) (change : Change) → change_of (directory_of users) event.request ≡ Some change
     → outcome (directory_of users) state event ≡ accepted status after → entries_made users state event ≡ entry_of event change status ∷ []
 entries-accepted users state after event status change asks e =
     ap (λ o. entries_by event o (outcome (directory_of users) state event)) asks ∙ ap (entries_by event (Some change)) e
@@ -55,7 +55,7 @@ live_pieces-right journal (piece ∷ pieces) right =
     ap (λ o. cond (is_some o) (piece ∷ live_pieces journal pieces) (live_pieces journal pieces)) right.0.live ∙ ap (λ rest. piece ∷ rest) (live_pieces-right journal pieces right.1)
 
 -- So such an event changes nothing that claims depend on.
-pub stepped-unchanged : (users : List User) (event : Event) (work : Work) (reply : Reply) → AllByRecursion (IsRight work.journal) work.pieces
+pub stepped-unchanged : (users : Users) (event : Event) (work : Work) (reply : Reply) → AllByRecursion (IsRight work.journal) work.pieces
     → outcome (directory_of users) (state_behind users work.journal) event ≡ unchanged reply → stepped users event work ≡ work
 stepped-unchanged users event work reply right e =
     let same : journal_after users event work.journal ≡ work.journal =
@@ -68,7 +68,7 @@ pub latest-alone : (old same new : Work) (latest : ℤ) → new ≡ record same 
 latest-alone old same new latest is was = is ∙ ap (λ (w : Work). record w { latest = latest }) was ∙ ap (λ l. record old { latest = l }) (sym (ap (λ (w : Work). w.latest) is))
 
 -- An accepted event enters its change.
-pub stepped-accepted : (users : List User) (event : Event) (work new : Work) (after : ServerState) (status : ℕ) (change : Change) → change_of (directory_of users) event.request ≡ Some change
+pub stepped-accepted : (users : Users) (event : Event) (work new : Work) (after : ServerState) (status : ℕ) (change : Change) → change_of (directory_of users) event.request ≡ Some change
     → outcome (directory_of users) (state_behind users work.journal) event ≡ accepted status after
     → new.journal ≡ work.journal ++ entry_of event change status ∷ [] → new.pieces ≡ live_pieces new.journal work.pieces → new.latest ≡ work.latest → new.out ≡ work.out
     → new ≡ stepped users event work
@@ -83,7 +83,7 @@ stepped-accepted users event work new after status change asks e journal pieces 
     }
 
 -- Its journal is the one after the event, seen from a state that is the one behind the journal.
-pub journal-accepted : (users : List User) (event : Event) (state after : ServerState) (journal longer : List Entry) (status : ℕ) (change : Change) → state ≡ state_behind users journal
+pub journal-accepted : (users : Users) (event : Event) (state after : ServerState) (journal longer : List Entry) (status : ℕ) (change : Change) → state ≡ state_behind users journal
     → change_of (directory_of users) event.request ≡ Some change → outcome (directory_of users) state event ≡ accepted status after → longer ≡ journal ++ entry_of event change status ∷ []
     → longer ≡ journal_after users event journal
 journal-accepted users event state after journal longer status change is asks e entered =
@@ -91,7 +91,7 @@ journal-accepted users event state after journal longer status change is asks e 
     (sym (entries-accepted users (state_behind users journal) after event status change asks (ap (λ s. outcome (directory_of users) s event) (sym is) ∙ e)))
 
 -- and an event that changes nothing leaves it as it is, with its pieces
-pub journal-unchanged : (users : List User) (event : Event) (journal : List Entry) (reply : Reply) → outcome (directory_of users) (state_behind users journal) event ≡ unchanged reply → journal ≡ journal_after users event journal
+pub journal-unchanged : (users : Users) (event : Event) (journal : List Entry) (reply : Reply) → outcome (directory_of users) (state_behind users journal) event ≡ unchanged reply → journal ≡ journal_after users event journal
 journal-unchanged users event journal reply e = sym (ap (λ more. journal ++ more) (entries-unchanged users (state_behind users journal) event reply e) ∙ append-nil journal)
 
 pub pieces-unchanged : (journal : List Entry) (pieces : List Piece) → AllByRecursion (IsRight journal) pieces → pieces ≡ live_pieces journal pieces
@@ -173,7 +173,7 @@ suits-no_want method (content.Report report) suits = tt
 suits-no_want method (content.Bad refusal) suits = All-contains IsOther (refusals_of method) refusal (All-from_recursion IsOther (refusals_of method) (none_wants method)) suits
 
 -- The parts of what claims depend on, after a change was entered.
-pub work-stepped : (users : List User) (event : Event) (journal longer : List Entry) (old new : Board) → longer ≡ journal_after users event journal → new.pieces ≡ live_pieces longer old.pieces
+pub work-stepped : (users : Users) (event : Event) (journal longer : List Entry) (old new : Board) → longer ≡ journal_after users event journal → new.pieces ≡ live_pieces longer old.pieces
     → new.latest ≡ old.latest → new.out ≡ old.out → work_with longer new ≡ stepped users event (work_with journal old)
 work-stepped users event journal longer old new entered pieces latest out = λ i. record {
   journal = entered i;

@@ -55,7 +55,7 @@ use Rattle.cal_model.specs.Requests.AskedRequests.{Asked, asked, refused, not_al
 use Rattle.cal_model.specs.Requests.BookableRequests.{Suits, refusals_of, IsBookable}
 use Rattle.cal_model.specs.Requests.Methods.{has_method, method_of}
 use Rattle.cal_model.specs.Users.Credentials.{authenticated}
-use Rattle.cal_model.specs.Users.UsersFile.{User}
+use Rattle.cal_model.specs.Users.UsersFile.{Users}
 use Rattle.cal_model.specs.Words.Lists.{is_empty}
 use Rattle.cal_model.proofs.History.ReplayLaws.{no_row}
 use Rattle.dav_reports.specs.ReportOutcomes.{privilege_needed}
@@ -713,7 +713,7 @@ unfolding reason
 known-reason status is = found-reason reasons (λ known. known == status) reasons-some is
 
 -- the reply to a request that can be booked
-module _ (users : List User) (directory : Directory) (state : ServerState) (event : Event) (bookable : IsBookable users event.who event.request) where
+module _ (users : Users) (directory : Directory) (state : ServerState) (event : Event) (bookable : IsBookable users event.who event.request) where
   booked-fine : Fine (reply_to directory state event).status
   booked-fine = reply_to-status directory state event bookable.suits bookable.allowed
 
@@ -735,24 +735,24 @@ has-fine : (has : Bool) (who : ℕ) (request : Request) (path : Path) → Refuse
 has-fine true who request path = tt
 has-fine false who request path = refl
 
-path-fine : (users : List User) (wire : WireRequest) (who : ℕ) (how : Method) (found : Option Path)
+path-fine : (users : Users) (wire : WireRequest) (who : ℕ) (how : Method) (found : Option Path)
     → RefusedKnown (elim found [ None ↦ refused (bare_reply 404) | Some path ↦ if has_method path how then asked who (request_at users wire how path) else refused (not_allowed path) ])
 path-fine users wire who how None = refl
 path-fine users wire who how (Some path) = has-fine (has_method path how) who (request_at users wire how path) path
 
-method-fine : (users : List User) (wire : WireRequest) (who : ℕ) (found : Option Method) → RefusedKnown (elim found [ None ↦ refused (bare_reply 501) | Some how ↦ asked_by users wire who how ])
+method-fine : (users : Users) (wire : WireRequest) (who : ℕ) (found : Option Method) → RefusedKnown (elim found [ None ↦ refused (bare_reply 501) | Some how ↦ asked_by users wire who how ])
 method-fine users wire who None = refl
 method-fine users wire who (Some how) = path-fine users wire who how (target_path wire.target)
 
-user-fine : (users : List User) (wire : WireRequest) (found : Option ℕ) → RefusedKnown (elim found [ None ↦ refused (bare_reply 401) | Some user ↦ asked_with users wire user ])
+user-fine : (users : Users) (wire : WireRequest) (found : Option ℕ) → RefusedKnown (elim found [ None ↦ refused (bare_reply 401) | Some user ↦ asked_with users wire user ])
 user-fine users wire None = refl
 user-fine users wire (Some user) = method-fine users wire user (method_of wire.method)
 
-asked-fine : (users : List User) (wire : WireRequest) → RefusedKnown (asked_of users wire)
+asked-fine : (users : Users) (wire : WireRequest) → RefusedKnown (asked_of users wire)
 unfolding asked_of
 asked-fine users wire = user-fine users wire (authenticated users wire.authorization)
 
-refused-reason : (users : List User) (wire : WireRequest) (reply : Reply) → asked_of users wire ≡ refused reply → HasReason reply
+refused-reason : (users : Users) (wire : WireRequest) (reply : Reply) → asked_of users wire ≡ refused reply → HasReason reply
 refused-reason users wire reply e = known-reason reply.status (subst RefusedKnown e (asked-fine users wire))
 
 pub replies_have_reasons : RepliesHaveReasons

@@ -9,12 +9,12 @@ use Rattle.cal_model.specs.History.RightPieces.{IsRight}
 use Rattle.cal_model.specs.Pieces.KeptPieces.{IsWithinBudget}
 use Rattle.cal_model.specs.State.ServerState.{Directory, ServerState, directory_of, octets_at}
 use Rattle.cal_model.specs.State.SoundStates.{IsSound}
-use Rattle.cal_model.specs.Users.UsersFile.{User}
+use Rattle.cal_model.specs.Users.UsersFile.{Users}
 use Rattle.cal_book.specs.EventSteps.{state_behind}
 
 -- the users; the journal, the pieces and the claims; and for how many deletions there is room
 pub record Core : Type 0 where
-  pub users : List User
+  pub users : Users
   pub work : Work
   pub spare : ℕ
 

@@ -10,7 +10,7 @@ use Rattle.cal_model.specs.Serving.EventReplies.{reply_to, state_after}
 use Rattle.cal_model.specs.Serving.Outcomes.{Outcome, accepted, outcome}
 use Rattle.cal_model.specs.State.Changes.{Change, change_of}
 use Rattle.cal_model.specs.State.ServerState.{ServerState, directory_of}
-use Rattle.cal_model.specs.Users.UsersFile.{User}
+use Rattle.cal_model.specs.Users.UsersFile.{Users}
 
 -- the entry of an accepted change
 abbrev pub entries_by : Event → Option Change → Outcome → List Entry
@@ -18,24 +18,24 @@ entries_by event (Some change) (accepted status after) = entry_of event change s
 entries_by event change made = []
 
 -- The entries that an event makes: one where it is accepted.
-abbrev pub entries_made : List User → ServerState → Event → List Entry
+abbrev pub entries_made : Users → ServerState → Event → List Entry
 entries_made users state event = entries_by event (change_of (directory_of users) event.request) (outcome (directory_of users) state event)
 
 -- the state that a journal leads to
-abbrev pub state_behind : List User → List Entry → ServerState
+abbrev pub state_behind : Users → List Entry → ServerState
 state_behind users journal = replay (directory_of users) journal
 
 -- the journal after an event
-abbrev pub journal_after : List User → Event → List Entry → List Entry
+abbrev pub journal_after : Users → Event → List Entry → List Entry
 journal_after users event journal = journal ++ entries_made users (state_behind users journal) event
 
 -- what claims depend on after an event, its moment aside: pieces of objects that it replaced or removed are gone
-abbrev pub stepped : List User → Event → Work → Work
+abbrev pub stepped : Users → Event → Work → Work
 stepped users event work =
     record work { journal = journal_after users event work.journal; pieces = live_pieces (journal_after users event work.journal) work.pieces }
 
 -- What claims depend on after an event.
-abbrev pub work_after : List User → Event → Work → Work
+abbrev pub work_after : Users → Event → Work → Work
 work_after users event work = record (stepped users event work) {
   latest = latest_after work.latest event.moment (reply_to (directory_of users) (state_behind users work.journal) event).status;
 }
@@ -43,6 +43,6 @@ work_after users event work = record (stepped users event work) {
 -- So the journal leads to the state after the event, and stays legal.
 abbrev pub JournalsFollow : Type 0
 JournalsFollow =
-    (users : List User) (journal : List Entry) (event : Event) → IsLegal (directory_of users) journal → SizeIsTold event.request.size event.request.content
+    (users : Users) (journal : List Entry) (event : Event) → IsLegal (directory_of users) journal → SizeIsTold event.request.size event.request.content
     → IsLegal (directory_of users) (journal_after users event journal)
     × (state_behind users (journal_after users event journal) ≡ state_after (directory_of users) (state_behind users journal) event)

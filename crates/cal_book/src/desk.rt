@@ -11,7 +11,7 @@ ghost use Rattle.cal_model.specs.Serving.EventReplies.{reply_to};
 ghost use Rattle.cal_model.specs.Serving.Outcomes.{is_reading as reads, outcome, unchanged};
 ghost use Rattle.cal_model.specs.Sight.LookingAlike.{LookAlike};
 ghost use Rattle.cal_model.specs.State.ServerState.{ServerState, directory_of};
-ghost use Rattle.cal_model.specs.Users.UsersFile.{User};
+ghost use Rattle.cal_model.specs.Users.UsersFile.{Users};
 ghost use Rattle.cal_model.specs.declared.reply.Reply.{Reply as Answer};
 ghost use Rattle.cal_model.specs.declared.request.Method.{Method};
 ghost use Rattle.piece_claims.specs.Boards.{gone_for, out_after};
@@ -146,7 +146,7 @@ pub trait Desk: Keeps<Entry = JournalEntry, Base = Users> {
 
     ghost authors: { (e : EntryData) → Self.author e ≡ e.session };
 
-    ghost tests: { (users : List User) (journal : List EntryData) → Self.lawful users journal ≡ is_legal (directory_of users) journal };
+    ghost tests: { (users : Users) (journal : List EntryData) → Self.lawful users journal ≡ is_legal (directory_of users) journal };
 }
 
 impl Keeps for Book {

@@ -8,14 +8,14 @@ use Rattle.cal_base.proofs.World.Taking.{Adds-more}
 use Rattle.cal_model.specs.Transcripts.ScriptFrames.{claim, expand, publish, abandon, Frame, bytes, worker, frame_text, frames_text, IsFrame}
 use Rattle.cal_model.specs.Transcripts.Transcript.{Standing, Turn}
 use Rattle.cal_model.specs.Transcripts.TranscriptLaws.{Leads}
-use Rattle.cal_model.specs.Users.UsersFile.{User}
+use Rattle.cal_model.specs.Users.UsersFile.{Users}
 use Rattle.cal_script.specs.AnsweredFrames.{TookTurn, TookTurnInPart, BrokeInTurn, AnsweredWhole, AnsweredInPart, AnsweredTo, BrokeAmong}
 use Rattle.cal_script.specs.FirstFrames.{IsFrameThen}
 use Rattle.cal_script.specs.Standings.{Running, StandsAt}
 use Rattle.cal_script.proofs.AnsweringLemmas.{adds_none}
 
 -- one list of frames after another
-pub leads_append : (users : List User) (before between after : Standing) (frames more : List Frame) (output rest : List ℕ)
+pub leads_append : (users : Users) (before between after : Standing) (frames more : List Frame) (output rest : List ℕ)
     → Leads users before frames output between → Leads users between more rest after → Leads users before (frames ++ more) (output ++ rest) after
 leads_append users before between after [] more output rest h r =
     subst (λ xs. Leads users before more (xs ++ rest) after) (sym h.0) (subst (λ s. Leads users s more rest after) h.1 r)
@@ -23,7 +23,7 @@ leads_append users before between after (frame ∷ frames) more output rest h r 
     (h.0, h.1 ++ rest, h.2, ap (λ xs. xs ++ rest) h.3 ∙ append_assoc h.0 h.1 rest, h.4, leads_append users h.2 between after frames more h.1 rest h.5 r)
 
 -- one frame
-leads_one : (users : List User) (before after : Standing) (frame : Frame) (printed : List ℕ) → Turn users before frame printed after → Leads users before (frame ∷ []) printed after
+leads_one : (users : Users) (before after : Standing) (frame : Frame) (printed : List ℕ) → Turn users before frame printed after → Leads users before (frame ∷ []) printed after
 leads_one users before after frame printed turn = (printed, [], after, sym (append-nil printed), turn, (refl, refl))
 
 -- the spellings of two lists of frames
@@ -31,7 +31,7 @@ pub frames_text-append : (frames more : List Frame) → frames_text (frames ++ m
 frames_text-append frames more = flat_map-append frame_text frames more
 
 -- first some octets, then more
-pub whole_append : (users : List User) (xs ys : List ℕ) (before : Standing) (script next : Running) (written mid now : Option (List ℕ))
+pub whole_append : (users : Users) (xs ys : List ℕ) (before : Standing) (script next : Running) (written mid now : Option (List ℕ))
     → (a : AnsweredWhole users xs before script written mid) → AnsweredWhole users ys a.after next mid now → AnsweredWhole users (xs ++ ys) before next written now
 whole_append users xs ys before script next written mid now a b = record {
   frames = a.frames ++ b.frames;
@@ -45,7 +45,7 @@ whole_append users xs ys before script next written mid now a b = record {
 }
 
 -- first some octets, then others in part
-pub part_append : (users : List User) (xs ys : List ℕ) (before : Standing) (script : Running) (written mid now : Option (List ℕ))
+pub part_append : (users : Users) (xs ys : List ℕ) (before : Standing) (script : Running) (written mid now : Option (List ℕ))
     → (a : AnsweredWhole users xs before script written mid) → AnsweredInPart users ys a.after mid now → AnsweredInPart users (xs ++ ys) before written now
 part_append users xs ys before script written mid now a b = record {
   frames = a.frames ++ b.frames;
@@ -62,7 +62,7 @@ part_append users xs ys before script written mid now a b = record {
 }
 
 -- nothing was answered yet
-pub whole_none : (users : List User) (before : Standing) (script : Running) (written : Option (List ℕ)) → StandsAt before script → AnsweredWhole users [] before script written written
+pub whole_none : (users : Users) (before : Standing) (script : Running) (written : Option (List ℕ)) → StandsAt before script → AnsweredWhole users [] before script written written
 whole_none users before script written stands = record {
   frames = [];
   bounds = All-nil IsFrame;
@@ -75,7 +75,7 @@ whole_none users before script written stands = record {
 }
 
 -- one frame was answered
-frame_whole : (users : List User) (frame : Frame) (before : Standing) (script : Running) (written now : Option (List ℕ)) → IsFrame frame
+frame_whole : (users : Users) (frame : Frame) (before : Standing) (script : Running) (written now : Option (List ℕ)) → IsFrame frame
     → TookTurn users frame before script written now → AnsweredWhole users (frame_text frame) before script written now
 frame_whole users frame before script written now bounds a = record {
   frames = frame ∷ [];
@@ -89,7 +89,7 @@ frame_whole users frame before script written now bounds a = record {
 }
 
 -- one frame was answered in part
-frame_part : (users : List User) (octets : List ℕ) (frame : Frame) (rest : List ℕ) (before : Standing) (written now : Option (List ℕ)) → IsFrameThen octets frame rest
+frame_part : (users : Users) (octets : List ℕ) (frame : Frame) (rest : List ℕ) (before : Standing) (written now : Option (List ℕ)) → IsFrameThen octets frame rest
     → TookTurnInPart users frame before written now → AnsweredInPart users octets before written now
 frame_part users octets frame rest before written now found a = record {
   frames = frame ∷ [];
@@ -104,7 +104,7 @@ frame_part users octets frame rest before written now found a = record {
 }
 
 -- none of some octets was answered
-pub part_none : (users : List User) (octets : List ℕ) (before : Standing) (written : Option (List ℕ)) → AnsweredInPart users octets before written written
+pub part_none : (users : Users) (octets : List ℕ) (before : Standing) (written : Option (List ℕ)) → AnsweredInPart users octets before written written
 part_none users octets before written = record {
   frames = [];
   bounds = All-nil IsFrame;
@@ -128,7 +128,7 @@ length-frame_text (worker abandon slot) = omega arith
 
 -- The loop
 
-pub answered_start : (users : List User) (octets : List ℕ) (before : Standing) (script : Running) (written : Option (List ℕ)) → StandsAt before script → AnsweredTo users 0 octets before script written written
+pub answered_start : (users : Users) (octets : List ℕ) (before : Standing) (script : Running) (written : Option (List ℕ)) → StandsAt before script → AnsweredTo users 0 octets before script written written
 answered_start users octets before script written stands = record { within = omega arith; whole = whole_none users before script written stands }
 
 -- the frame at a place was answered
@@ -149,7 +149,7 @@ place_rises at octets here rest frame is_here within found =
     let place = behind_place at octets here rest frame is_here within found in
     (omega (arith, place.0, length-frame_text frame), omega arith)
 
-pub answered_next : (users : List User) (at : ℕ) (octets here rest : List ℕ) (frame : Frame) (before : Standing) (script next : Running) (written mid now : Option (List ℕ))
+pub answered_next : (users : Users) (at : ℕ) (octets here rest : List ℕ) (frame : Frame) (before : Standing) (script next : Running) (written mid now : Option (List ℕ))
     → here ≡ drop at octets → AnsweredTo users at octets before script written mid → IsFrameThen here frame rest
     → ((standing : Standing) → StandsAt standing script → TookTurn users frame standing next mid now)
     → AnsweredTo users (length octets - length rest) octets before next written now
@@ -163,12 +163,12 @@ answered_next users at octets here rest frame before script next written mid now
     }
 
 -- the ways out of the loop
-part_of : (users : List User) (at : ℕ) (octets : List ℕ) (before : Standing) (script : Running) (written mid now : Option (List ℕ))
+part_of : (users : Users) (at : ℕ) (octets : List ℕ) (before : Standing) (script : Running) (written mid now : Option (List ℕ))
     → (a : AnsweredTo users at octets before script written mid) → AnsweredInPart users (drop at octets) a.whole.after mid now → AnsweredInPart users octets before written now
 part_of users at octets before script written mid now a b =
     subst (λ l. AnsweredInPart users l before written now) (take-append-drop at octets) (part_append users (take at octets) (drop at octets) before script written mid now a.whole b)
 
-pub cut_off : (users : List User) (at : ℕ) (octets here rest : List ℕ) (frame : Frame) (before : Standing) (script : Running) (written mid now : Option (List ℕ))
+pub cut_off : (users : Users) (at : ℕ) (octets here rest : List ℕ) (frame : Frame) (before : Standing) (script : Running) (written mid now : Option (List ℕ))
     → here ≡ drop at octets → AnsweredTo users at octets before script written mid → IsFrameThen here frame rest
     → ((standing : Standing) → StandsAt standing script → TookTurnInPart users frame standing mid now) → AnsweredInPart users octets before written now
 cut_off users at octets here rest frame before script written mid now is_here a found turn =
@@ -176,7 +176,7 @@ cut_off users at octets here rest frame before script written mid now is_here a 
     (subst (λ l. AnsweredInPart users l a.whole.after mid now) is_here (frame_part users here frame rest a.whole.after mid now found (turn a.whole.after a.whole.stands)))
 
 -- the desk told its fault in the turn of the frame at the place
-pub broke_off : (users : List User) (at : ℕ) (octets here rest : List ℕ) (frame : Frame) (before : Standing) (script : Running) (written mid now : Option (List ℕ))
+pub broke_off : (users : Users) (at : ℕ) (octets here rest : List ℕ) (frame : Frame) (before : Standing) (script : Running) (written mid now : Option (List ℕ))
     → here ≡ drop at octets → AnsweredTo users at octets before script written mid → IsFrameThen here frame rest
     → ((standing : Standing) → StandsAt standing script → BrokeInTurn users frame standing mid now) → BrokeAmong users octets before written now
 broke_off users at octets here rest frame before script written mid now is_here a found turn = record {

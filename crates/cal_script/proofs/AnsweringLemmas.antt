@@ -13,7 +13,7 @@ use Rattle.cal_model.specs.State.ServerState.{ServerState}
 use Rattle.cal_model.specs.Transcripts.ConnectionAnswers.{Completed, whole, faulty, Completes}
 use Rattle.cal_model.specs.Transcripts.ScriptFrames.{reply_frame}
 use Rattle.cal_model.specs.Transcripts.Transcript.{Answer, answer_to, without_memory, IsAnswer, Prints}
-use Rattle.cal_model.specs.Users.UsersFile.{User}
+use Rattle.cal_model.specs.Users.UsersFile.{Users}
 use Rattle.cal_script.specs.declared.connections.Connection.{Connection}
 use Rattle.cal_script.specs.Answering.{answer_frame, IsAnswered, WroteAnswer, WroteAnswerInPart, WroteAll, WroteInPart, WroteBefore, StopsBy, IsStoppedBy}
 use Rattle.cal_script.specs.declared.answering.Stop.{Stop}
@@ -32,7 +32,7 @@ adds_none (Some xs) = ap (λ (l : List ℕ). Some l) (sym (append-nil xs))
 -- Printing
 
 -- what is printed for more goes behind
-prints_more : (users : List User) (number moment : ℕ) (before mid after : ServerState) (done more : List Completed) (printed rest : List ℕ)
+prints_more : (users : Users) (number moment : ℕ) (before mid after : ServerState) (done more : List Completed) (printed rest : List ℕ)
     → Prints users number moment before done printed mid → Prints users number moment mid more rest after → Prints users number moment before (done ++ more) (printed ++ rest) after
 prints_more users number moment before mid after [] more printed rest h k =
     subst (λ xs. Prints users number moment before more (xs ++ rest) after) (sym h.0) (subst (λ s. Prints users number moment s more rest after) h.1 k)
@@ -49,17 +49,17 @@ prints_more users number moment before mid after (faulty why ∷ done) more prin
   prints_more users number moment before mid after done more h.0 rest h.2 k,
 )
 
-prints_answer : (users : List User) (number moment place : ℕ) (wire : WireRequest) (before : ServerState) (given : Answer) → IsAnswer users before number moment wire given
+prints_answer : (users : Users) (number moment place : ℕ) (wire : WireRequest) (before : ServerState) (given : Answer) → IsAnswer users before number moment wire given
     → Prints users number moment before (whole place wire ∷ []) (answer_frame number moment place wire given) given.server
 prints_answer users number moment place wire before given h =
     (given, [], h, sym (append-nil (answer_frame number moment place wire given)), (refl, refl))
 
-prints_fault : (users : List User) (number moment : ℕ) (why : WireFault) (before : ServerState)
+prints_fault : (users : Users) (number moment : ℕ) (why : WireFault) (before : ServerState)
     → Prints users number moment before (faulty why ∷ []) (reply_frame number (fault_octets why (pos moment))) before
 prints_fault users number moment why before = ([], sym (append-nil (reply_frame number (fault_octets why (pos moment)))), (refl, refl))
 
 -- whatever is completed, something is printed for it
-some_prints : (users : List User) (number moment : ℕ) (before : ServerState) (more : List Completed) → (printed : List ℕ) × (after : ServerState) × Prints users number moment before more printed after
+some_prints : (users : Users) (number moment : ℕ) (before : ServerState) (more : List Completed) → (printed : List ℕ) × (after : ServerState) × Prints users number moment before more printed after
 some_prints users number moment before [] = ([], before, (refl, refl))
 some_prints users number moment before (whole place wire ∷ more) =
     let given : Answer = answer_to users before number moment (asked_of users wire) in
@@ -72,7 +72,7 @@ some_prints users number moment before (faulty why ∷ more) =
 -- How far answering has come
 
 -- so much of what the stream with the payload completes was answered
-pub record HasAnsweredSoFar (users : List User) (number moment : ℕ) (stream payload : List ℕ) (connection : Connection) (state now : ServerState) (written written_now : Option (List ℕ)) : Type 0 where
+pub record HasAnsweredSoFar (users : Users) (number moment : ℕ) (stream payload : List ℕ) (connection : Connection) (state now : ServerState) (written written_now : Option (List ℕ)) : Type 0 where
   pub done : List Completed
   pub more : List Completed
   pub before_them : Completes stream done
@@ -81,7 +81,7 @@ pub record HasAnsweredSoFar (users : List User) (number moment : ℕ) (stream pa
   pub prints : Prints users number moment state more printed now
   pub added : Adds written printed written_now
 
-pub answering_starts : (users : List User) (number moment : ℕ) (stream payload : List ℕ) (before connection : Connection) (state : ServerState) (written : Option (List ℕ)) → Rests stream before
+pub answering_starts : (users : Users) (number moment : ℕ) (stream payload : List ℕ) (before connection : Connection) (state : ServerState) (written : Option (List ℕ)) → Rests stream before
     → ((given : List Completed) → IsReading stream given before → IsReading (stream ++ payload) given connection)
     → HasAnsweredSoFar users number moment stream payload connection state state written written
 answering_starts users number moment stream payload before connection state written rests fed = record {
@@ -94,7 +94,7 @@ answering_starts users number moment stream payload before connection state writ
   added = adds_none written;
 }
 
-goes_further : (users : List User) (number moment : ℕ) (stream payload : List ℕ) (connection next : Connection) (state now later : ServerState) (written written_now written_later : Option (List ℕ))
+goes_further : (users : Users) (number moment : ℕ) (stream payload : List ℕ) (connection next : Connection) (state now later : ServerState) (written written_now written_later : Option (List ℕ))
     (completed : Completed) (printed : List ℕ)
     → (far : HasAnsweredSoFar users number moment stream payload connection state now written written_now)
     → ((given : List Completed) → IsReading (stream ++ payload) given connection → IsReading (stream ++ payload) (given ++ completed ∷ []) next)
@@ -110,7 +110,7 @@ goes_further users number moment stream payload connection next state now later 
   added = Adds-more written written_now written_later far.printed printed far.added added;
 }
 
-pub request_answered : (users : List User) (number moment place : ℕ) (wire : WireRequest) (stream payload : List ℕ) (connection next : Connection) (state now later : ServerState) (written written_now written_later : Option (List ℕ))
+pub request_answered : (users : Users) (number moment place : ℕ) (wire : WireRequest) (stream payload : List ℕ) (connection next : Connection) (state now later : ServerState) (written written_now written_later : Option (List ℕ))
     → HasAnsweredSoFar users number moment stream payload connection state now written written_now
     → ((given : List Completed) → IsReading (stream ++ payload) given connection → IsReading (stream ++ payload) (given ++ whole place wire ∷ []) next)
     → WroteAnswer users number moment place wire now later written_now written_later
@@ -120,7 +120,7 @@ request_answered users number moment place wire stream payload connection next s
     (goes_further users number moment stream payload connection next state now wrote.given.server written written_now written_later (whole place wire) (answer_frame number moment place wire wrote.given)
     far due (prints_answer users number moment place wire now wrote.given wrote.is) wrote.added)
 
-pub fault_answered : (users : List User) (number moment : ℕ) (why : WireFault) (stream payload : List ℕ) (connection next : Connection) (state now : ServerState) (written written_now written_later : Option (List ℕ))
+pub fault_answered : (users : Users) (number moment : ℕ) (why : WireFault) (stream payload : List ℕ) (connection next : Connection) (state now : ServerState) (written written_now written_later : Option (List ℕ))
     → HasAnsweredSoFar users number moment stream payload connection state now written written_now
     → ((given : List Completed) → IsReading (stream ++ payload) given connection → IsReading (stream ++ payload) (given ++ faulty why ∷ []) next)
     → Adds written_now (reply_frame number (fault_octets why (pos moment))) written_later
@@ -131,7 +131,7 @@ fault_answered users number moment why stream payload connection next state now 
 
 -- Ends
 
-pub all_answered : (users : List User) (number moment : ℕ) (stream payload : List ℕ) (connection next : Connection) (state now : ServerState) (written written_now : Option (List ℕ))
+pub all_answered : (users : Users) (number moment : ℕ) (stream payload : List ℕ) (connection next : Connection) (state now : ServerState) (written written_now : Option (List ℕ))
     → (far : HasAnsweredSoFar users number moment stream payload connection state now written written_now)
     → ((given : List Completed) → IsReading (stream ++ payload) given connection → IsReading (stream ++ payload) given next × Completes (stream ++ payload) given)
     → WroteAll users number moment stream payload state now written written_now × Rests (stream ++ payload) next
@@ -146,7 +146,7 @@ all_answered users number moment stream payload connection next state now writte
     )
 
 -- a beginning of what is due next was written, and what comes behind is missing
-cut_short : (users : List User) (number moment : ℕ) (stream payload : List ℕ) (connection next : Connection) (state now later : ServerState) (written written_now written_later : Option (List ℕ))
+cut_short : (users : Users) (number moment : ℕ) (stream payload : List ℕ) (connection next : Connection) (state now later : ServerState) (written written_now written_later : Option (List ℕ))
     (completed : List Completed) (printed : List ℕ) (many : ℕ)
     → (far : HasAnsweredSoFar users number moment stream payload connection state now written written_now)
     → ((given : List Completed) → IsReading (stream ++ payload) given connection → IsReading (stream ++ payload) (given ++ completed) next)
@@ -177,7 +177,7 @@ cut_short users number moment stream payload connection next state now later wri
       added = Adds-more written written_now written_later far.printed (take many printed) far.added added;
     }
 
-pub request_cut_short : (users : List User) (number moment place : ℕ) (wire : WireRequest) (stream payload : List ℕ) (connection next : Connection) (state now : ServerState) (written written_now written_later : Option (List ℕ))
+pub request_cut_short : (users : Users) (number moment place : ℕ) (wire : WireRequest) (stream payload : List ℕ) (connection next : Connection) (state now : ServerState) (written written_now written_later : Option (List ℕ))
     → HasAnsweredSoFar users number moment stream payload connection state now written written_now
     → ((given : List Completed) → IsReading (stream ++ payload) given connection → IsReading (stream ++ payload) (given ++ whole place wire ∷ []) next)
     → WroteAnswerInPart users number moment place wire now written_now written_later
@@ -186,7 +186,7 @@ request_cut_short users number moment place wire stream payload connection next 
     cut_short users number moment stream payload connection next state now wrote.given.server written written_now written_later (whole place wire ∷ []) (answer_frame number moment place wire wrote.given) wrote.many
     far due (prints_answer users number moment place wire now wrote.given wrote.is) wrote.added
 
-pub fault_cut_short : (users : List User) (number moment many : ℕ) (why : WireFault) (stream payload : List ℕ) (connection next : Connection) (state now : ServerState) (written written_now written_later : Option (List ℕ))
+pub fault_cut_short : (users : Users) (number moment many : ℕ) (why : WireFault) (stream payload : List ℕ) (connection next : Connection) (state now : ServerState) (written written_now written_later : Option (List ℕ))
     → HasAnsweredSoFar users number moment stream payload connection state now written written_now
     → ((given : List Completed) → IsReading (stream ++ payload) given connection → IsReading (stream ++ payload) (given ++ faulty why ∷ []) next)
     → Adds written_now (take many (reply_frame number (fault_octets why (pos moment)))) written_later
@@ -196,7 +196,7 @@ fault_cut_short users number moment many why stream payload connection next stat
     far due (prints_fault users number moment why now) added
 
 -- the desk told its fault when it was asked what is due next
-pub request_broke : (users : List User) (number moment place : ℕ) (wire : WireRequest) (stream payload : List ℕ) (connection next : Connection) (state now : ServerState) (written written_now written_later : Option (List ℕ))
+pub request_broke : (users : Users) (number moment place : ℕ) (wire : WireRequest) (stream payload : List ℕ) (connection next : Connection) (state now : ServerState) (written written_now written_later : Option (List ℕ))
     → HasAnsweredSoFar users number moment stream payload connection state now written written_now
     → ((given : List Completed) → IsReading (stream ++ payload) given connection → IsReading (stream ++ payload) (given ++ whole place wire ∷ []) next)
     → written_later ≡ written_now → WroteBefore users number moment stream payload state written written_later
@@ -222,7 +222,7 @@ request_broke users number moment place wire stream payload connection next stat
     }
 
 -- nothing more was read
-pub stopped_there : (users : List User) (number moment : ℕ) (stream payload : List ℕ) (connection next : Connection) (state now : ServerState) (written written_now : Option (List ℕ))
+pub stopped_there : (users : Users) (number moment : ℕ) (stream payload : List ℕ) (connection next : Connection) (state now : ServerState) (written written_now : Option (List ℕ))
     → HasAnsweredSoFar users number moment stream payload connection state now written written_now
     → ((given : List Completed) → IsReading (stream ++ payload) given connection → IsReading (stream ++ payload) given next)
     → WroteInPart users number moment stream payload state written written_now
@@ -231,7 +231,7 @@ stopped_there users number moment stream payload connection next state now writt
     (λ given reading. subst (λ xs. IsReading (stream ++ payload) xs next) (sym (append-nil given)) (due given reading)) (refl, refl) (adds_none written_now)
 
 -- the octets were not taken
-pub stopped_before : (users : List User) (number moment : ℕ) (stream payload : List ℕ) (connection : Connection) (state : ServerState) (written : Option (List ℕ)) → Rests stream connection
+pub stopped_before : (users : Users) (number moment : ℕ) (stream payload : List ℕ) (connection : Connection) (state : ServerState) (written : Option (List ℕ)) → Rests stream connection
     → WroteInPart users number moment stream payload state written written
 stopped_before users number moment stream payload connection state written rests =
     let next = streams_complete (stream ++ payload) in
@@ -253,18 +253,18 @@ stopped_before users number moment stream payload connection state written rests
 
 -- The reply to one request
 
-pub wrote_answer : (users : List User) (number moment before : ℕ) (wire : WireRequest) (state after : ServerState) (octets slice : List ℕ) (written now : Option (List ℕ))
+pub wrote_answer : (users : Users) (number moment before : ℕ) (wire : WireRequest) (state after : ServerState) (octets slice : List ℕ) (written now : Option (List ℕ))
     → slice ≡ octets → IsAnswered users number moment before wire state after octets → Adds written (reply_frame number slice) now → WroteAnswer users number moment before wire state after written now
 wrote_answer users number moment before wire state after octets slice written now e a added =
     record { given = a.given; is = a.is; stands = a.stands; added = subst (λ xs. Adds written (reply_frame number xs) now) (e ∙ a.octets_are) added }
 
-pub wrote_answer_in_part : (users : List User) (number moment before : ℕ) (wire : WireRequest) (state after : ServerState) (octets slice : List ℕ) (written now : Option (List ℕ))
+pub wrote_answer_in_part : (users : Users) (number moment before : ℕ) (wire : WireRequest) (state after : ServerState) (octets slice : List ℕ) (written now : Option (List ℕ))
     → slice ≡ octets → IsAnswered users number moment before wire state after octets → (many : ℕ) × Adds written (take many (reply_frame number slice)) now
     → WroteAnswerInPart users number moment before wire state written now
 wrote_answer_in_part users number moment before wire state after octets slice written now e a (many, added) =
     record { given = a.given; is = a.is; many = many; added = subst (λ xs. Adds written (take many (reply_frame number xs)) now) (e ∙ a.octets_are) added }
 
-pub wrote_no_answer : (users : List User) (number moment before : ℕ) (wire : WireRequest) (state : ServerState) (written : Option (List ℕ))
+pub wrote_no_answer : (users : Users) (number moment before : ℕ) (wire : WireRequest) (state : ServerState) (written : Option (List ℕ))
     → WroteAnswerInPart users number moment before wire state written written
 wrote_no_answer users number moment before wire state written = record { given = without_memory state; is = inr refl; many = 0; added = adds_none written }
 

@@ -9,7 +9,7 @@ use Rattle.cal_model.specs.History.Journal.{Entry}
 use Rattle.cal_model.specs.State.ServerState.{ServerState}
 use Rattle.cal_model.specs.Transcripts.ScriptFrames.{Frame, bytes, worker, frame_text, frames_text, IsFrame, last_connection}
 use Rattle.cal_model.specs.Transcripts.Transcript.{Standing, Turn}
-use Rattle.cal_model.specs.Users.UsersFile.{User}
+use Rattle.cal_model.specs.Users.UsersFile.{Users}
 use Rattle.cal_script.specs.AnsweredFrames.{TookTurn, EnteredWhole, streams_behind}
 use Rattle.cal_script.specs.EnteredRequests.{FrameEnters, FramesAsk, FrontEnters, IsEnteredBy, streams_after}
 use Rattle.cal_script.specs.FirstFrames.{IsFrameThen}
@@ -24,19 +24,19 @@ streams_behind-append : (streams : List (List ℕ)) (frames more : List Frame) �
 streams_behind-append streams [] more = refl
 streams_behind-append streams (frame ∷ frames) more = streams_behind-append (streams_after streams frame) frames more
 
-ask-append : (users : List User) (streams : List (List ℕ)) (frames more : List Frame) (events rest : List Event)
+ask-append : (users : Users) (streams : List (List ℕ)) (frames more : List Frame) (events rest : List Event)
     → FramesAsk users streams frames events → FramesAsk users (streams_behind streams frames) more rest → FramesAsk users streams (frames ++ more) (events ++ rest)
 ask-append users streams [] more events rest h k = subst (λ xs. FramesAsk users streams more (xs ++ rest)) (sym h) k
 ask-append users streams (frame ∷ frames) more events rest h k =
     (h.0, h.1 ++ rest, ap (λ xs. xs ++ rest) h.2 ∙ append_assoc h.0 h.1 rest, h.3, ask-append users (streams_after streams frame) frames more h.1 rest h.4 k)
 
 -- a turn leaves what came as the frame does
-turn_streams : (users : List User) (before after : Standing) (frame : Frame) (printed : List ℕ) → Turn users before frame printed after → after.streams ≡ streams_after before.streams frame
+turn_streams : (users : Users) (before after : Standing) (frame : Frame) (printed : List ℕ) → Turn users before frame printed after → after.streams ≡ streams_after before.streams frame
 turn_streams users before after (bytes connection moment payload) printed turn = ap (λ (s : Standing). s.streams) turn.stands
 turn_streams users before after (worker step slot) printed turn = ap (λ (s : Standing). s.streams) turn.1
 
 -- nothing was asked yet
-pub entered_none : (users : List User) (standing : Standing) (script : Running) → StandsAt standing script → EnteredWhole users [] standing.streams script.book.work.journal script
+pub entered_none : (users : Users) (standing : Standing) (script : Running) → StandsAt standing script → EnteredWhole users [] standing.streams script.book.work.journal script
 entered_none users standing script stands = record {
   frames = [];
   bounds = All-nil IsFrame;
@@ -50,7 +50,7 @@ entered_none users standing script stands = record {
 }
 
 -- first some octets, then more
-entered_append : (users : List User) (xs ys : List ℕ) (streams : List (List ℕ)) (journal : List Entry) (script next : Running)
+entered_append : (users : Users) (xs ys : List ℕ) (streams : List (List ℕ)) (journal : List Entry) (script next : Running)
     → (a : EnteredWhole users xs streams journal script) → EnteredWhole users ys a.there.streams script.book.work.journal next → EnteredWhole users (xs ++ ys) streams journal next
 entered_append users xs ys streams journal script next a b = record {
   frames = a.frames ++ b.frames;
@@ -65,7 +65,7 @@ entered_append users xs ys streams journal script next a b = record {
 }
 
 -- first some octets, then frames in front of others
-front_append : (users : List User) (xs ys : List ℕ) (streams : List (List ℕ)) (journal after : List Entry) (script : Running)
+front_append : (users : Users) (xs ys : List ℕ) (streams : List (List ℕ)) (journal after : List Entry) (script : Running)
     → (a : EnteredWhole users xs streams journal script) → FrontEnters users a.there.streams ys script.book.work.journal after → FrontEnters users streams (xs ++ ys) journal after
 front_append users xs ys streams journal after script a b = record {
   frames = a.frames ++ b.frames;
@@ -79,12 +79,12 @@ front_append users xs ys streams journal after script a b = record {
 }
 
 -- no frame of some octets asked
-front_none : (users : List User) (streams : List (List ℕ)) (octets : List ℕ) (journal : List Entry) → FrontEnters users streams octets journal journal
+front_none : (users : Users) (streams : List (List ℕ)) (octets : List ℕ) (journal : List Entry) → FrontEnters users streams octets journal journal
 front_none users streams octets journal =
     record { frames = []; bounds = All-nil IsFrame; behind = octets; spelled = refl; events = []; ask = refl; enters = refl }
 
 -- the first frame did
-front_one : (users : List User) (streams : List (List ℕ)) (octets : List ℕ) (frame : Frame) (rest : List ℕ) (before after : List Entry) → IsFrameThen octets frame rest
+front_one : (users : Users) (streams : List (List ℕ)) (octets : List ℕ) (frame : Frame) (rest : List ℕ) (before after : List Entry) → IsFrameThen octets frame rest
     → FrameEnters users streams frame before after → FrontEnters users streams octets before after
 front_one users streams octets frame rest before after found (events, asks, enters) = record {
   frames = frame ∷ [];
@@ -97,7 +97,7 @@ front_one users streams octets frame rest before after found (events, asks, ente
 }
 
 -- and the script stands behind it
-entered_one : (users : List User) (frame : Frame) (standing : Standing) (journal : List Entry) (next : Running) (written now : Option (List ℕ)) → IsFrame frame
+entered_one : (users : Users) (frame : Frame) (standing : Standing) (journal : List Entry) (next : Running) (written now : Option (List ℕ)) → IsFrame frame
     → TookTurn users frame standing next written now → FrameEnters users standing.streams frame journal next.book.work.journal
     → EnteredWhole users (frame_text frame) standing.streams journal next
 entered_one users frame standing journal next written now bounds took (events, asks, enters) = record {
@@ -114,7 +114,7 @@ entered_one users frame standing journal next written now bounds took (events, a
 
 -- The loop over frames
 
-pub entered_next : (users : List User) (at : ℕ) (octets here rest : List ℕ) (frame : Frame) (streams : List (List ℕ)) (journal : List Entry) (script next : Running) (written now : Option (List ℕ))
+pub entered_next : (users : Users) (at : ℕ) (octets here rest : List ℕ) (frame : Frame) (streams : List (List ℕ)) (journal : List Entry) (script next : Running) (written now : Option (List ℕ))
     → here ≡ drop at octets → at ≤ length octets → EnteredWhole users (take at octets) streams journal script → IsFrameThen here frame rest
     → ((standing : Standing) → StandsAt standing script → TookTurn users frame standing next written now)
     → ((standing : Standing) → StandsAt standing script → FrameEnters users standing.streams frame script.book.work.journal next.book.work.journal)
@@ -126,17 +126,17 @@ entered_next users at octets here rest frame streams journal script next written
     (entered_one users frame a.there script.book.work.journal next written now found.bounds (took a.there a.stands) (enters a.there a.stands)))
 
 -- the ways out of it
-front_of : (users : List User) (at : ℕ) (octets : List ℕ) (streams : List (List ℕ)) (journal after : List Entry) (script : Running)
+front_of : (users : Users) (at : ℕ) (octets : List ℕ) (streams : List (List ℕ)) (journal after : List Entry) (script : Running)
     → (a : EnteredWhole users (take at octets) streams journal script) → FrontEnters users a.there.streams (drop at octets) script.book.work.journal after → FrontEnters users streams octets journal after
 front_of users at octets streams journal after script a b =
     subst (λ l. FrontEnters users streams l journal after) (take-append-drop at octets) (front_append users (take at octets) (drop at octets) streams journal after script a b)
 
-pub front_so_far : (users : List User) (at : ℕ) (octets : List ℕ) (streams : List (List ℕ)) (journal : List Entry) (script : Running)
+pub front_so_far : (users : Users) (at : ℕ) (octets : List ℕ) (streams : List (List ℕ)) (journal : List Entry) (script : Running)
     → EnteredWhole users (take at octets) streams journal script → FrontEnters users streams octets journal script.book.work.journal
 front_so_far users at octets streams journal script a =
     front_of users at octets streams journal script.book.work.journal script a (front_none users a.there.streams (drop at octets) script.book.work.journal)
 
-pub front_stopped : (users : List User) (at : ℕ) (octets here rest : List ℕ) (frame : Frame) (streams : List (List ℕ)) (journal after : List Entry) (script : Running)
+pub front_stopped : (users : Users) (at : ℕ) (octets here rest : List ℕ) (frame : Frame) (streams : List (List ℕ)) (journal after : List Entry) (script : Running)
     → here ≡ drop at octets → EnteredWhole users (take at octets) streams journal script → IsFrameThen here frame rest
     → ((standing : Standing) → StandsAt standing script → FrameEnters users standing.streams frame script.book.work.journal after)
     → FrontEnters users streams octets journal after
@@ -148,19 +148,19 @@ front_stopped users at octets here rest frame streams journal after script is_he
 -- The run
 
 -- the octets before those that are kept are whole frames, some of whose events were entered
-pub record HasEnteredSoFar (users : List User) (left : Option (List ℕ)) (journal : List Entry) (kept : List ℕ) (script : Running) (left_now : Option (List ℕ)) : Type 0 where
+pub record HasEnteredSoFar (users : Users) (left : Option (List ℕ)) (journal : List Entry) (kept : List ℕ) (script : Running) (left_now : Option (List ℕ)) : Type 0 where
   pub done : List ℕ
   pub entered : EnteredWhole users done (replicate (last_connection + 1) []) journal script
   pub took : Takes left (done ++ kept) left_now
 
 -- the start of a run
-pub run_enters_none : (users : List User) (state : ServerState) (left : Option (List ℕ)) (kept : List ℕ) (script : Running) → kept ≡ [] → StandsAt (standing_in state) script
+pub run_enters_none : (users : Users) (state : ServerState) (left : Option (List ℕ)) (kept : List ℕ) (script : Running) → kept ≡ [] → StandsAt (standing_in state) script
     → HasEnteredSoFar users left script.book.work.journal kept script left
 run_enters_none users state left kept script e stands =
     record { done = []; entered = entered_none users (standing_in state) script stands; took = subst (λ l. Takes left l left) (sym e) (takes_none left) }
 
 -- a piece was taken
-pub run_enters_more : (users : List User) (left : Option (List ℕ)) (journal : List Entry) (kept more : List ℕ) (script : Running) (left_now left_next : Option (List ℕ))
+pub run_enters_more : (users : Users) (left : Option (List ℕ)) (journal : List Entry) (kept more : List ℕ) (script : Running) (left_now left_next : Option (List ℕ))
     → HasEnteredSoFar users left journal kept script left_now → Goes left_now left_next kept more → HasEnteredSoFar users left journal more script left_next
 run_enters_more users left journal kept more script left_now left_next h (octets, took, e) = record {
   done = h.done;
@@ -170,7 +170,7 @@ run_enters_more users left journal kept more script left_now left_next h (octets
 }
 
 -- the whole frames in front of what is kept were answered
-pub run_enters_on : (users : List User) (len : ℕ) (octets rest : List ℕ) (left : Option (List ℕ)) (journal : List Entry) (kept : List ℕ) (script next : Running) (left_now : Option (List ℕ))
+pub run_enters_on : (users : Users) (len : ℕ) (octets rest : List ℕ) (left : Option (List ℕ)) (journal : List Entry) (kept : List ℕ) (script next : Running) (left_now : Option (List ℕ))
     → octets ≡ kept → rest ≡ drop len kept → HasEnteredSoFar users left journal kept script left_now
     → ((standing : Standing) → StandsAt standing script → EnteredWhole users (take len octets) standing.streams script.book.work.journal next)
     → HasEnteredSoFar users left journal rest next left_now
@@ -185,7 +185,7 @@ run_enters_on users len octets rest left journal kept script next left_now e f h
     }
 
 -- frames in front of the octets that were taken are in front of the input
-front_of_input : (users : List User) (left left_now : Option (List ℕ)) (octets : List ℕ) (before after : List Entry) → Takes left octets left_now
+front_of_input : (users : Users) (left left_now : Option (List ℕ)) (octets : List ℕ) (before after : List Entry) → Takes left octets left_now
     → FrontEnters users (replicate (last_connection + 1) []) octets before after → IsEnteredBy users left before after
 front_of_input users left left_now octets before after took a =
     let input = input_of left left_now octets (frames_text a.frames) a.behind took a.spelled in
@@ -196,14 +196,14 @@ front_of_input users left left_now octets before after took a =
     }
 
 -- the run ends with what frames in front of what is kept ask
-run_entered_front : (users : List User) (left : Option (List ℕ)) (journal after : List Entry) (kept : List ℕ) (script : Running) (left_now : Option (List ℕ))
+run_entered_front : (users : Users) (left : Option (List ℕ)) (journal after : List Entry) (kept : List ℕ) (script : Running) (left_now : Option (List ℕ))
     → (h : HasEnteredSoFar users left journal kept script left_now) → FrontEnters users h.entered.there.streams kept script.book.work.journal after
     → IsEnteredBy users left journal after
 run_entered_front users left journal after kept script left_now h front =
     front_of_input users left left_now (h.done ++ kept) journal after h.took
     (front_append users h.done kept (replicate (last_connection + 1) []) journal after script h.entered front)
 
-pub run_entered_last : (users : List User) (octets : List ℕ) (left : Option (List ℕ)) (journal after : List Entry) (kept : List ℕ) (script : Running) (left_now : Option (List ℕ))
+pub run_entered_last : (users : Users) (octets : List ℕ) (left : Option (List ℕ)) (journal after : List Entry) (kept : List ℕ) (script : Running) (left_now : Option (List ℕ))
     → octets ≡ kept → HasEnteredSoFar users left journal kept script left_now
     → ((standing : Standing) → StandsAt standing script → FrontEnters users standing.streams octets script.book.work.journal after)
     → IsEnteredBy users left journal after
@@ -212,11 +212,11 @@ run_entered_last users octets left journal after kept script left_now e h enters
     (subst (λ l. FrontEnters users h.entered.there.streams l script.book.work.journal after) e (enters h.entered.there h.entered.stands))
 
 -- or with what was entered so far
-pub run_entered : (users : List User) (left : Option (List ℕ)) (journal : List Entry) (kept : List ℕ) (script : Running) (left_now : Option (List ℕ))
+pub run_entered : (users : Users) (left : Option (List ℕ)) (journal : List Entry) (kept : List ℕ) (script : Running) (left_now : Option (List ℕ))
     → HasEnteredSoFar users left journal kept script left_now → IsEnteredBy users left journal script.book.work.journal
 run_entered users left journal kept script left_now h =
     run_entered_front users left journal script.book.work.journal kept script left_now h (front_none users h.entered.there.streams kept script.book.work.journal)
 
 -- nothing was done at all
-pub run_entered_none : (users : List User) (left : Option (List ℕ)) (journal : List Entry) → IsEnteredBy users left journal journal
+pub run_entered_none : (users : Users) (left : Option (List ℕ)) (journal : List Entry) → IsEnteredBy users left journal journal
 run_entered_none users left journal = front_of_input users left left [] journal journal (takes_none left) (front_none users (replicate (last_connection + 1) []) [] journal)

@@ -5,7 +5,7 @@ use Rattle.std.proofs.lemmas.List.{append-nil}
 use Rattle.cal_model.specs.declared.request.Event.{Event}
 use Rattle.cal_model.specs.History.Journal.{Entry}
 use Rattle.cal_model.specs.Transcripts.ConnectionAnswers.{Completed, Completes}
-use Rattle.cal_model.specs.Users.UsersFile.{User}
+use Rattle.cal_model.specs.Users.UsersFile.{Users}
 use Rattle.cal_model.proofs.Transcripts.ConnectionAnswerLaws.{streams_complete, completions_stay}
 use Rattle.cal_book.specs.Cores.{Core}
 use Rattle.cal_book.specs.EventSteps.{entries_made, journal_after, state_behind}
@@ -27,46 +27,46 @@ grows_none before after e = ([], e ∙ sym (append-nil before))
 grows_on : (a b c : List Entry) → Grows a b → Grows b c → Grows a c
 grows_on a b c (more, e) (rest, f) = (more ++ rest, f ∙ (ap (λ xs. xs ++ rest) e ∙ append_assoc a more rest))
 
-grows_one : (users : List User) (event : Event) (before after : List Entry) → (after ≡ before) ⊎ (after ≡ journal_after users event before) → Grows before after
+grows_one : (users : Users) (event : Event) (before after : List Entry) → (after ≡ before) ⊎ (after ≡ journal_after users event before) → Grows before after
 grows_one users event before after (inl same) = grows_none before after same
 grows_one users event before after (inr made) = (entries_made users (state_behind users before) event, made)
 
 -- by entries it grows
-pub enters_grows : (users : List User) (events : List Event) (before after : List Entry) → EntersSome users events before after → Grows before after
+pub enters_grows : (users : Users) (events : List Event) (before after : List Entry) → EntersSome users events before after → Grows before after
 enters_grows users [] before after h = grows_none before after h
 enters_grows users (event ∷ events) before after h =
     grows_on before h.0 after (grows_one users event before h.0 h.1) (enters_grows users events h.0 after h.2)
 
 -- none need be entered
-pub enters_none : (users : List User) (events : List Event) (journal : List Entry) → EntersSome users events journal journal
+pub enters_none : (users : Users) (events : List Event) (journal : List Entry) → EntersSome users events journal journal
 enters_none users [] journal = refl
 enters_none users (event ∷ events) journal = (journal, inl refl, enters_none users events journal)
 
 -- some of the first, then some of the others
-pub enters_on : (users : List User) (events more : List Event) (a b c : List Entry) → EntersSome users events a b → EntersSome users more b c → EntersSome users (events ++ more) a c
+pub enters_on : (users : Users) (events more : List Event) (a b c : List Entry) → EntersSome users events a b → EntersSome users more b c → EntersSome users (events ++ more) a c
 enters_on users [] more a b c h k = subst (λ (journal : List Entry). EntersSome users more journal c) h k
 enters_on users (event ∷ events) more a b c h k = (h.0, h.1, enters_on users events more h.0 b c h.2 k)
 
 -- Books that go on
 
-pub goes_on_none : (users : List User) (events : List Event) (book : Core) → GoesOn users events book book
+pub goes_on_none : (users : Users) (events : List Event) (book : Core) → GoesOn users events book book
 goes_on_none users events book = record { out = refl; enters = enters_none users events book.work.journal }
 
-goes_on : (users : List User) (events more : List Event) (a b c : Core) → GoesOn users events a b → GoesOn users more b c → GoesOn users (events ++ more) a c
+goes_on : (users : Users) (events more : List Event) (a b c : Core) → GoesOn users events a b → GoesOn users more b c → GoesOn users (events ++ more) a c
 goes_on users events more a b c h k =
     record { out = k.out ∙ h.out; enters = enters_on users events more a.work.journal b.work.journal c.work.journal h.enters k.enters }
 
 -- What octets on a connection ask
 
 -- so much of what the stream with the payload completes was asked
-pub record HasGoneOn (users : List User) (number moment : ℕ) (stream payload : List ℕ) (connection : Connection) (before now : Core) : Type 0 where
+pub record HasGoneOn (users : Users) (number moment : ℕ) (stream payload : List ℕ) (connection : Connection) (before now : Core) : Type 0 where
   pub done : List Completed
   pub more : List Completed
   pub before_them : Completes stream done
   pub reading : IsReading (stream ++ payload) (done ++ more) connection
   pub on : GoesOn users (events_of_all users number moment more) before now
 
-pub gone_nowhere : (users : List User) (number moment : ℕ) (stream payload : List ℕ) (before connection : Connection) (book : Core) → Rests stream before
+pub gone_nowhere : (users : Users) (number moment : ℕ) (stream payload : List ℕ) (before connection : Connection) (book : Core) → Rests stream before
     → ((given : List Completed) → IsReading stream given before → IsReading (stream ++ payload) given connection)
     → HasGoneOn users number moment stream payload connection book book
 gone_nowhere users number moment stream payload before connection book rests fed = record {
@@ -78,7 +78,7 @@ gone_nowhere users number moment stream payload before connection book rests fed
 }
 
 -- what is due next was asked
-pub gone_further : (users : List User) (number moment : ℕ) (stream payload : List ℕ) (connection next : Connection) (completed : Completed) (before now later : Core)
+pub gone_further : (users : Users) (number moment : ℕ) (stream payload : List ℕ) (connection next : Connection) (completed : Completed) (before now later : Core)
     → HasGoneOn users number moment stream payload connection before now
     → ((given : List Completed) → IsReading (stream ++ payload) given connection → IsReading (stream ++ payload) (given ++ completed ∷ []) next)
     → GoesOn users (events_of users number moment completed) now later
@@ -97,7 +97,7 @@ gone_further users number moment stream payload connection next completed before
     }
 
 -- what comes behind is not entered
-gone_to_end : (users : List User) (number moment : ℕ) (stream payload : List ℕ) (done more rest : List Completed) (before now : Core)
+gone_to_end : (users : Users) (number moment : ℕ) (stream payload : List ℕ) (done more rest : List Completed) (before now : Core)
     → Completes stream done → Completes (stream ++ payload) (done ++ (more ++ rest)) → GoesOn users (events_of_all users number moment more) before now
     → GoesOnBy users number moment stream payload before now
 gone_to_end users number moment stream payload done more rest before now before_them with_them on = (
@@ -107,7 +107,7 @@ gone_to_end users number moment stream payload done more rest before now before_
       (goes_on users (events_of_all users number moment more) (events_of_all users number moment rest) before now now on (goes_on_none users (events_of_all users number moment rest) now)),
 )
 
-pub gone_so_far : (users : List User) (number moment : ℕ) (stream payload : List ℕ) (connection : Connection) (before now : Core)
+pub gone_so_far : (users : Users) (number moment : ℕ) (stream payload : List ℕ) (connection : Connection) (before now : Core)
     → HasGoneOn users number moment stream payload connection before now → GoesOnBy users number moment stream payload before now
 gone_so_far users number moment stream payload connection before now gone =
     let rest = more_to_come (stream ++ payload) (gone.done ++ gone.more) connection gone.reading in
@@ -115,7 +115,7 @@ gone_so_far users number moment stream payload connection before now gone =
     (subst (Completes (stream ++ payload)) (append_assoc gone.done gone.more rest.0) rest.1) gone.on
 
 -- the octets were not taken
-pub gone_without : (users : List User) (number moment : ℕ) (stream payload : List ℕ) (connection : Connection) (book : Core) → Rests stream connection
+pub gone_without : (users : Users) (number moment : ℕ) (stream payload : List ℕ) (connection : Connection) (book : Core) → Rests stream connection
     → GoesOnBy users number moment stream payload book book
 gone_without users number moment stream payload connection book rests =
     let next = streams_complete (stream ++ payload) in

@@ -8,7 +8,7 @@ use Rattle.cal_model.specs.Serving.Outcomes.{is_reading}
 use Rattle.cal_model.specs.Sight.LookingAlike.{LookAlike}
 use Rattle.cal_model.specs.State.ServerState.{ServerState, directory_of}
 use Rattle.cal_model.specs.Transcripts.Transcript.{Answer, event_of, answer_to, IsAnswer}
-use Rattle.cal_model.specs.Users.UsersFile.{User}
+use Rattle.cal_model.specs.Users.UsersFile.{Users}
 use Rattle.cal_model.proofs.Sight.LookingAlikeLaws.{replies_are_alike, reading_changes_nothing}
 use Rattle.cal_script.specs.ReadersSight.{ReadersSeeAlike}
 

@@ -14,7 +14,7 @@ use Rattle.cal_model.specs.History.Journal.{replay, IsLegal}
 use Rattle.cal_model.specs.State.ServerState.{ServerState, directory_of, opening_state}
 use Rattle.cal_model.specs.Transcripts.Transcript.{Standing, IsPrinted, IsPrintedInPart, at_start}
 use Rattle.cal_model.proofs.Transcripts.GrowingScripts.{scripts_go_on}
-use Rattle.cal_model.specs.Users.UsersFile.{User}
+use Rattle.cal_model.specs.Users.UsersFile.{Users}
 use Rattle.cal_book.specs.Cores.{Core, state_in}
 use Rattle.cal_book.specs.LegalJournals.{is_legal, LegalIsTold}
 use Rattle.cal_script.specs.Answering.{IsBookOf}
@@ -32,7 +32,7 @@ use Rattle.cal_script.proofs.AnsweringLemmas.{adds_none}
 use Rattle.cal_script.proofs.AnsweredLemmas.{whole_none, whole_append, part_append, part_none, length-frame_text, leads_append, frames_text-append}
 
 -- how far a run has come: the octets that are answered, and those that were taken and are kept
-pub record HasCome (users : List User) (before : Standing) (left written : Option (List ℕ)) (place : ℕ) (kept : List ℕ) (script : Running) (left_now written_now : Option (List ℕ)) : Type 0 where
+pub record HasCome (users : Users) (before : Standing) (left written : Option (List ℕ)) (place : ℕ) (kept : List ℕ) (script : Running) (left_now written_now : Option (List ℕ)) : Type 0 where
   pub done : List ℕ
   pub answered : AnsweredWhole users done before script written written_now
   pub took : Takes left (done ++ kept) left_now
@@ -51,13 +51,13 @@ takes_none None = tt
 takes_none (Some xs) = (xs, refl, refl)
 
 -- the start of a run
-pub come_start : (users : List User) (before : Standing) (left written : Option (List ℕ)) (kept : List ℕ) (script : Running) → kept ≡ [] → StandsAt before script → HasCome users before left written 0 kept script left written
+pub come_start : (users : Users) (before : Standing) (left written : Option (List ℕ)) (kept : List ℕ) (script : Running) → kept ≡ [] → StandsAt before script → HasCome users before left written 0 kept script left written
 come_start users before left written kept script e stands =
     subst (λ l. HasCome users before left written 0 l script left written) (sym e)
     (record { done = []; answered = whole_none users before script written stands; took = takes_none left; place_is = refl })
 
 -- a piece was taken
-pub come_more : (users : List User) (before : Standing) (left written : Option (List ℕ)) (place : ℕ) (kept more : List ℕ) (script : Running) (left_now written_now left_next : Option (List ℕ))
+pub come_more : (users : Users) (before : Standing) (left written : Option (List ℕ)) (place : ℕ) (kept more : List ℕ) (script : Running) (left_now written_now left_next : Option (List ℕ))
     → HasCome users before left written place kept script left_now written_now → Goes left_now left_next kept more → HasCome users before left written place more script left_next written_now
 come_more users before left written place kept more script left_now written_now left_next h (octets, took, e) = record {
   done = h.done;
@@ -68,7 +68,7 @@ come_more users before left written place kept more script left_now written_now 
 }
 
 -- frames in front of what is kept were answered
-come_on : (users : List User) (before : Standing) (left written : Option (List ℕ)) (place len : ℕ) (kept : List ℕ) (script next : Running) (left_now written_now written_next : Option (List ℕ))
+come_on : (users : Users) (before : Standing) (left written : Option (List ℕ)) (place len : ℕ) (kept : List ℕ) (script next : Running) (left_now written_now written_next : Option (List ℕ))
     → (h : HasCome users before left written place kept script left_now written_now) → AnsweredTo users len kept h.answered.after next written_now written_next
     → HasCome users before left written (place + len) (drop len kept) next left_now written_next
 come_on users before left written place len kept script next left_now written_now written_next h a = record {
@@ -79,7 +79,7 @@ come_on users before left written place len kept script next left_now written_no
 }
 
 -- whole frames in front of what is kept were answered, and behind them stands the start of one
-pub come_cut : (users : List User) (before : Standing) (len : ℕ) (octets rest : List ℕ) (left written : Option (List ℕ)) (place : ℕ) (kept : List ℕ) (script next : Running) (left_now written_now written_next : Option (List ℕ))
+pub come_cut : (users : Users) (before : Standing) (len : ℕ) (octets rest : List ℕ) (left written : Option (List ℕ)) (place : ℕ) (kept : List ℕ) (script next : Running) (left_now written_now written_next : Option (List ℕ))
     → octets ≡ kept → rest ≡ drop len kept → HasCome users before left written place kept script left_now written_now
     → ((standing : Standing) → StandsAt standing script → AnsweredTo users len octets standing next written_now written_next × IsFrameStart (drop len octets))
     → HasCome users before left written (place + len) rest next left_now written_next × IsFrameStart rest × (len ≤ length kept)
@@ -93,7 +93,7 @@ come_cut users before len octets rest left written place kept script next left_n
     )
 
 -- octets that are answered, and a rest in which no frame stands, are cut there
-printed_for : (users : List User) (before : Standing) (octets rest : List ℕ) (written written_now : Option (List ℕ)) (script : Running) (a : AnsweredWhole users octets before script written written_now)
+printed_for : (users : Users) (before : Standing) (octets rest : List ℕ) (written written_now : Option (List ℕ)) (script : Running) (a : AnsweredWhole users octets before script written written_now)
     → BeginsNoFrame rest → IsPrintedFrom users before (state_in script.book) (octets ++ rest) rest a.printed
 printed_for users before octets rest written written_now script a none = record {
   frames = a.frames;
@@ -109,7 +109,7 @@ all_taken None left_now octets took e = tt
 all_taken (Some xs) left_now octets (rest, f, h) e = h ∙ (ap (λ l. octets ++ l) (same_Some rest [] (sym f ∙ e)) ∙ append-nil octets)
 
 -- the end of the input, with nothing kept
-ran_to_end : (users : List User) (before : Standing) (left written : Option (List ℕ)) (place : ℕ) (kept : List ℕ) (script : Running) (left_now written_now : Option (List ℕ))
+ran_to_end : (users : Users) (before : Standing) (left written : Option (List ℕ)) (place : ℕ) (kept : List ℕ) (script : Running) (left_now written_now : Option (List ℕ))
     → HasCome users before left written place kept script left_now written_now → kept ≡ [] → left_now ≡ Some [] → RanToEnd (IsPrintedFrom users before (state_in script.book)) left left_now written written_now place
 ran_to_end users before left written place kept script left_now written_now h none e = record {
   all = h.done ++ [];
@@ -122,7 +122,7 @@ ran_to_end users before left written place kept script left_now written_now h no
 }
 
 -- the end of the input, with a rest kept
-cut_at_end : (users : List User) (before : Standing) (left written : Option (List ℕ)) (place : ℕ) (kept : List ℕ) (script : Running) (left_now written_now : Option (List ℕ))
+cut_at_end : (users : Users) (before : Standing) (left written : Option (List ℕ)) (place : ℕ) (kept : List ℕ) (script : Running) (left_now written_now : Option (List ℕ))
     → HasCome users before left written place kept script left_now written_now → BeginsNoFrame kept → kept ≢ [] → left_now ≡ Some [] → MetBadFrame (IsPrintedFrom users before (state_in script.book)) left written written_now place
 cut_at_end users before left written place kept script left_now written_now h unmet some e = record {
   all = h.done ++ kept;
@@ -145,7 +145,7 @@ never_none : ¬ NeverBeginsFrame []
 never_none h = h (frame_text (bytes 0 0 [])) (bytes 0 0 []) []
     (record { connection_to = omega arith; moment_to = omega arith; payload_to = omega arith }) (sym (append-nil (frame_text (bytes 0 0 []))))
 
-bad_with : (users : List User) (before : Standing) (left written : Option (List ℕ)) (place : ℕ) (kept behind : List ℕ) (script : Running) (left_now written_now : Option (List ℕ))
+bad_with : (users : Users) (before : Standing) (left written : Option (List ℕ)) (place : ℕ) (kept behind : List ℕ) (script : Running) (left_now written_now : Option (List ℕ))
     → (h : HasCome users before left written place kept script left_now written_now) → NeverBeginsFrame kept → IfSome left (λ octets. octets ≡ h.done ++ (kept ++ behind))
     → MetBadFrame (IsPrintedFrom users before (state_in script.book)) left written written_now place
 bad_with users before left written place kept behind script left_now written_now h never told = record {
@@ -160,14 +160,14 @@ bad_with users before left written place kept behind script left_now written_now
 }
 
 -- what is kept begins with no frame, whatever follows
-met_bad_frame : (users : List User) (before : Standing) (left written : Option (List ℕ)) (place : ℕ) (kept : List ℕ) (script : Running) (left_now written_now : Option (List ℕ))
+met_bad_frame : (users : Users) (before : Standing) (left written : Option (List ℕ)) (place : ℕ) (kept : List ℕ) (script : Running) (left_now written_now : Option (List ℕ))
     → HasCome users before left written place kept script left_now written_now → NeverBeginsFrame kept → MetBadFrame (IsPrintedFrom users before (state_in script.book)) left written written_now place
 met_bad_frame users before None written place kept script left_now written_now h never = bad_with users before None written place kept [] script left_now written_now h never tt
 met_bad_frame users before (Some xs) written place kept script left_now written_now h never =
     bad_with users before (Some xs) written place kept h.took.0 script left_now written_now h never (h.took.2 ∙ append_assoc h.done kept h.took.0)
 
 -- nothing was taken any more
-pub stopped_reading : (users : List User) (before : Standing) (left written : Option (List ℕ)) (place : ℕ) (kept : List ℕ) (script : Running) (left_now written_now left_next : Option (List ℕ))
+pub stopped_reading : (users : Users) (before : Standing) (left written : Option (List ℕ)) (place : ℕ) (kept : List ℕ) (script : Running) (left_now written_now left_next : Option (List ℕ))
     → HasCome users before left written place kept script left_now written_now → IsFrameStart kept → left_next ≡ left_now → StoppedReading (IsPrintedFrom users before (state_in script.book)) left left_next written written_now
 stopped_reading users before left written place kept script left_now written_now left_next h start e = record {
   taken = h.done ++ kept;
@@ -187,7 +187,7 @@ input_of (Some xs) left_now octets front behind took e =
     (xs, refl, (behind ++ took.0, took.2 ∙ (ap (λ l. l ++ took.0) e ∙ append_assoc front behind took.0)))
 
 -- what is kept was answered in part
-pub wrote_front : (users : List User) (before : Standing) (left written : Option (List ℕ)) (place : ℕ) (kept : List ℕ) (script : Running) (left_now written_now written_next : Option (List ℕ))
+pub wrote_front : (users : Users) (before : Standing) (left written : Option (List ℕ)) (place : ℕ) (kept : List ℕ) (script : Running) (left_now written_now written_next : Option (List ℕ))
     → (h : HasCome users before left written place kept script left_now written_now) → AnsweredInPart users kept h.answered.after written_now written_next → WroteFront (IsPrintedInPartFrom users before) left written written_next
 wrote_front users before left written place kept script left_now written_now written_next h a =
     let all = part_append users h.done kept before script written written_now written_next h.answered a in
@@ -208,13 +208,13 @@ wrote_front users before left written place kept script left_now written_now wri
     }
 
 -- nothing of it was answered
-pub wrote_before : (users : List User) (before : Standing) (left written : Option (List ℕ)) (place : ℕ) (kept : List ℕ) (script : Running) (left_now written_now : Option (List ℕ))
+pub wrote_before : (users : Users) (before : Standing) (left written : Option (List ℕ)) (place : ℕ) (kept : List ℕ) (script : Running) (left_now written_now : Option (List ℕ))
     → HasCome users before left written place kept script left_now written_now → WroteFront (IsPrintedInPartFrom users before) left written written_now
 wrote_before users before left written place kept script left_now written_now h =
     wrote_front users before left written place kept script left_now written_now written_now h (part_none users kept h.answered.after written_now)
 
 -- nothing was done at all
-pub wrote_none : (users : List User) (before : Standing) (left written : Option (List ℕ)) → WroteFront (IsPrintedInPartFrom users before) left written written
+pub wrote_none : (users : Users) (before : Standing) (left written : Option (List ℕ)) → WroteFront (IsPrintedInPartFrom users before) left written written
 wrote_none users before left written =
     let input = input_of left left [] [] [] (takes_none left) refl in
     record {
@@ -226,7 +226,7 @@ wrote_none users before left written =
     }
 
 -- what is kept was answered in part, wherever the script stood
-pub wrote_cut : (users : List User) (before : Standing) (octets : List ℕ) (left written : Option (List ℕ)) (place : ℕ) (kept : List ℕ) (script : Running) (left_now written_now written_next : Option (List ℕ))
+pub wrote_cut : (users : Users) (before : Standing) (octets : List ℕ) (left written : Option (List ℕ)) (place : ℕ) (kept : List ℕ) (script : Running) (left_now written_now written_next : Option (List ℕ))
     → octets ≡ kept → HasCome users before left written place kept script left_now written_now
     → ((standing : Standing) → StandsAt standing script → AnsweredInPart users octets standing written_now written_next) → WroteFront (IsPrintedInPartFrom users before) left written written_next
 wrote_cut users before octets left written place kept script left_now written_now written_next e h answered =
@@ -235,7 +235,7 @@ wrote_cut users before octets left written place kept script left_now written_no
     (answered h.answered.after h.answered.stands))
 
 -- the desk told its fault among what is kept
-pub broke_here : (users : List User) (before : Standing) (octets : List ℕ) (left written : Option (List ℕ)) (place : ℕ) (kept : List ℕ) (script : Running) (left_now written_now written_next : Option (List ℕ))
+pub broke_here : (users : Users) (before : Standing) (octets : List ℕ) (left written : Option (List ℕ)) (place : ℕ) (kept : List ℕ) (script : Running) (left_now written_now written_next : Option (List ℕ))
     → octets ≡ kept → HasCome users before left written place kept script left_now written_now
     → ((standing : Standing) → StandsAt standing script → BrokeAmong users octets standing written_now written_next) → BrokeOff users before left written written_next
 broke_here users before octets left written place kept script left_now written_now written_next e h told =
@@ -270,7 +270,7 @@ broke_here users before octets left written place kept script left_now written_n
     }
 
 -- the end of the input, where a piece of no octets was taken
-pub at_end : (users : List User) (before : Standing) (nothing_left : Bool) (ended : FrameEnd) (left written : Option (List ℕ)) (place : ℕ) (kept more : List ℕ) (script : Running) (left_now written_now left_next : Option (List ℕ))
+pub at_end : (users : Users) (before : Standing) (nothing_left : Bool) (ended : FrameEnd) (left written : Option (List ℕ)) (place : ℕ) (kept more : List ℕ) (script : Running) (left_now written_now left_next : Option (List ℕ))
     → HasCome users before left written place kept script left_now written_now → IsFrameStart kept → Goes left_now left_next kept more → (left_next ≡ Some []) × (more ≡ kept)
     → nothing_left ≡ (length more == 0) → ended ≡ (if nothing_left then Done place else BadFrame place) → HasEnded (IsPrintedFrom users before (state_in script.book)) (IsPrintedInPartFrom users before) ended left left_next written written_now
 at_end users before true ended left written place kept more script left_now written_now left_next h start goes e b f =
@@ -284,7 +284,7 @@ at_end users before false ended left written place kept more script left_now wri
     (λ none. eqb-false (length more) 0 (sym b) (ap length none)) e.0)
 
 -- behind the whole frames of what is kept begins none, whatever follows
-pub bad_behind : (users : List User) (before : Standing) (len : ℕ) (octets : List ℕ) (left written : Option (List ℕ)) (place : ℕ) (kept : List ℕ) (script next : Running) (left_now written_now written_next : Option (List ℕ))
+pub bad_behind : (users : Users) (before : Standing) (len : ℕ) (octets : List ℕ) (left written : Option (List ℕ)) (place : ℕ) (kept : List ℕ) (script next : Running) (left_now written_now written_next : Option (List ℕ))
     → octets ≡ kept → HasCome users before left written place kept script left_now written_now
     → ((standing : Standing) → StandsAt standing script → AnsweredTo users len octets standing next written_now written_next × NeverBeginsFrame (drop len octets)) → MetBadFrame (IsPrintedFrom users before (state_in next.book)) left written written_next (place + len)
 bad_behind users before len octets left written place kept script next left_now written_now written_next e h answered =
@@ -302,10 +302,10 @@ bounded_next place len kept more rest n allowed allowed_next before longer given
 
 -- From the opening state
 
-printed_at_start : (users : List User) (server : ServerState) (input rest output : List ℕ) → IsPrintedFrom users (at_start users) server input rest output → IsPrinted users input rest output
+printed_at_start : (users : Users) (server : ServerState) (input rest output : List ℕ) → IsPrintedFrom users (at_start users) server input rest output → IsPrinted users input rest output
 printed_at_start users server input rest output h = record { frames = h.frames; cut = h.cut; follows = scripts_go_on.follows users (at_start users) h.after h.frames output h.leads }
 
-front_at_start : (users : List User) (left written written_now : Option (List ℕ)) → WroteFront (IsPrintedInPartFrom users (at_start users)) left written written_now → WroteFront (IsPrintedInPart users) left written written_now
+front_at_start : (users : Users) (left written written_now : Option (List ℕ)) → WroteFront (IsPrintedInPartFrom users (at_start users)) left written written_now → WroteFront (IsPrintedInPart users) left written written_now
 front_at_start users left written written_now h = record {
   input = h.input;
   told = h.told;
@@ -314,7 +314,7 @@ front_at_start users left written written_now h = record {
   added = h.added;
 }
 
-opened_at_start : (users : List User) (server : ServerState) (ended : FrameEnd) (left left_now written written_now : Option (List ℕ))
+opened_at_start : (users : Users) (server : ServerState) (ended : FrameEnd) (left left_now written written_now : Option (List ℕ))
     → HasEnded (IsPrintedFrom users (at_start users) server) (IsPrintedInPartFrom users (at_start users)) ended left left_now written written_now
     → HasEnded (IsPrinted users) (IsPrintedInPart users) ended left left_now written written_now
 opened_at_start users server (Done place) left left_now written written_now h = record {
@@ -349,7 +349,7 @@ opened_at_start users server Output left left_now written written_now h = front_
 opened_at_start users server NoMemory left left_now written written_now h = front_at_start users left written written_now h
 
 -- a run at a desk in the opening state is one from the start
-pub run_from_start : (users : List User) (state server : ServerState) (ended : FrameEnd) (left left_now written written_now : Option (List ℕ)) → state ≡ opening_state (directory_of users)
+pub run_from_start : (users : Users) (state server : ServerState) (ended : FrameEnd) (left left_now written written_now : Option (List ℕ)) → state ≡ opening_state (directory_of users)
     → HasEnded (IsPrintedFrom users (standing_in state) server) (IsPrintedInPartFrom users (standing_in state)) ended left left_now written written_now
     → HasEnded (IsPrinted users) (IsPrintedInPart users) ended left left_now written written_now
 run_from_start users state server ended left left_now written written_now e h =
@@ -357,18 +357,18 @@ run_from_start users state server ended left left_now written written_now e h =
     (subst (λ s. HasEnded (IsPrintedFrom users (standing_in s) server) (IsPrintedInPartFrom users (standing_in s)) ended left left_now written written_now) e h)
 
 -- a book in which nothing happened shows the opening state
-pub opening_book : (book : Core) (users : List User) → book.users ≡ users → book.work ≡ record { journal = []; latest = pos 0; pieces = []; out = [] } → state_in book ≡ opening_state (directory_of users)
+pub opening_book : (book : Core) (users : Users) → book.users ≡ users → book.work ≡ record { journal = []; latest = pos 0; pieces = []; out = [] } → state_in book ≡ opening_state (directory_of users)
 opening_book book users e work =
-    ap (λ (w : Work). replay (directory_of book.users) w.journal) work ∙ ap (λ (known : List User). opening_state (directory_of known)) e
+    ap (λ (w : Work). replay (directory_of book.users) w.journal) work ∙ ap (λ (known : Users). opening_state (directory_of known)) e
 
 -- Behind the run
 
 -- the book's state is the same where its users and its journal are
 pub same_state : (book other : Core) → other.users ≡ book.users → other.work.journal ≡ book.work.journal → state_in other ≡ state_in book
 same_state book other e journal =
-    ap (λ (known : List User). replay (directory_of known) other.work.journal) e ∙ ap (λ entries. replay (directory_of book.users) entries) journal
+    ap (λ (known : Users). replay (directory_of known) other.work.journal) e ∙ ap (λ entries. replay (directory_of book.users) entries) journal
 
-pub ended_later : {X : Type 0} (users : List User) (before mid after : ServerState) (ended : FramesOn X) (left left_now written written_now : Option (List ℕ)) → after ≡ mid
+pub ended_later : {X : Type 0} (users : Users) (before mid after : ServerState) (ended : FramesOn X) (left left_now written written_now : Option (List ℕ)) → after ≡ mid
     → HasEndedOn users before mid ended left left_now written written_now → HasEndedOn users before after ended left left_now written written_now
 ended_later users before mid after ended left left_now written written_now e h = subst (λ s. HasEndedOn users before s ended left left_now written written_now) (sym e) h
 
@@ -382,12 +382,12 @@ left_later (Broken fault) before mid after count counted counted_now e h k = (e 
   rose_on (inr full) = inr full
 
 -- the book of a desk whose test of its journal passes is legal
-pub told_book : (users : List User) (book : Core) → LegalIsTold → book.users ≡ users → is_legal (directory_of book.users) book.work.journal ≡ true → IsBookOf users book
+pub told_book : (users : Users) (book : Core) → LegalIsTold → book.users ≡ users → is_legal (directory_of book.users) book.work.journal ≡ true → IsBookOf users book
 told_book users book told e passes = record {
   users_are = e;
-  legal = subst (λ (known : List User). IsLegal (directory_of known) book.work.journal) e (told.is (directory_of book.users) book.work.journal passes);
+  legal = subst (λ (known : Users). IsLegal (directory_of known) book.work.journal) e (told.is (directory_of book.users) book.work.journal passes);
 }
 
 -- nothing was done at all
-pub nothing_at_start : (users : List User) (left written : Option (List ℕ)) → WroteFront (IsPrintedInPart users) left written written
+pub nothing_at_start : (users : Users) (left written : Option (List ℕ)) → WroteFront (IsPrintedInPart users) left written written
 nothing_at_start users left written = front_at_start users left written written (wrote_none users (at_start users) left written)

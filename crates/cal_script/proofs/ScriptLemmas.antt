@@ -17,7 +17,7 @@ use Rattle.cal_model.specs.History.Journal.{Entry, IsLegal, replay}
 use Rattle.cal_model.specs.State.ServerState.{directory_of}
 use Rattle.cal_model.specs.Transcripts.ScriptFrames.{bytes, worker}
 use Rattle.cal_model.specs.Transcripts.Transcript.{Standing, stream_of, fed, Prints}
-use Rattle.cal_model.specs.Users.UsersFile.{User}
+use Rattle.cal_model.specs.Users.UsersFile.{Users}
 use Rattle.cal_book.specs.Publishing.{IsClaimIn, pair_of_claim}
 use Rattle.cal_book.specs.Cores.{Core, state_in}
 use Rattle.cal_script.specs.Answering.{GoesOnBy, IsBookOf, PrintsBefore, WroteAll, WroteInPart, WroteBefore}
@@ -257,7 +257,7 @@ stream_at : (standing : Standing) (script : Running) (k : ℕ) (d : Connection) 
 stream_at standing script k d stands h =
     subst (λ stream. Rests stream (get_or script.connections k d)) (sym (unwrap_or-slice_get standing.streams k [])) (side_at standing.streams script.connections k [] d stands.streams h)
 
-pub sound_answered : (users : List User) (kept : List Pair) (script next : Running) (k moment : ℕ) (payload : List ℕ) (connection d : Connection) → IsSound users kept script → (standing : Standing) × StandsAt standing script
+pub sound_answered : (users : Users) (kept : List Pair) (script next : Running) (k moment : ℕ) (payload : List ℕ) (connection d : Connection) → IsSound users kept script → (standing : Standing) × StandsAt standing script
     → k < length script.connections → IsBookOf users next.book → ((stream : List ℕ) → Rests stream (get_or script.connections k d) → GoesOnBy users k moment stream payload script.book next.book)
     → next.connections ≡ slice_set script.connections k connection → next.slots ≡ script.slots → IsSound users kept next
 sound_answered users kept script next k moment payload connection d sound (standing, stands) h book goes connections slots =
@@ -272,14 +272,14 @@ sound_answered users kept script next k moment payload connection d sound (stand
     }
 
 -- what the octets ask was entered, wherever the script stood
-pub bytes_entered : (users : List User) (standing : Standing) (script : Running) (now : Core) (k moment : ℕ) (payload : List ℕ) (d : Connection)
+pub bytes_entered : (users : Users) (standing : Standing) (script : Running) (now : Core) (k moment : ℕ) (payload : List ℕ) (d : Connection)
     → StandsAt standing script → k < length script.connections → ((stream : List ℕ) → Rests stream (get_or script.connections k d) → GoesOnBy users k moment stream payload script.book now)
     → FrameEnters users standing.streams (bytes k moment payload) script.book.work.journal now.work.journal
 bytes_entered users standing script now k moment payload d stands h goes =
     let on = goes (stream_of standing k) (stream_at standing script k d stands h) in
     (on.0, on.1, on.2.enters)
 
-pub took_bytes : (users : List User) (standing : Standing) (script next : Running) (k moment : ℕ) (payload : List ℕ) (connection d : Connection) (written now : Option (List ℕ))
+pub took_bytes : (users : Users) (standing : Standing) (script next : Running) (k moment : ℕ) (payload : List ℕ) (connection d : Connection) (written now : Option (List ℕ))
     → StandsAt standing script → k < length script.connections → next.connections ≡ slice_set script.connections k connection
     → ((stream : List ℕ) → Rests stream (get_or script.connections k d) → WroteAll users k moment stream payload (state_in script.book) (state_in next.book) written now)
     → ((stream : List ℕ) → Rests stream (get_or script.connections k d) → Rests (stream ++ payload) connection)
@@ -307,7 +307,7 @@ took_bytes users standing script next k moment payload connection d written now 
       };
     }
 
-pub took_bytes_in_part : (users : List User) (standing : Standing) (script : Running) (k moment : ℕ) (payload : List ℕ) (d : Connection) (written now : Option (List ℕ))
+pub took_bytes_in_part : (users : Users) (standing : Standing) (script : Running) (k moment : ℕ) (payload : List ℕ) (d : Connection) (written now : Option (List ℕ))
     → StandsAt standing script → k < length script.connections
     → ((stream : List ℕ) → Rests stream (get_or script.connections k d) → WroteInPart users k moment stream payload (state_in script.book) written now)
     → TookTurnInPart users (bytes k moment payload) standing written now
@@ -329,7 +329,7 @@ took_bytes_in_part users standing script k moment payload d written now stands h
       added = wrote.added;
     }
 
-pub broke_in_bytes : (users : List User) (standing : Standing) (script : Running) (k moment : ℕ) (payload : List ℕ) (d : Connection) (written now : Option (List ℕ))
+pub broke_in_bytes : (users : Users) (standing : Standing) (script : Running) (k moment : ℕ) (payload : List ℕ) (d : Connection) (written now : Option (List ℕ))
     → StandsAt standing script → k < length script.connections
     → ((stream : List ℕ) → Rests stream (get_or script.connections k d) → WroteBefore users k moment stream payload (state_in script.book) written now)
     → BrokeInTurn users (bytes k moment payload) standing written now
@@ -352,7 +352,7 @@ some_stream script k d (standing, stands) h = (stream_of standing k, stream_at s
 
 -- The turn of a worker
 
-pub sound_turned : (users : List User) (kept : List Pair) (script next : Running) (what : Action) (k : ℕ) (before after : Slot) → IsSound users kept script → k < length script.slots → get_or script.slots k before ≡ before
+pub sound_turned : (users : Users) (kept : List Pair) (script next : Running) (what : Action) (k : ℕ) (before after : Slot) → IsSound users kept script → k < length script.slots → get_or script.slots k before ≡ before
     → SlotTurn what before script.book.work after next.book.work → next.book.users ≡ script.book.users
     → next.connections ≡ script.connections → next.slots ≡ slice_set script.slots k after → IsSound users kept next
 sound_turned users kept script next what k before after sound h here turn book_users connections slots =
@@ -375,16 +375,16 @@ pub stands_turned : (standing : Standing) (script next : Running) (what : Action
 stands_turned standing script next what before after stands turn book_users connections =
     let journal = turn_journal what before script.book.work after next.book.work turn in
     record {
-      server = stands.server ∙ (ap (λ (known : List User). replay (directory_of known) script.book.work.journal) (sym book_users)
+      server = stands.server ∙ (ap (λ (known : Users). replay (directory_of known) script.book.work.journal) (sym book_users)
           ∙ ap (λ entries. replay (directory_of next.book.users) entries) (sym journal));
       streams = subst (AllZip Rests standing.streams) (sym connections) stands.streams;
     }
 
-pub took_worker : (users : List User) (standing : Standing) (next : Running) (what : Action) (k : ℕ) (written : Option (List ℕ))
+pub took_worker : (users : Users) (standing : Standing) (next : Running) (what : Action) (k : ℕ) (written : Option (List ℕ))
     → StandsAt standing next → TookTurn users (worker (step_of what) k) standing next written written
 took_worker users standing next what k written stands = record { printed = []; after = standing; turn = (refl, refl); added = adds_none written; stands = stands }
 
-pub worker_entered : (users : List User) (streams : List (List ℕ)) (what : Action) (k : ℕ) (before after : List Entry) → after ≡ before → FrameEnters users streams (worker (step_of what) k) before after
+pub worker_entered : (users : Users) (streams : List (List ℕ)) (what : Action) (k : ℕ) (before after : List Entry) → after ≡ before → FrameEnters users streams (worker (step_of what) k) before after
 worker_entered users streams what k before after same = ([], refl, same)
 
 -- The start
@@ -393,7 +393,7 @@ empty_slots_in : (journal : List Entry) (n : ℕ) → All (IsSlotIn journal) (re
 empty_slots_in journal zero = All-nil (IsSlotIn journal)
 empty_slots_in journal (suc n) = All-cons (IsSlotIn journal) Empty (replicate n Empty) tt (empty_slots_in journal n)
 
-pub sound_start : (users : List User) (script : Running) → IsBookOf users script.book → AllZip Rests (replicate 16 []) script.connections → script.slots ≡ replicate 64 Empty
+pub sound_start : (users : Users) (script : Running) → IsBookOf users script.book → AllZip Rests (replicate 16 []) script.connections → script.slots ≡ replicate 64 Empty
     → IsSound users script.book.work.out script
 sound_start users script book side slots = record {
   book_of = book;

@@ -7,7 +7,7 @@ use Rattle.cal_model.specs.History.Journal.{Entry}
 use Rattle.cal_model.specs.Transcripts.ScriptFrames.{Frame, bytes, frame_text, frames_text, IsFrame}
 use Rattle.cal_model.specs.Transcripts.Transcript.{Standing, Turn, stream_of}
 use Rattle.cal_model.specs.Transcripts.TranscriptLaws.{Leads}
-use Rattle.cal_model.specs.Users.UsersFile.{User}
+use Rattle.cal_model.specs.Users.UsersFile.{Users}
 use Rattle.cal_script.specs.Answering.{PrintsBefore}
 use Rattle.cal_script.specs.EnteredRequests.{EntersSome, FramesAsk, FrontEnters, streams_after}
 use Rattle.cal_script.specs.FirstFrames.{NeverBeginsFrame}
@@ -19,7 +19,7 @@ use Rattle.cal_script.specs.declared.frames.Answering.TheVariants.{Cut, Bad, Out
 -- One frame
 
 -- a frame was answered: what it prints was written, and the script stands where the frame leaves it
-pub record TookTurn (users : List User) (frame : Frame) (before : Standing) (script : Running) (written now : Option (List ℕ)) : Type 0 where
+pub record TookTurn (users : Users) (frame : Frame) (before : Standing) (script : Running) (written now : Option (List ℕ)) : Type 0 where
   pub printed : List ℕ
   pub after : Standing
   pub turn : Turn users before frame printed after
@@ -27,7 +27,7 @@ pub record TookTurn (users : List User) (frame : Frame) (before : Standing) (scr
   pub stands : StandsAt after script
 
 -- a beginning of what it prints was written
-pub record TookTurnInPart (users : List User) (frame : Frame) (before : Standing) (written now : Option (List ℕ)) : Type 0 where
+pub record TookTurnInPart (users : Users) (frame : Frame) (before : Standing) (written now : Option (List ℕ)) : Type 0 where
   pub printed : List ℕ
   pub missing : List ℕ
   pub after : Standing
@@ -35,7 +35,7 @@ pub record TookTurnInPart (users : List User) (frame : Frame) (before : Standing
   pub added : Adds written printed now
 
 -- the desk told its fault when a request was asked that the frame completes: what is printed for those before it was written, and nothing else
-pub record BrokeInTurn (users : List User) (frame : Frame) (before : Standing) (written now : Option (List ℕ)) : Type 0 where
+pub record BrokeInTurn (users : Users) (frame : Frame) (before : Standing) (written now : Option (List ℕ)) : Type 0 where
   pub connection : ℕ
   pub moment : ℕ
   pub payload : List ℕ
@@ -52,7 +52,7 @@ streams_behind streams [] = streams
 streams_behind streams (frame ∷ frames) = streams_behind (streams_after streams frame) frames
 
 -- the octets are whole frames; what they print was written, and the script stands where they leave it
-pub record AnsweredWhole (users : List User) (octets : List ℕ) (before : Standing) (script : Running) (written now : Option (List ℕ)) : Type 0 where
+pub record AnsweredWhole (users : Users) (octets : List ℕ) (before : Standing) (script : Running) (written now : Option (List ℕ)) : Type 0 where
   pub frames : List Frame
   pub bounds : All IsFrame frames
   pub spelled : octets ≡ frames_text frames
@@ -63,7 +63,7 @@ pub record AnsweredWhole (users : List User) (octets : List ℕ) (before : Stand
   pub stands : StandsAt after script
 
 -- whole frames stand at the front of the octets, and a beginning of what they print was written
-pub record AnsweredInPart (users : List User) (octets : List ℕ) (before : Standing) (written now : Option (List ℕ)) : Type 0 where
+pub record AnsweredInPart (users : Users) (octets : List ℕ) (before : Standing) (written now : Option (List ℕ)) : Type 0 where
   pub frames : List Frame
   pub bounds : All IsFrame frames
   pub behind : List ℕ
@@ -75,7 +75,7 @@ pub record AnsweredInPart (users : List User) (octets : List ℕ) (before : Stan
   pub added : Adds written printed now
 
 -- the desk told its fault in the turn of a frame: what those before it print was written, and then what its requests print that come before the one that was asked
-pub record BrokeAmong (users : List User) (octets : List ℕ) (before : Standing) (written now : Option (List ℕ)) : Type 0 where
+pub record BrokeAmong (users : Users) (octets : List ℕ) (before : Standing) (written now : Option (List ℕ)) : Type 0 where
   pub frames : List Frame
   pub bounds : All IsFrame frames
   pub frame : Frame
@@ -90,7 +90,7 @@ pub record BrokeAmong (users : List User) (octets : List ℕ) (before : Standing
   pub last : BrokeInTurn users frame there middle now
 
 -- the octets are whole frames, some of whose events were entered, and the script stands behind them
-pub record EnteredWhole (users : List User) (octets : List ℕ) (streams : List (List ℕ)) (journal : List Entry) (script : Running) : Type 0 where
+pub record EnteredWhole (users : Users) (octets : List ℕ) (streams : List (List ℕ)) (journal : List Entry) (script : Running) : Type 0 where
   pub frames : List Frame
   pub bounds : All IsFrame frames
   pub spelled : octets ≡ frames_text frames
@@ -102,12 +102,12 @@ pub record EnteredWhole (users : List User) (octets : List ℕ) (streams : List 
   pub stands : StandsAt there script
 
 -- so many octets in front are whole frames that were answered
-pub record AnsweredTo (users : List User) (len : ℕ) (octets : List ℕ) (before : Standing) (script : Running) (written now : Option (List ℕ)) : Type 0 where
+pub record AnsweredTo (users : Users) (len : ℕ) (octets : List ℕ) (before : Standing) (script : Running) (written now : Option (List ℕ)) : Type 0 where
   pub within : len ≤ length octets
   pub whole : AnsweredWhole users (take len octets) before script written now
 
 -- what is said of an end of answering is so
-abbrev pub HasAnswered : {X : Type 0} → List User → Answering X → List ℕ → Standing → Running → Option (List ℕ) → Option (List ℕ) → Type 0
+abbrev pub HasAnswered : {X : Type 0} → Users → Answering X → List ℕ → Standing → Running → Option (List ℕ) → Option (List ℕ) → Type 0
 HasAnswered users (Cut len) octets before script written now = AnsweredTo users len octets before script written now × IsFrameStart (drop len octets)
 HasAnswered users (Bad len) octets before script written now = AnsweredTo users len octets before script written now × NeverBeginsFrame (drop len octets)
 HasAnswered users OutputFault octets before script written now = AnsweredInPart users octets before written now
@@ -115,7 +115,7 @@ HasAnswered users NoMemory octets before script written now = AnsweredInPart use
 HasAnswered users (Broken fault) octets before script written now = BrokeAmong users octets before written now
 
 -- what is said of an end of answering is so of the journal: of the frames in front alone where answering goes on behind them
-abbrev pub HasEntered : {X : Type 0} → List User → Answering X → List ℕ → List (List ℕ) → List Entry → Running → Type 0
+abbrev pub HasEntered : {X : Type 0} → Users → Answering X → List ℕ → List (List ℕ) → List Entry → Running → Type 0
 HasEntered users (Cut len) octets streams journal script = EnteredWhole users (take len octets) streams journal script
 HasEntered users other octets streams journal script = FrontEnters users streams octets journal script.book.work.journal
 

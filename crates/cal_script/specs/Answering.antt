@@ -10,7 +10,7 @@ use Rattle.cal_model.specs.State.ServerState.{ServerState, directory_of}
 use Rattle.cal_model.specs.Transcripts.ConnectionAnswers.{Completed, whole, Completes}
 use Rattle.cal_model.specs.Transcripts.ScriptFrames.{reply_frame}
 use Rattle.cal_model.specs.Transcripts.Transcript.{Answer, IsAnswer, Prints}
-use Rattle.cal_model.specs.Users.UsersFile.{User}
+use Rattle.cal_model.specs.Users.UsersFile.{Users}
 use Rattle.cal_book.specs.Cores.{Core}
 use Rattle.cal_book.specs.declared.desk.Told.{Told}
 use Rattle.cal_book.specs.declared.desk.Told.TheVariants.{Reply, Broken as ToldBroken}
@@ -19,17 +19,17 @@ use Rattle.cal_script.specs.declared.answering.Stop.{Stop}
 use Rattle.cal_script.specs.declared.answering.Stop.TheVariants.{Unwritten, Broken}
 
 -- the book is of these users, and legal
-pub record IsBookOf (users : List User) (book : Core) : Type 0 where
+pub record IsBookOf (users : Users) (book : Core) : Type 0 where
   pub users_are : book.users ≡ users
   pub legal : IsLegal (directory_of users) book.work.journal
 
 -- answering changes nothing of the claims that are out; of these events, some were entered
-pub record GoesOn (users : List User) (events : List Event) (before after : Core) : Type 0 where
+pub record GoesOn (users : Users) (events : List Event) (before after : Core) : Type 0 where
   pub out : after.work.out ≡ before.work.out
   pub enters : EntersSome users events before.work.journal after.work.journal
 
 -- so it went on with the events of what octets complete on a connection
-abbrev pub GoesOnBy : List User → ℕ → ℕ → List ℕ → List ℕ → Core → Core → Type 0
+abbrev pub GoesOnBy : Users → ℕ → ℕ → List ℕ → List ℕ → Core → Core → Type 0
 GoesOnBy users number moment stream payload before after = (events : List Event) × ArrivalAsks users number moment stream payload events × GoesOn users events before after
 
 -- the answer to a request
@@ -37,28 +37,28 @@ abbrev pub answer_frame : ℕ → ℕ → ℕ → WireRequest → Answer → Lis
 answer_frame number moment before wire given = reply_frame number (answer_octets before wire given.reply (pos moment))
 
 -- a request was answered, and these are the octets of the reply
-pub record IsAnswered (users : List User) (number moment before : ℕ) (wire : WireRequest) (state after : ServerState) (octets : List ℕ) : Type 0 where
+pub record IsAnswered (users : Users) (number moment before : ℕ) (wire : WireRequest) (state after : ServerState) (octets : List ℕ) : Type 0 where
   pub given : Answer
   pub is : IsAnswer users state number moment wire given
   pub stands : after ≡ given.server
   pub octets_are : octets ≡ answer_octets before wire given.reply (pos moment)
 
 -- a request was answered, and its reply written
-pub record WroteAnswer (users : List User) (number moment before : ℕ) (wire : WireRequest) (state after : ServerState) (written now : Option (List ℕ)) : Type 0 where
+pub record WroteAnswer (users : Users) (number moment before : ℕ) (wire : WireRequest) (state after : ServerState) (written now : Option (List ℕ)) : Type 0 where
   pub given : Answer
   pub is : IsAnswer users state number moment wire given
   pub stands : after ≡ given.server
   pub added : Adds written (answer_frame number moment before wire given) now
 
 -- or a beginning of it
-pub record WroteAnswerInPart (users : List User) (number moment before : ℕ) (wire : WireRequest) (state : ServerState) (written now : Option (List ℕ)) : Type 0 where
+pub record WroteAnswerInPart (users : Users) (number moment before : ℕ) (wire : WireRequest) (state : ServerState) (written now : Option (List ℕ)) : Type 0 where
   pub given : Answer
   pub is : IsAnswer users state number moment wire given
   pub many : ℕ
   pub added : Adds written (take many (answer_frame number moment before wire given)) now
 
 -- what the octets of a frame complete on a connection, and what is printed for it
-pub record PrintsMore (users : List User) (number moment : ℕ) (stream payload : List ℕ) (state : ServerState) (printed : List ℕ) (after : ServerState) : Type 0 where
+pub record PrintsMore (users : Users) (number moment : ℕ) (stream payload : List ℕ) (state : ServerState) (printed : List ℕ) (after : ServerState) : Type 0 where
   pub done : List Completed
   pub more : List Completed
   pub before_them : Completes stream done
@@ -66,13 +66,13 @@ pub record PrintsMore (users : List User) (number moment : ℕ) (stream payload 
   pub prints : Prints users number moment state more printed after
 
 -- all of it was written
-pub record WroteAll (users : List User) (number moment : ℕ) (stream payload : List ℕ) (state after : ServerState) (written now : Option (List ℕ)) : Type 0 where
+pub record WroteAll (users : Users) (number moment : ℕ) (stream payload : List ℕ) (state after : ServerState) (written now : Option (List ℕ)) : Type 0 where
   pub printed : List ℕ
   pub prints : PrintsMore users number moment stream payload state printed after
   pub added : Adds written printed now
 
 -- or a beginning of it
-pub record WroteInPart (users : List User) (number moment : ℕ) (stream payload : List ℕ) (state : ServerState) (written now : Option (List ℕ)) : Type 0 where
+pub record WroteInPart (users : Users) (number moment : ℕ) (stream payload : List ℕ) (state : ServerState) (written now : Option (List ℕ)) : Type 0 where
   pub printed : List ℕ
   pub missing : List ℕ
   pub after : ServerState
@@ -80,7 +80,7 @@ pub record WroteInPart (users : List User) (number moment : ℕ) (stream payload
   pub added : Adds written printed now
 
 -- The desk told its fault when a request was asked that the octets complete: what is printed for those before it.
-pub record PrintsBefore (users : List User) (number moment : ℕ) (stream payload : List ℕ) (state : ServerState) (printed : List ℕ) : Type 0 where
+pub record PrintsBefore (users : Users) (number moment : ℕ) (stream payload : List ℕ) (state : ServerState) (printed : List ℕ) : Type 0 where
   pub done : List Completed
   pub more : List Completed
   pub place : ℕ
@@ -92,7 +92,7 @@ pub record PrintsBefore (users : List User) (number moment : ℕ) (stream payloa
   pub prints : Prints users number moment state more printed server
 
 -- it was written, and nothing else
-pub record WroteBefore (users : List User) (number moment : ℕ) (stream payload : List ℕ) (state : ServerState) (written now : Option (List ℕ)) : Type 0 where
+pub record WroteBefore (users : Users) (number moment : ℕ) (stream payload : List ℕ) (state : ServerState) (written now : Option (List ℕ)) : Type 0 where
   pub printed : List ℕ
   pub prints : PrintsBefore users number moment stream payload state printed
   pub added : Adds written printed now

@@ -7,7 +7,7 @@ use Rattle.cal_model.specs.Requests.AskedRequests.{Asked, refused, asked, asked_
 use Rattle.cal_model.specs.Transcripts.ConnectionAnswers.{Completed, whole, faulty, Completes}
 use Rattle.cal_model.specs.Transcripts.ScriptFrames.{Frame, bytes, worker, last_connection, frames_text, IsFrame}
 use Rattle.cal_model.specs.Transcripts.Transcript.{event_of}
-use Rattle.cal_model.specs.Users.UsersFile.{User}
+use Rattle.cal_model.specs.Users.UsersFile.{Users}
 use Rattle.cal_book.specs.EventSteps.{journal_after}
 
 -- Events
@@ -18,17 +18,17 @@ events_by connection moment (refused reply) = []
 events_by connection moment (asked who request) = event_of connection who moment request ∷ []
 
 -- that of a request that was completed; a fault has none
-abbrev pub events_of : List User → ℕ → ℕ → Completed → List Event
+abbrev pub events_of : Users → ℕ → ℕ → Completed → List Event
 events_of users connection moment (whole place wire) = events_by connection moment (asked_of users wire)
 events_of users connection moment (faulty why) = []
 
-abbrev pub events_of_all : List User → ℕ → ℕ → List Completed → List Event
+abbrev pub events_of_all : Users → ℕ → ℕ → List Completed → List Event
 events_of_all users connection moment completed = flat_map (events_of users connection moment) completed
 
 -- Entries
 
 -- Some of the events were entered one after the other, each as the book does it from the state that it finds.
-abbrev pub EntersSome : List User → List Event → List Entry → List Entry → Type 0
+abbrev pub EntersSome : Users → List Event → List Entry → List Entry → Type 0
 EntersSome users [] before after = after ≡ before
 EntersSome users (event ∷ events) before after =
     (next : List Entry) × ((next ≡ before) ⊎ (next ≡ journal_after users event before)) × EntersSome users events next after
@@ -36,7 +36,7 @@ EntersSome users (event ∷ events) before after =
 -- Frames
 
 -- octets that come on a connection ask the events of what they complete there
-pub record ArrivalAsks (users : List User) (connection moment : ℕ) (stream payload : List ℕ) (events : List Event) : Type 0 where
+pub record ArrivalAsks (users : Users) (connection moment : ℕ) (stream payload : List ℕ) (events : List Event) : Type 0 where
   pub done : List Completed
   pub more : List Completed
   pub before_them : Completes stream done
@@ -53,23 +53,23 @@ streams_after streams (bytes connection moment payload) = slice_set streams conn
 streams_after streams (worker step slot) = streams
 
 -- the events that a frame asks; one of a worker asks none
-abbrev pub FrameAsks : List User → List (List ℕ) → Frame → List Event → Type 0
+abbrev pub FrameAsks : Users → List (List ℕ) → Frame → List Event → Type 0
 FrameAsks users streams (bytes connection moment payload) events = ArrivalAsks users connection moment (came_on streams connection) payload events
 FrameAsks users streams (worker step slot) events = events ≡ []
 
 -- those of frames, one after the other
-abbrev pub FramesAsk : List User → List (List ℕ) → List Frame → List Event → Type 0
+abbrev pub FramesAsk : Users → List (List ℕ) → List Frame → List Event → Type 0
 FramesAsk users streams [] events = events ≡ []
 FramesAsk users streams (frame ∷ frames) events =
     (first : List Event) × (rest : List Event)
     × (events ≡ first ++ rest) × FrameAsks users streams frame first × FramesAsk users (streams_after streams frame) frames rest
 
 -- a journal goes on by some of the events that a frame asks
-abbrev pub FrameEnters : List User → List (List ℕ) → Frame → List Entry → List Entry → Type 0
+abbrev pub FrameEnters : Users → List (List ℕ) → Frame → List Entry → List Entry → Type 0
 FrameEnters users streams frame before after = (events : List Event) × FrameAsks users streams frame events × EntersSome users events before after
 
 -- whole frames stand at the front of the octets, and it goes on by some of the events that these ask
-pub record FrontEnters (users : List User) (streams : List (List ℕ)) (octets : List ℕ) (before after : List Entry) : Type 0 where
+pub record FrontEnters (users : Users) (streams : List (List ℕ)) (octets : List ℕ) (before after : List Entry) : Type 0 where
   pub frames : List Frame
   pub bounds : All IsFrame frames
   pub behind : List ℕ
@@ -81,7 +81,7 @@ pub record FrontEnters (users : List User) (streams : List (List ℕ)) (octets :
 -- Runs
 
 -- A journal goes on by what frames at the front of the input ask, where nothing came on any connection before.
-pub record IsEnteredBy (users : List User) (left : Option (List ℕ)) (before after : List Entry) : Type 0 where
+pub record IsEnteredBy (users : Users) (left : Option (List ℕ)) (before after : List Entry) : Type 0 where
   pub input : List ℕ
   pub told : IfSome left (λ octets. octets ≡ input)
   pub front : FrontEnters users (replicate (last_connection + 1) []) input before after

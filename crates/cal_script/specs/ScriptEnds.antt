@@ -6,7 +6,7 @@ use Rattle.cal_model.specs.State.ServerState.{ServerState}
 use Rattle.cal_model.specs.Transcripts.ScriptFrames.{Frame as ScriptFrame, frames_text, IsFrame, IsCutInto}
 use Rattle.cal_model.specs.Transcripts.Transcript.{Standing, Follows}
 use Rattle.cal_model.specs.Transcripts.TranscriptLaws.{Leads}
-use Rattle.cal_model.specs.Users.UsersFile.{User}
+use Rattle.cal_model.specs.Users.UsersFile.{Users}
 use Rattle.cal_script.specs.AnsweredFrames.{BrokeAmong}
 use Rattle.cal_script.specs.FrameHeads.{IsFrameStart}
 use Rattle.cal_script.specs.Standings.{standing_in}
@@ -29,7 +29,7 @@ abbrev pub IfTold : List (List ℕ) → (List ℕ → Option (List ℕ)) → (Li
 IfTold words content P = IfSome (users_path words) (λ path. IfSome (content path) P)
 
 -- the users are those of the file
-abbrev pub AreServed : List (List ℕ) → (List ℕ → Option (List ℕ)) → List User → Type 0
+abbrev pub AreServed : List (List ℕ) → (List ℕ → Option (List ℕ)) → Users → Type 0
 AreServed words content users = IfTold words content (λ octets. AreUsersOf octets users)
 
 -- Statuses
@@ -53,7 +53,7 @@ HasPlace status = (status ≡ 0) ⊎ (status ≡ 3) ⊎ (status ≡ 6)
 -- What is printed
 
 -- the output is what may be printed for the whole frames of these octets, which end before the rest, from where a script stands; and they lead to that state
-pub record IsPrintedFrom (users : List User) (before : Standing) (server : ServerState) (input rest output : List ℕ) : Type 0 where
+pub record IsPrintedFrom (users : Users) (before : Standing) (server : ServerState) (input rest output : List ℕ) : Type 0 where
   pub frames : List ScriptFrame
   pub cut : IsCutInto input frames rest
   pub after : Standing
@@ -61,7 +61,7 @@ pub record IsPrintedFrom (users : List User) (before : Standing) (server : Serve
   pub state : after.server ≡ server
 
 -- the output is a beginning of what may be printed for whole frames at the start of these octets, from where a script stands
-pub record IsPrintedInPartFrom (users : List User) (before : Standing) (input output : List ℕ) : Type 0 where
+pub record IsPrintedInPartFrom (users : Users) (before : Standing) (input output : List ℕ) : Type 0 where
   pub frames : List ScriptFrame
   pub bounds : All IsFrame frames
   pub behind : List ℕ
@@ -122,13 +122,13 @@ HasEnded prints front_prints NoMemory left left_after written written_after = Wr
 -- Runs at a desk
 
 -- the desk told its fault when a request was asked that a frame of the input completes: the output is what is printed for the frames before that one, and for its requests before that request
-pub record BrokeOff (users : List User) (before : Standing) (left written written_after : Option (List ℕ)) : Type 0 where
+pub record BrokeOff (users : Users) (before : Standing) (left written written_after : Option (List ℕ)) : Type 0 where
   pub input : List ℕ
   pub told : IfSome left (λ octets. octets ≡ input)
   pub broke : BrokeAmong users input before written written_after
 
 -- what is said of a run is so, from the desk's state before it to that after it
-abbrev pub HasEndedOn : {X : Type 0} → List User → ServerState → ServerState → FramesOn X → Option (List ℕ) → Option (List ℕ) → Option (List ℕ) → Option (List ℕ) → Type 0
+abbrev pub HasEndedOn : {X : Type 0} → Users → ServerState → ServerState → FramesOn X → Option (List ℕ) → Option (List ℕ) → Option (List ℕ) → Option (List ℕ) → Type 0
 HasEndedOn users before after (End ended) left left_after written written_after =
     HasEnded (IsPrintedFrom users (standing_in before) after) (IsPrintedInPartFrom users (standing_in before)) ended left left_after written written_after
 HasEndedOn users before after (Broken fault) left left_after written written_after = BrokeOff users (standing_in before) left written written_after

@@ -5,7 +5,7 @@ use Rattle.cal_model.specs.History.Claims.{Pair}
 use Rattle.cal_model.specs.State.ServerState.{ServerState}
 use Rattle.cal_model.specs.Transcripts.ScriptFrames.{last_connection, last_slot}
 use Rattle.cal_model.specs.Transcripts.Transcript.{Standing}
-use Rattle.cal_model.specs.Users.UsersFile.{User}
+use Rattle.cal_model.specs.Users.UsersFile.{Users}
 use Rattle.cal_book.specs.Cores.{Core, state_in}
 use Rattle.cal_script.specs.Answering.{IsBookOf}
 use Rattle.cal_script.specs.Readings.{Rests}
@@ -24,7 +24,7 @@ abbrev pub running : Core → Script → Running
 running book script = record { book = book; connections = script.connections.items; slots = script.slots.items }
 
 -- What holds of each script that runs: its book is of its users; each claim in a slot is one of the journal, and each claim that is out is in a slot, so that none is lost, or was out before.
-pub record IsSound (users : List User) (kept : List Pair) (script : Running) : Type 0 where
+pub record IsSound (users : Users) (kept : List Pair) (script : Running) : Type 0 where
   pub book_of : IsBookOf users script.book
   pub connections : length script.connections ≡ last_connection + 1
   pub slots : length script.slots ≡ last_slot + 1

@@ -13,7 +13,7 @@ use Rattle.cal_model.specs.Requests.AskedRequests.{asked_of}
 use Rattle.cal_model.specs.Streams.StreamRequests.{Ending, ends_at, Spells, Begins, front, fault}
 use Rattle.cal_model.specs.Streams.WireLimits.{request_limit}
 use Rattle.cal_model.specs.Transcripts.ConnectionAnswers.{is_open}
-use Rattle.cal_model.specs.Users.UsersFile.{User}
+use Rattle.cal_model.specs.Users.UsersFile.{Users}
 use Rattle.cal_model.proofs.Streams.ReadingLaws.{streams_are_read}
 use Rattle.cal_book.specs.EventSteps.{state_behind}
 use Rattle.http_wire.specs.Wires.{NextIs}
@@ -35,7 +35,7 @@ use Rattle.cal_session.proofs.StepLemmas.{adds_on, replies_further, map_further,
 use Rattle.cal_session.proofs.StreamLemmas.{open_parts, served_closed, spells_more, spells_on, still_open}
 use Rattle.cal_session.proofs.TurnLaws.{session_later}
 
-module _ (users : List User) (told : Option ℤ) (start now next : PassState Entry (List User)) (before link after : LinkTold) (turns : List Served) (stream rest behind : List ℕ) where
+module _ (users : Users) (told : Option ℤ) (start now next : PassState Entry Users) (before link after : LinkTold) (turns : List Served) (stream rest behind : List ℕ) where
   -- the requests with one more
   requests_more : (answers : List Answer) (a : Answer) → requests_of (answers ++ a ∷ []) ≡ requests_of answers ++ a.wire ∷ []
   requests_more answers a = map_further (λ (answer : Answer). answer.wire) answers a
@@ -79,7 +79,7 @@ module _ (users : List User) (told : Option ℤ) (start now next : PassState Ent
   pub broke : (r : IsReached users told start now before link turns stream rest) (wire : WireRequest) (moment : ℤ) → IsOn start now → Begins rest wire behind → BrokeAt users now next wire moment → IsToldMoment told moment
       → after.left ≡ link.left → after.written ≡ link.written → HasBroken users told start next before after turns
   broke r wire moment on begins x dated left written =
-      let number : now.number ≡ start.number = ap (λ (p : PassState Entry (List User)). p.number) on in
+      let number : now.number ≡ start.number = ap (λ (p : PassState Entry Users). p.number) on in
       let some = answered_before stream rest behind r.answers wire r.spelled r.still_open begins in
       record {
         stream = stream;
@@ -219,7 +219,7 @@ module _ (users : List User) (told : Option ℤ) (start now next : PassState Ent
 
 -- A front of the reply to a fault was written
 
-pub refused_in_part : (users : List User) (told : Option ℤ) (start now : PassState Entry (List User)) (before link after : LinkTold) (turns : List Served) (stream rest : List ℕ) (why : WireFault) (moment : ℤ) (how : How)
+pub refused_in_part : (users : Users) (told : Option ℤ) (start now : PassState Entry Users) (before link after : LinkTold) (turns : List Served) (stream rest : List ℕ) (why : WireFault) (moment : ℤ) (how : How)
     → IsReached users told start now before link turns stream rest → front rest ≡ fault why → IsToldMoment told moment → after.left ≡ link.left
     → IsSent (fault_octets why moment) link.written after.written link.faults after.faults (Some how) → link.faults ≤ after.faults → HasServed users told start now before after turns how
 refused_in_part users told start now before link after turns stream rest why moment how r is dated left sent falls = by_how how sent
@@ -263,7 +263,7 @@ refused_in_part users told start now before link after turns stream rest why mom
 
 -- What is due
 
-module _ (users : List User) (told : Option ℤ) (start now : PassState Entry (List User)) (before link : LinkTold) (turns : List Served) where
+module _ (users : Users) (told : Option ℤ) (start now : PassState Entry Users) (before link : LinkTold) (turns : List Served) where
   -- an open connection has room for a further request
   pub few_yet : (stream rest : List ℕ) → IsReached users told start now before link turns stream rest → length turns < request_limit
   few_yet stream rest r =

@@ -13,7 +13,7 @@ use Rattle.cal_model.specs.Serving.EventReplies.{reply_to}
 use Rattle.cal_model.specs.Serving.Outcomes.{is_reading}
 use Rattle.cal_model.specs.Sight.LookingAlike.{LookAlike}
 use Rattle.cal_model.specs.State.ServerState.{ServerState}
-use Rattle.cal_model.specs.Users.UsersFile.{User}
+use Rattle.cal_model.specs.Users.UsersFile.{Users}
 use Rattle.cal_book.specs.Cores.{Core, directory_in, state_in}
 use Rattle.cal_book.specs.Desks.{IfReply, WhereBroken, IsLeftBroken}
 use Rattle.cal_book.specs.EventSteps.{entries_made, journal_after, state_behind, work_after}
@@ -43,12 +43,12 @@ told_by_journal R S old new event (Broken fault) false is work busy alike left k
     by_left (inr made) = inr (ap (λ w. w.journal) made.0)
 
 module _ (author : Entry → ℕ) (law : (e : Entry) → author e ≡ e.session) where
-  made_own : (users : List User) (journal : List Entry) (event : Event) (number : ℕ) → event.session ≡ number → AllByRecursion (λ e. author e ≡ number) (entries_made users (state_behind users journal) event)
+  made_own : (users : Users) (journal : List Entry) (event : Event) (number : ℕ) → event.session ≡ number → AllByRecursion (λ e. author e ≡ number) (entries_made users (state_behind users journal) event)
   made_own users journal event number same =
       all_as (λ (e : Entry). e.session ≡ event.session) (λ (e : Entry). author e ≡ number) (entries_made users (state_behind users journal) event) (λ e h. law e ∙ (h ∙ same)) (own_made users (state_behind users journal) event)
 
   -- so what a turn adds bears the session's number
-  pub told_own : {X : Type 0} (users : List User) (journal : List Entry) (event : Event) (told : Told X) (number : ℕ) (after : List Entry) → event.session ≡ number → IsTold users journal event told after → IsFollowedByOwn author number journal after
+  pub told_own : {X : Type 0} (users : Users) (journal : List Entry) (event : Event) (told : Told X) (number : ℕ) (after : List Entry) → event.session ≡ number → IsTold users journal event told after → IsFollowedByOwn author number journal after
   told_own users journal event (Reply reply) number after same t = by_status (eqb_tells reply.status 503)
     where
       by_status : ((eqb reply.status 503 ≡ true) × (reply.status ≡ 503)) ⊎ ((eqb reply.status 503 ≡ false) × (reply.status ≢ 503)) → IsFollowedByOwn author number journal after

@@ -12,7 +12,7 @@ use Rattle.cal_model.specs.History.Journal.{Entry}
 use Rattle.cal_model.specs.Requests.AskedRequests.{asked, asked_of}
 use Rattle.cal_model.specs.Requests.BookableRequests.{IsBookable}
 use Rattle.cal_model.specs.State.ServerState.{directory_of}
-use Rattle.cal_model.specs.Users.UsersFile.{User}
+use Rattle.cal_model.specs.Users.UsersFile.{Users}
 use Rattle.cal_book.specs.EventSteps.{state_behind}
 use Rattle.cal_book.specs.ReplyReasons.{HasReason, RepliesHaveReasons}
 use Rattle.cal_book.specs.declared.desk.Told.TheVariants.{Reply}
@@ -23,10 +23,10 @@ within_one : (b : Bool) (a : Answer) → IsWithin (map (λ (answer : Answer). an
 within_one true a = inl (refl, tt)
 within_one false a = tt
 
-looks_once : (users : List User) (before after : List ℕ) (a : Answer) → after ≡ before ++ a.turn.at ∷ [] → LooksUp users before (a ∷ []) after
+looks_once : (users : Users) (before after : List ℕ) (a : Answer) → after ≡ before ++ a.turn.at ∷ [] → LooksUp users before (a ∷ []) after
 looks_once users before after a grown = record { looks = a.turn.at ∷ []; grown = grown; within = within_one (is_given users a) a }
 
-module _ (users : List User) (pass now : PassState Entry (List User)) (wire : WireRequest) (moment : ℤ) where
+module _ (users : Users) (pass now : PassState Entry Users) (wire : WireRequest) (moment : ℤ) where
   -- by the desk
   pub replied : (who : ℕ) (request : Request) (at : ℕ) (reply : ReplyData) → asked_of users wire ≡ asked who request → {X : Type 0} → AskedAt {X = X} users pass at (event_of pass.number who moment request) (Reply reply) now.seen
       → now.looks ≡ pass.looks ++ at ∷ [] → AnsweredAt users pass now (answer_of wire moment (at, reply))

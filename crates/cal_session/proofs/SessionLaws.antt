@@ -17,7 +17,7 @@ use Rattle.cal_model.proofs.Streams.ReadingLaws.{streams_are_read, streams_grow}
 use Rattle.http_wire.specs.Wires.{Stands}
 use Rattle.http_wire.specs.declared.wire.Wire.{Wire}
 use Rattle.cal_model.specs.Transcripts.ConnectionAnswers.{is_open}
-use Rattle.cal_model.specs.Users.UsersFile.{User}
+use Rattle.cal_model.specs.Users.UsersFile.{Users}
 use Rattle.cal_session.specs.AskedTurns.{AnsweredAt}
 use Rattle.cal_session.specs.Connections.{requests_of, replies_of, AnsweredAll, AnsweredSome, IsFrontOfReplies}
 use Rattle.cal_session.specs.Sessions.{LinkTold, HasRun, HasServed, MetEnd}
@@ -31,14 +31,14 @@ use Rattle.cal_session.proofs.StreamLemmas.{open_parts, served_front, served_ope
 use Rattle.cal_session.proofs.TurnLaws.{session_later, one_here}
 
 -- the pass is that of the start, with more seen
-abbrev pub IsOn : PassState Entry (List User) → PassState Entry (List User) → Type 0
+abbrev pub IsOn : PassState Entry Users → PassState Entry Users → Type 0
 IsOn start now = now ≡ record start { seen = now.seen; looks = now.looks }
 
-module _ (users : List User) (told : Option ℤ) (start now next : PassState Entry (List User)) where
+module _ (users : Users) (told : Option ℤ) (start now next : PassState Entry Users) where
   -- one answer more in the session
   pub session_more : (answers : List Answer) (a : Answer) → IsOn start now → IsSession users start.number start.seen answers now.seen → AnsweredAt users now next a → IsSession users start.number start.seen (answers ++ a ∷ []) next.seen
   session_more answers a on s x =
-      let number : now.number ≡ start.number = ap (λ (p : PassState Entry (List User)). p.number) on in
+      let number : now.number ≡ start.number = ap (λ (p : PassState Entry Users). p.number) on in
       let at : IsSession users now.number start.seen (answers ++ a ∷ []) next.seen =
       subst (IsSession users now.number start.seen (answers ++ a ∷ [])) (sym x.seen)
       (one_here users now.number start.seen answers x.journal a
@@ -134,7 +134,7 @@ rose_since first second third h g (inr full) = by_order (order second first)
 
 -- Reading
 
-module _ (users : List User) (told : Option ℤ) (start now : PassState Entry (List User)) (before link after : LinkTold) (turns : List Served) where
+module _ (users : Users) (told : Option ℤ) (start now : PassState Entry Users) (before link after : LinkTold) (turns : List Served) where
   -- more was taken, and nothing written
   run_taken : (stream piece : List ℕ) (answers : List Answer) (printed : List ℕ) → HasRun users told start now before link turns stream answers printed → Takes link.left piece after.left → after.written ≡ link.written
       → HasRun users told start now before after turns (stream ++ piece) answers printed

@@ -5,7 +5,7 @@ use Rattle.turn_lock.specs.Passes.{PassState}
 use Rattle.http_wire.specs.Wires.{Stands}
 use Rattle.http_wire.specs.declared.wire.Wire.{Wire}
 use Rattle.cal_model.specs.History.Journal.{Entry}
-use Rattle.cal_model.specs.Users.UsersFile.{User}
+use Rattle.cal_model.specs.Users.UsersFile.{Users}
 use Rattle.cal_session.specs.Connections.{replies_of}
 use Rattle.cal_session.specs.Sessions.{LinkTold, HasRun, HasServed, HasServedOn}
 use Rattle.cal_session.specs.UnderWay.{IsUnderWay, StopsSo, IsEndWith}
@@ -18,7 +18,7 @@ use Rattle.cal_session.proofs.SessionLaws.{IsOn, answered_some, all_front}
 use Rattle.cal_session.proofs.StepLemmas.{adds_none, takes_none, looks_none}
 use Rattle.cal_session.proofs.TurnLaws.{none_yet}
 
-module _ (users : List User) (told : Option ℤ) (start : PassState Entry (List User)) (link : LinkTold) where
+module _ (users : Users) (told : Option ℤ) (start : PassState Entry Users) (link : LinkTold) where
   nothing_ran : HasRun users told start start link link [] [] [] (replies_of [])
   nothing_ran = record {
     taken = takes_none link.left;
@@ -45,11 +45,11 @@ module _ (users : List User) (told : Option ℤ) (start : PassState Entry (List 
       record { stream = []; answers = []; printed = replies_of []; run = nothing_ran; ended = record { missing = some.0; answered = some.1; front = inl (all_front []) } }
 
 -- a session that stopped so has ended so, with the turns that were noted
-pub ended_on : {X : Type 0} (users : List User) (told : Option ℤ) (start now : PassState Entry (List User)) (before after : LinkTold) (turns : List Served) (stop : Stop X) (end : OnEnd X)
+pub ended_on : {X : Type 0} (users : Users) (told : Option ℤ) (start now : PassState Entry Users) (before after : LinkTold) (turns : List Served) (stop : Stop X) (end : OnEnd X)
     → StopsSo users told start now before after turns stop → IsEndWith stop turns end → HasServedOn users told start now before after end
 ended_on users told start now before after turns (Ended how) end stops is = subst (HasServedOn users told start now before after) (sym is) stops
 ended_on users told start now before after turns (Broken fault) end stops is = subst (HasServedOn users told start now before after) (sym is) stops
 
 -- what a pass knows goes on in two steps as in one
-pub on_further : (start now next : PassState Entry (List User)) → IsOn start now → IsOn now next → IsOn start next
-on_further start now next h g = g ∙ ap (λ (p : PassState Entry (List User)). record p { seen = next.seen; looks = next.looks }) h
+pub on_further : (start now next : PassState Entry Users) → IsOn start now → IsOn now next → IsOn start next
+on_further start now next h g = g ∙ ap (λ (p : PassState Entry Users). record p { seen = next.seen; looks = next.looks }) h

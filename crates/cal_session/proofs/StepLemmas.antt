@@ -5,7 +5,7 @@ use Rattle.std.proofs.lemmas.List.{append-nil, append_assoc}
 use Rattle.std.proofs.lemmas.List.Elements.{filter-append}
 use Rattle.cal_base.specs.World.Outside.{Takes, Adds}
 use Rattle.cal_model.specs.Replies.WireReplies.{answer_octets}
-use Rattle.cal_model.specs.Users.UsersFile.{User}
+use Rattle.cal_model.specs.Users.UsersFile.{Users}
 use Rattle.cal_session.specs.Connections.{replies_from, replies_of}
 use Rattle.cal_session.specs.Turns.{Answer, is_given, places_given, IsWithin, LooksUp}
 
@@ -66,15 +66,15 @@ map_both : (xs ys : List Answer) → map (λ (answer : Answer). answer.turn.at) 
 map_both [] ys = refl
 map_both (x ∷ xs) ys = ap (λ l. x.turn.at ∷ l) (map_both xs ys)
 
-places_both : (users : List User) (xs ys : List Answer) → places_given users (xs ++ ys) ≡ places_given users xs ++ places_given users ys
+places_both : (users : Users) (xs ys : List Answer) → places_given users (xs ++ ys) ≡ places_given users xs ++ places_given users ys
 places_both users xs ys = ap (λ l. map (λ (answer : Answer). answer.turn.at) l) (filter-append (is_given users) xs ys) ∙ map_both (filter (is_given users) xs) (filter (is_given users) ys)
 
-pub looks_on : (users : List User) (before now after : List ℕ) (answers more : List Answer) → LooksUp users before answers now → LooksUp users now more after → LooksUp users before (answers ++ more) after
+pub looks_on : (users : Users) (before now after : List ℕ) (answers more : List Answer) → LooksUp users before answers now → LooksUp users now more after → LooksUp users before (answers ++ more) after
 looks_on users before now after answers more h g = record {
   looks = h.looks ++ g.looks;
   grown = g.grown ∙ (ap (λ l. l ++ g.looks) h.grown ∙ append_assoc before h.looks g.looks);
   within = subst (λ l. IsWithin l (h.looks ++ g.looks)) (sym (places_both users answers more)) (within_both h.looks (places_given users answers) g.looks (places_given users more) h.within g.within);
 }
 
-pub looks_none : (users : List User) (looks : List ℕ) → LooksUp users looks [] looks
+pub looks_none : (users : Users) (looks : List ℕ) → LooksUp users looks [] looks
 looks_none users looks = record { looks = []; grown = sym (append-nil looks); within = tt }

@@ -17,7 +17,7 @@ use Rattle.cal_model.specs.Requests.AskedRequests.{Asked, refused, asked, asked_
 use Rattle.cal_model.specs.Serving.Outcomes.{Outcome, accepted, unchanged, outcome}
 use Rattle.cal_model.specs.State.Changes.{Change, change_of}
 use Rattle.cal_model.specs.State.ServerState.{ServerState, directory_of}
-use Rattle.cal_model.specs.Users.UsersFile.{User}
+use Rattle.cal_model.specs.Users.UsersFile.{Users}
 use Rattle.cal_book.specs.EventSteps.{entries_by as entries_of_outcome, entries_made, state_behind}
 use Rattle.cal_session.specs.declared.served.Served.{Served}
 use Rattle.cal_session.specs.Turns.{Answer, event_of, reply_in, entries_in, IsAlike, is_busy, state_at, entries_of, IsAnswered, Rises, all_entries_of, IsSession}
@@ -53,10 +53,10 @@ own_by event None (unchanged reply) = tt
 own_by event (Some change) (accepted status after) = (refl, tt)
 own_by event (Some change) (unchanged reply) = tt
 
-pub own_made : (users : List User) (state : ServerState) (event : Event) → AllByRecursion (λ (e : Entry). e.session ≡ event.session) (entries_made users state event)
+pub own_made : (users : Users) (state : ServerState) (event : Event) → AllByRecursion (λ (e : Entry). e.session ≡ event.session) (entries_made users state event)
 own_made users state event = own_by event (change_of (directory_of users) event.request) (outcome (directory_of users) state event)
 
-own_in : (users : List User) (number : ℕ) (state : ServerState) (moment : ℤ) (what : Asked) → AllByRecursion (λ (e : Entry). e.session ≡ number) (entries_in users number state moment what)
+own_in : (users : Users) (number : ℕ) (state : ServerState) (moment : ℤ) (what : Asked) → AllByRecursion (λ (e : Entry). e.session ≡ number) (entries_in users number state moment what)
 own_in users number state moment (refused reply) = tt
 own_in users number state moment (asked who request) = own_made users state (event_of number who moment request)
 
@@ -75,7 +75,7 @@ drops_others number gone (e ∷ es) h = ap (λ b. if b then e ∷ entries_by ses
     other : (e : Entry) → times e.session (number ∷ gone) ≡ 0 → e.session ≡ number → ⊥
     other e none same = let one : as_one (eqb number e.session) ≡ 1 = ap as_one (eq-eqb number e.session (sym same)) in omega (arith, none, one)
 
-module _ (users : List User) (number : ℕ) where
+module _ (users : Users) (number : ℕ) where
   -- In a longer journal
 
   same_state : (journal more : List Entry) (turn : Served) → turn.at ≤ length journal → state_at users number (journal ++ more) turn ≡ state_at users number journal turn

@@ -11,7 +11,7 @@ use Rattle.cal_model.specs.Requests.AskedRequests.{asked_of}
 use Rattle.cal_model.specs.Streams.StreamRequests.{Ending, ends_idle, ends_cut, ends_at}
 use Rattle.cal_model.specs.Streams.WireLimits.{request_limit}
 use Rattle.cal_model.specs.Transcripts.ConnectionAnswers.{is_open}
-use Rattle.cal_model.specs.Users.UsersFile.{User}
+use Rattle.cal_model.specs.Users.UsersFile.{Users}
 use Rattle.cal_book.specs.EventSteps.{state_behind}
 use Rattle.cal_session.specs.Connections.{requests_of, AnsweredAll, AnsweredSome, replies_of, IsFrontOfReplies}
 use Rattle.cal_session.specs.Turns.{Answer, IsSession, LooksUp, AreToldMoments, IsToldMoment, entries_in}
@@ -98,7 +98,7 @@ EndsSo NoMemory told stream answers printed before after = IsCutShort told strea
 -- What it did
 
 -- the answers belong to the turns, and the octets that were taken and written are those
-pub record HasRun (users : List User) (told : Option ℤ) (pass now : PassState Entry (List User)) (before after : LinkTold) (turns : List Served) (stream : List ℕ) (answers : List Answer) (printed : List ℕ) : Type 0 where
+pub record HasRun (users : Users) (told : Option ℤ) (pass now : PassState Entry Users) (before after : LinkTold) (turns : List Served) (stream : List ℕ) (answers : List Answer) (printed : List ℕ) : Type 0 where
   pub taken : Takes before.left stream after.left
   pub turns_are : turns ≡ map (λ (answer : Answer). answer.turn) answers
   pub session : IsSession users pass.number pass.seen answers now.seen
@@ -107,7 +107,7 @@ pub record HasRun (users : List User) (told : Option ℤ) (pass now : PassState 
   pub written : Adds before.written printed after.written
 
 -- a session that ended
-pub record HasServed (users : List User) (told : Option ℤ) (pass now : PassState Entry (List User)) (before after : LinkTold) (turns : List Served) (how : How) : Type 0 where
+pub record HasServed (users : Users) (told : Option ℤ) (pass now : PassState Entry Users) (before after : LinkTold) (turns : List Served) (how : How) : Type 0 where
   pub stream : List ℕ
   pub answers : List Answer
   pub printed : List ℕ
@@ -115,7 +115,7 @@ pub record HasServed (users : List User) (told : Option ℤ) (pass now : PassSta
   pub ended : EndsSo how told stream answers printed before after
 
 -- One whose desk broke when it was asked: the request's reply was not written, and its turn is not noted. What the desk kept of it is nothing, or the entry of its accepted change, behind what the pass had seen in that turn.
-pub record HasBroken (users : List User) (told : Option ℤ) (pass now : PassState Entry (List User)) (before after : LinkTold) (turns : List Served) : Type 0 where
+pub record HasBroken (users : Users) (told : Option ℤ) (pass now : PassState Entry Users) (before after : LinkTold) (turns : List Served) : Type 0 where
   pub stream : List ℕ
   pub answers : List Answer
   pub seen : List Entry
@@ -128,6 +128,6 @@ pub record HasBroken (users : List User) (told : Option ℤ) (pass now : PassSta
   pub kept : (now.seen ≡ seen) ⊎ (now.seen ≡ seen ++ entries_in users pass.number (state_behind users seen) moment (asked_of users wire))
 
 -- Over any desk.
-abbrev pub HasServedOn : {X : Type 0} → List User → Option ℤ → PassState Entry (List User) → PassState Entry (List User) → LinkTold → LinkTold → OnEnd X → Type 0
+abbrev pub HasServedOn : {X : Type 0} → Users → Option ℤ → PassState Entry Users → PassState Entry Users → LinkTold → LinkTold → OnEnd X → Type 0
 HasServedOn users told pass now before after (Ended ended) = HasServed users told pass now before after ended.turns ended.how
 HasServedOn users told pass now before after (Broken fault turns) = HasBroken users told pass now before after turns

@@ -14,7 +14,7 @@ use Rattle.cal_model.specs.Serving.EventReplies.{reply_to}
 use Rattle.cal_model.specs.Serving.Outcomes.{is_reading}
 use Rattle.cal_model.specs.Sight.LookingAlike.{LookAlike}
 use Rattle.cal_model.specs.State.ServerState.{ServerState, directory_of}
-use Rattle.cal_model.specs.Users.UsersFile.{User}
+use Rattle.cal_model.specs.Users.UsersFile.{Users}
 use Rattle.cal_book.specs.EventSteps.{entries_made, state_behind}
 use Rattle.cal_session.specs.declared.served.Served.{Served}
 
@@ -25,17 +25,17 @@ abbrev pub event_of : ℕ → ℕ → ℤ → Request → Event
 event_of number who moment request = record { session = number; who = who; moment = moment; request = request }
 
 -- the reply to what is asked, in a state: a request that is refused before any state is looked at has that refusal
-abbrev pub reply_in : List User → ℕ → ServerState → ℤ → Asked → Reply
+abbrev pub reply_in : Users → ℕ → ServerState → ℤ → Asked → Reply
 reply_in users number state moment (refused reply) = reply
 reply_in users number state moment (asked who request) = reply_to (directory_of users) state (event_of number who moment request)
 
 -- the entries that it makes there: one, where it is an accepted change
-abbrev pub entries_in : List User → ℕ → ServerState → ℤ → Asked → List Entry
+abbrev pub entries_in : Users → ℕ → ServerState → ℤ → Asked → List Entry
 entries_in users number state moment (refused reply) = []
 entries_in users number state moment (asked who request) = entries_made users state (event_of number who moment request)
 
 -- what only reads has that reply in each state that looks alike to who asks
-abbrev pub IsAlike : List User → ℕ → ServerState → ℤ → Asked → Reply → Type 0
+abbrev pub IsAlike : Users → ℕ → ServerState → ℤ → Asked → Reply → Type 0
 IsAlike users number state moment (refused reply) given = Unit {0}
 IsAlike users number state moment (asked who request) given =
     is_reading request.method ≡ true → given.status ≢ 503 → (other : ServerState) → LookAlike (directory_of users) state other who
@@ -58,7 +58,7 @@ abbrev pub IsOfBook : Asked → Type 0
 IsOfBook (refused reply) = ⊥
 IsOfBook (asked who request) = Unit {0}
 
-module _ (users : List User) (number : ℕ) where
+module _ (users : Users) (number : ℕ) where
   -- the state in which a turn is answered
   abbrev pub state_at : List Entry → Served → ServerState
   state_at journal turn = state_behind users (take turn.at journal)
@@ -97,10 +97,10 @@ module _ (users : List User) (number : ℕ) where
 -- Turns of the lock
 
 -- the places of the answers that the book gave, in order: those of requests which no refusal of their own shape answers, 503 aside
-abbrev pub is_given : List User → Answer → Bool
+abbrev pub is_given : Users → Answer → Bool
 is_given users answer = elim (asked_of users answer.wire) [ refused reply ↦ false | asked who request ↦ not (is_busy answer.reply) ]
 
-abbrev pub places_given : List User → List Answer → List ℕ
+abbrev pub places_given : Users → List Answer → List ℕ
 places_given users answers = map (λ (answer : Answer). answer.turn.at) (filter (is_given users) answers)
 
 -- a list within another, in order
@@ -110,7 +110,7 @@ IsWithin (x ∷ xs) [] = ⊥
 IsWithin (x ∷ xs) (y ∷ ys) = ((x ≡ y) × IsWithin xs ys) ⊎ IsWithin (x ∷ xs) ys
 
 -- so each answer that the book gave was given in a turn of the lock, at that turn's journal
-pub record LooksUp (users : List User) (before : List ℕ) (answers : List Answer) (after : List ℕ) : Type 0 where
+pub record LooksUp (users : Users) (before : List ℕ) (answers : List Answer) (after : List ℕ) : Type 0 where
   pub looks : List ℕ
   pub grown : after ≡ before ++ looks
   pub within : IsWithin (places_given users answers) looks

@@ -7,7 +7,7 @@ use Rattle.turn_lock.specs.Passes.{PassState}
 use Rattle.cal_model.specs.History.Journal.{Entry}
 use Rattle.cal_model.specs.Streams.StreamRequests.{Spells, Front, front, idle, cut}
 use Rattle.cal_model.specs.Transcripts.ConnectionAnswers.{is_open}
-use Rattle.cal_model.specs.Users.UsersFile.{User}
+use Rattle.cal_model.specs.Users.UsersFile.{Users}
 use Rattle.cal_session.specs.Connections.{requests_of, replies_of}
 use Rattle.cal_session.specs.Sessions.{LinkTold, HasRun, HasServed, HasBroken}
 use Rattle.cal_session.specs.Turns.{Answer}
@@ -22,21 +22,21 @@ use Rattle.cal_session.specs.declared.answering.Stop.{Stop}
 use Rattle.cal_session.specs.declared.answering.Stop.TheVariants.{Ended, Broken}
 
 -- these requests were answered, all their replies written, and what is left stands behind them
-pub record IsReached (users : List User) (told : Option ℤ) (pass now : PassState Entry (List User)) (before after : LinkTold) (turns : List Served) (stream rest : List ℕ) : Type 0 where
+pub record IsReached (users : Users) (told : Option ℤ) (pass now : PassState Entry Users) (before after : LinkTold) (turns : List Served) (stream rest : List ℕ) : Type 0 where
   pub answers : List Answer
   pub run : HasRun users told pass now before after turns stream answers (replies_of answers)
   pub still_open : is_open (requests_of answers) ≡ true
   pub spelled : Spells stream (requests_of answers) rest
   pub faults : before.faults ≤ after.faults
 
-pub record IsUnderWay (users : List User) (told : Option ℤ) (pass now : PassState Entry (List User)) (before after : LinkTold) (turns : List Served) (wire : Wire) : Type 0 where
+pub record IsUnderWay (users : Users) (told : Option ℤ) (pass now : PassState Entry Users) (before after : LinkTold) (turns : List Served) (wire : Wire) : Type 0 where
   pub stream : List ℕ
   pub rest : List ℕ
   pub reached : IsReached users told pass now before after turns stream rest
   pub stands : Stands rest wire
 
 -- and what is left begins no further request, and shows no fault
-pub record IsWaiting (users : List User) (told : Option ℤ) (pass now : PassState Entry (List User)) (before after : LinkTold) (turns : List Served) (wire : Wire) : Type 0 where
+pub record IsWaiting (users : Users) (told : Option ℤ) (pass now : PassState Entry Users) (before after : LinkTold) (turns : List Served) (wire : Wire) : Type 0 where
   pub stream : List ℕ
   pub rest : List ℕ
   pub reached : IsReached users told pass now before after turns stream rest
@@ -44,7 +44,7 @@ pub record IsWaiting (users : List User) (told : Option ℤ) (pass now : PassSta
   pub waits : (front rest ≡ idle) ⊎ (front rest ≡ cut)
 
 -- a session that stops there has ended so
-abbrev pub StopsSo : {X : Type 0} → List User → Option ℤ → PassState Entry (List User) → PassState Entry (List User) → LinkTold → LinkTold → List Served → Stop X → Type 0
+abbrev pub StopsSo : {X : Type 0} → Users → Option ℤ → PassState Entry Users → PassState Entry Users → LinkTold → LinkTold → List Served → Stop X → Type 0
 StopsSo users told pass now before after turns (Ended how) = HasServed users told pass now before after turns how
 StopsSo users told pass now before after turns (Broken fault) = HasBroken users told pass now before after turns
 

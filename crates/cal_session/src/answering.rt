@@ -5,7 +5,7 @@ ghost use Rattle.cal_model.specs.History.Journal.{Entry};
 ghost use Rattle.cal_model.specs.Replies.Statuses.{reason};
 ghost use Rattle.cal_model.specs.Streams.StreamRequests.{Begins, front, fault};
 ghost use Rattle.cal_model.specs.Streams.WireLimits.{body_limit, request_limit};
-ghost use Rattle.cal_model.specs.Users.UsersFile.{User};
+ghost use Rattle.cal_model.specs.Users.UsersFile.{Users};
 ghost use Rattle.cal_session.specs.AskedTurns.{EndsAt};
 ghost use Rattle.cal_session.specs.Sessions.{LinkTold, HasServed};
 ghost use Rattle.cal_session.specs.WrittenReplies.{GoesOnBehind};
@@ -49,10 +49,10 @@ pub(crate) fn answer_due<B: Desk, L: Link, C: Clock, R: Wait, G: Ledger>(
     requires free { pass.old.holds_turn ≡ false }
     requires base { pass.old.base ≡ Some hall.now.users.now }
     requires room { request_limit ≤ length turns.old.items + turns.old.room }
-    requires under_way { (start : PassState Entry (List User)) × (before : LinkTold) × (pass.old ≡ record start { seen = pass.old.seen; looks = pass.old.looks }) × IsUnderWay hall.now.users.now (C.moment clock.old) start pass.old before (record { faults = L.faults link.old; left = L.left link.old; written = L.written link.old }) turns.old.items wire.old }
+    requires under_way { (start : PassState Entry Users) × (before : LinkTold) × (pass.old ≡ record start { seen = pass.old.seen; looks = pass.old.looks }) × IsUnderWay hall.now.users.now (C.moment clock.old) start pass.old before (record { faults = L.faults link.old; left = L.left link.old; written = L.written link.old }) turns.old.items wire.old }
     ensures pass { pass.new ≡ record pass.old { seen = pass.new.seen; looks = pass.new.looks } }
     ensures room { length turns.new.items + turns.new.room ≡ length turns.old.items + turns.old.room }
-    ensures session { (start : PassState Entry (List User)) (before : LinkTold) → pass.old ≡ record start { seen = pass.old.seen; looks = pass.old.looks } → IsUnderWay hall.now.users.now (C.moment clock.old) start pass.old before (record { faults = L.faults link.old; left = L.left link.old; written = L.written link.old }) turns.old.items wire.old → GoesOnOrStops (IsWaiting hall.now.users.now (C.moment clock.old) start pass.new before (record { faults = L.faults link.new; left = L.left link.new; written = L.written link.new }) turns.new.items wire.new) (StopsSo hall.now.users.now (C.moment clock.old) start pass.new before (record { faults = L.faults link.new; left = L.left link.new; written = L.written link.new }) turns.new.items) result }
+    ensures session { (start : PassState Entry Users) (before : LinkTold) → pass.old ≡ record start { seen = pass.old.seen; looks = pass.old.looks } → IsUnderWay hall.now.users.now (C.moment clock.old) start pass.old before (record { faults = L.faults link.old; left = L.left link.old; written = L.written link.old }) turns.old.items wire.old → GoesOnOrStops (IsWaiting hall.now.users.now (C.moment clock.old) start pass.new before (record { faults = L.faults link.new; left = L.left link.new; written = L.written link.new }) turns.new.items wire.new) (StopsSo hall.now.users.now (C.moment clock.old) start pass.new before (record { faults = L.faults link.new; left = L.left link.new; written = L.written link.new }) turns.new.items) result }
     ensures clock { C.moment clock.new ≡ C.moment clock.old }
     ensures allowance { L.allowance link.new ≡ L.allowance link.old }
     ensures never_falls { L.faults link.old ≤ L.faults link.new }
@@ -93,7 +93,7 @@ fn answer_next<B: Desk, L: Link, C: Clock, R: Wait, G: Ledger>(
     requires stands { (octets : List ℕ) × Stands octets wire.old }
     ensures pass { pass.new ≡ record pass.old { seen = pass.new.seen; looks = pass.new.looks } }
     ensures room { length turns.new.items + turns.new.room ≡ length turns.old.items + turns.old.room }
-    ensures session { (start : PassState Entry (List User)) (before : LinkTold) → pass.old ≡ record start { seen = pass.old.seen; looks = pass.old.looks } → IsUnderWay hall.now.users.now (C.moment clock.old) start pass.old before (record { faults = L.faults link.old; left = L.left link.old; written = L.written link.old }) turns.old.items wire.old → ComesTo (IsUnderWay hall.now.users.now (C.moment clock.old) start pass.new before (record { faults = L.faults link.new; left = L.left link.new; written = L.written link.new }) turns.new.items wire.new) (IsWaiting hall.now.users.now (C.moment clock.old) start pass.new before (record { faults = L.faults link.new; left = L.left link.new; written = L.written link.new }) turns.new.items wire.new) (StopsSo hall.now.users.now (C.moment clock.old) start pass.new before (record { faults = L.faults link.new; left = L.left link.new; written = L.written link.new }) turns.new.items) result }
+    ensures session { (start : PassState Entry Users) (before : LinkTold) → pass.old ≡ record start { seen = pass.old.seen; looks = pass.old.looks } → IsUnderWay hall.now.users.now (C.moment clock.old) start pass.old before (record { faults = L.faults link.old; left = L.left link.old; written = L.written link.old }) turns.old.items wire.old → ComesTo (IsUnderWay hall.now.users.now (C.moment clock.old) start pass.new before (record { faults = L.faults link.new; left = L.left link.new; written = L.written link.new }) turns.new.items wire.new) (IsWaiting hall.now.users.now (C.moment clock.old) start pass.new before (record { faults = L.faults link.new; left = L.left link.new; written = L.written link.new }) turns.new.items wire.new) (StopsSo hall.now.users.now (C.moment clock.old) start pass.new before (record { faults = L.faults link.new; left = L.left link.new; written = L.written link.new }) turns.new.items) result }
     ensures longer { IfAnswered result (length turns.new.items ≡ length turns.old.items + 1) }
     ensures clock { C.moment clock.new ≡ C.moment clock.old }
     ensures allowance { L.allowance link.new ≡ L.allowance link.old }
@@ -121,7 +121,7 @@ fn refuse<B: Desk, L: Link, C: Clock, R>(
     link: &mut L,
     clock: &mut C,
 ) -> How
-    ensures session { (start now : PassState Entry (List User)) (before : LinkTold) (turns : List Served) (stream rest : List ℕ) → IsReached hall.now.users.now (C.moment clock.old) start now before (record { faults = L.faults link.old; left = L.left link.old; written = L.written link.old }) turns stream rest → front rest ≡ fault why → HasServed hall.now.users.now (C.moment clock.old) start now before (record { faults = L.faults link.new; left = L.left link.new; written = L.written link.new }) turns result }
+    ensures session { (start now : PassState Entry Users) (before : LinkTold) (turns : List Served) (stream rest : List ℕ) → IsReached hall.now.users.now (C.moment clock.old) start now before (record { faults = L.faults link.old; left = L.left link.old; written = L.written link.old }) turns stream rest → front rest ≡ fault why → HasServed hall.now.users.now (C.moment clock.old) start now before (record { faults = L.faults link.new; left = L.left link.new; written = L.written link.new }) turns result }
     ensures clock { C.moment clock.new ≡ C.moment clock.old }
     ensures allowance { L.allowance link.new ≡ L.allowance link.old }
     ensures never_falls { L.faults link.old ≤ L.faults link.new }
@@ -151,7 +151,7 @@ fn answer_request<B: Desk, L: Link, C: Clock, R: Wait, G: Ledger>(
     requires room { 0 < turns.old.room }
     ensures pass { pass.new ≡ record pass.old { seen = pass.new.seen; looks = pass.new.looks } }
     ensures room { length turns.new.items + turns.new.room ≡ length turns.old.items + turns.old.room }
-    ensures session { (start : PassState Entry (List User)) (before : LinkTold) (stream rest behind : List ℕ) → pass.old ≡ record start { seen = pass.old.seen; looks = pass.old.looks } → IsReached hall.now.users.now (C.moment clock.old) start pass.old before (record { faults = L.faults link.old; left = L.left link.old; written = L.written link.old }) turns.old.items stream rest → Begins rest wire.now behind → GoesOnOrStops (IsReached hall.now.users.now (C.moment clock.old) start pass.new before (record { faults = L.faults link.new; left = L.left link.new; written = L.written link.new }) turns.new.items stream behind) (StopsSo hall.now.users.now (C.moment clock.old) start pass.new before (record { faults = L.faults link.new; left = L.left link.new; written = L.written link.new }) turns.new.items) result }
+    ensures session { (start : PassState Entry Users) (before : LinkTold) (stream rest behind : List ℕ) → pass.old ≡ record start { seen = pass.old.seen; looks = pass.old.looks } → IsReached hall.now.users.now (C.moment clock.old) start pass.old before (record { faults = L.faults link.old; left = L.left link.old; written = L.written link.old }) turns.old.items stream rest → Begins rest wire.now behind → GoesOnOrStops (IsReached hall.now.users.now (C.moment clock.old) start pass.new before (record { faults = L.faults link.new; left = L.left link.new; written = L.written link.new }) turns.new.items stream behind) (StopsSo hall.now.users.now (C.moment clock.old) start pass.new before (record { faults = L.faults link.new; left = L.left link.new; written = L.written link.new }) turns.new.items) result }
     ensures longer { OnOk result (length turns.new.items ≡ length turns.old.items + 1) }
     ensures clock { C.moment clock.new ≡ C.moment clock.old }
     ensures allowance { L.allowance link.new ≡ L.allowance link.old }

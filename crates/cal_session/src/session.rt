@@ -4,7 +4,7 @@ ghost use Rattle.cal_model.specs.History.Journal.{Entry, IsLegal};
 ghost use Rattle.cal_model.specs.State.ServerState.{directory_of};
 ghost use Rattle.cal_model.specs.Streams.StreamRequests.{front};
 ghost use Rattle.cal_model.specs.Streams.WireLimits.{request_limit};
-ghost use Rattle.cal_model.specs.Users.UsersFile.{User};
+ghost use Rattle.cal_model.specs.Users.UsersFile.{Users};
 ghost use Rattle.cal_session.specs.Sessions.{LinkTold, HasServed, HasServedOn};
 ghost use Rattle.cal_session.specs.UnderWay.{IsUnderWay, IsWaiting, GoesOnOrEnds, EndsAtEnd, StopsSo, IsEndWith};
 ghost use Rattle.http_wire.specs.Wires.{Stands};
@@ -185,7 +185,7 @@ fn take_piece<L: Link>(
     link: &mut L,
 ) -> Option<How>
     requires { 0 < length piece.old }
-    ensures session { (users : List User) (start now : PassState Entry (List User)) (told : Option ℤ) (before : LinkTold) (turns : List Served) → IsWaiting users told start now before (record { faults = L.faults link.old; left = L.left link.old; written = L.written link.old }) turns wire.old → GoesOnOrEnds (IsUnderWay users told start now before (record { faults = L.faults link.new; left = L.left link.new; written = L.written link.new }) turns wire.new) (HasServed users told start now before (record { faults = L.faults link.new; left = L.left link.new; written = L.written link.new }) turns) result }
+    ensures session { (users : Users) (start now : PassState Entry Users) (told : Option ℤ) (before : LinkTold) (turns : List Served) → IsWaiting users told start now before (record { faults = L.faults link.old; left = L.left link.old; written = L.written link.old }) turns wire.old → GoesOnOrEnds (IsUnderWay users told start now before (record { faults = L.faults link.new; left = L.left link.new; written = L.written link.new }) turns wire.new) (HasServed users told start now before (record { faults = L.faults link.new; left = L.left link.new; written = L.written link.new }) turns) result }
     ensures place { length piece.new ≡ length piece.old }
     ensures fewer { IsNone result → L.allowance link.new < L.allowance link.old }
     ensures never_falls { L.faults link.old ≤ L.faults link.new }

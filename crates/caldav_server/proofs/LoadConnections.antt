@@ -11,7 +11,7 @@ use Rattle.cal_model.specs.Replies.ReplyOctets.{reply_octets}
 use Rattle.cal_model.specs.Replies.WireReplies.{answer_octets}
 use Rattle.cal_model.specs.Streams.StreamRequests.{Ending, ends_idle, IsStream, up_to_close, served, closes_after}
 use Rattle.cal_model.specs.Streams.WireLimits.{request_limit}
-use Rattle.cal_model.specs.Users.UsersFile.{User}
+use Rattle.cal_model.specs.Users.UsersFile.{Users}
 use Rattle.cal_model.proofs.Streams.ReadingLaws.{streams_are_read, readings_agree, streams_grow}
 use Rattle.cal_session.specs.Connections.{requests_of, AnsweredAll, replies_from}
 use Rattle.cal_session.specs.Turns.{Answer}
@@ -42,20 +42,20 @@ served-going : (wires : List WireRequest) → GoOn wires → length wires ≤ re
 served-going wires going few = ap up_to_close (take_all request_limit wires few) ∙ up_to_close-going wires going
 
 -- all that are meant go on
-go_on-meant : (users : List User) (session : ℕ) (requests : List Request) (wires : List WireRequest) → AllZip (Means users session) requests wires → GoOn wires
+go_on-meant : (users : Users) (session : ℕ) (requests : List Request) (wires : List WireRequest) → AllZip (Means users session) requests wires → GoOn wires
 go_on-meant users session [] [] each = tt
 go_on-meant users session [] (wire ∷ wires) each = absurd each
 go_on-meant users session (request ∷ requests) [] each = absurd each
 go_on-meant users session (request ∷ requests) (wire ∷ wires) each = (each.0.goes_on, go_on-meant users session requests wires each.1)
 
-length-meant : (users : List User) (session : ℕ) (requests : List Request) (wires : List WireRequest) → AllZip (Means users session) requests wires → length wires ≡ length requests
+length-meant : (users : Users) (session : ℕ) (requests : List Request) (wires : List WireRequest) → AllZip (Means users session) requests wires → length wires ≡ length requests
 length-meant users session [] [] each = refl
 length-meant users session [] (wire ∷ wires) each = absurd each
 length-meant users session (request ∷ requests) [] each = absurd each
 length-meant users session (request ∷ requests) (wire ∷ wires) each = ap suc (length-meant users session requests wires each.1)
 
 -- as many answers as requests are answers to all of them
-pub all-answered : (users : List User) (session : ℕ) (requests : List Request) (octets stream left : List ℕ) (answers : List Answer) (ending : Ending)
+pub all-answered : (users : Users) (session : ℕ) (requests : List Request) (octets stream left : List ℕ) (answers : List Answer) (ending : Ending)
     → Spell users session requests octets → octets ≡ stream ++ left → AnsweredAll stream answers ending
     → length answers ≡ length requests → length requests ≤ request_limit → AllZip (Means users session) requests (requests_of answers)
 all-answered users session requests octets stream left answers ending spell parts done many few =
@@ -75,7 +75,7 @@ IsAtMoment answer = answer.turn.moment ≡ pos load_moment
 abbrev IsThere : Answer → Type 0
 IsThere answer = answer.reply.status ≢ 503
 
-pub each-answered : (users : List User) (session : ℕ) (requests : List Request) (answers : List Answer) → AllZip (Means users session) requests (requests_of answers)
+pub each-answered : (users : Users) (session : ℕ) (requests : List Request) (answers : List Answer) → AllZip (Means users session) requests (requests_of answers)
     → AllByRecursion IsAtMoment answers → AllByRecursion IsThere answers → AllZip (Answers users session) requests answers
 each-answered users session [] [] means moments there = tt
 each-answered users session [] (answer ∷ answers) means moments there = absurd means
@@ -88,14 +88,14 @@ each-answered users session (request ∷ requests) (answer ∷ answers) means mo
 nat_le-false : (a b : ℕ) → b < a → nat_le a b ≡ false
 nat_le-false a b less = grind arith
 
-octets-of : (users : List User) (session before : ℕ) (request : Request) (answer : Answer) → Answers users session request answer → before + 1 < request_limit
+octets-of : (users : Users) (session before : ℕ) (request : Request) (answer : Answer) → Answers users session request answer → before + 1 < request_limit
     → answer_octets before answer.wire answer.reply answer.turn.moment ≡ reply_octets answer.reply (pos load_moment) false false
 unfolding answer_octets
 octets-of users session before request answer is early =
     let closes : closes_after before answer.wire ≡ false = rw (is.means.goes_on, nat_le-false request_limit (before + 1) early) refl in
     λ i. reply_octets answer.reply (is.moment i) (closes i) (is.means.has_body i)
 
-pub replies_from-octets : (users : List User) (session before : ℕ) (requests : List Request) (answers : List Answer) → AllZip (Answers users session) requests answers
+pub replies_from-octets : (users : Users) (session before : ℕ) (requests : List Request) (answers : List Answer) → AllZip (Answers users session) requests answers
     → before + length answers < request_limit → replies_from before answers ≡ all_octets (replies_in answers)
 replies_from-octets users session before [] [] each few = refl
 replies_from-octets users session before [] (answer ∷ answers) each few = absurd each

@@ -16,7 +16,7 @@ use Rattle.cal_model.specs.Load.LoadSummary.{is_accepted}
 use Rattle.cal_model.specs.State.ServerState.{directory_of}
 use Rattle.cal_model.specs.Streams.StreamRequests.{Ending, ends_idle}
 use Rattle.cal_model.specs.Streams.WireLimits.{request_limit}
-use Rattle.cal_model.specs.Users.UsersFile.{User}
+use Rattle.cal_model.specs.Users.UsersFile.{Users}
 use Rattle.cal_session.specs.Connections.{AnsweredAll}
 use Rattle.cal_session.specs.Sessions.{LinkTold, HasServed, MetEnd, Closes, EndsSo}
 use Rattle.cal_session.specs.Turns.{Answer, IsAnswered, AreToldMoments}
@@ -33,13 +33,13 @@ use Rattle.caldav_server.proofs.LoadCounts.{few-requests}
 use Rattle.caldav_server.proofs.LoadConnections.{all-answered, each-answered, replies_from-octets}
 
 -- what is known of turns, of their answers
-turns-had : (users : List User) (number : ℕ) (journal : List Entry) (answers : List Answer) → AllByRecursion (IsAnswered users number journal) answers
+turns-had : (users : Users) (number : ℕ) (journal : List Entry) (answers : List Answer) → AllByRecursion (IsAnswered users number journal) answers
     → AllByRecursion HadMemory (map (λ (answer : Answer). answer.turn) answers) → AllByRecursion (λ (answer : Answer). answer.reply.status ≢ 503) answers
 turns-had users number journal [] answered had = tt
 turns-had users number journal (answer ∷ answers) answered had =
     ((λ busy. had.0 (answered.0.status ∙ busy)), turns-had users number journal answers answered.1 had.1)
 
-turns-accepted : (users : List User) (number : ℕ) (journal : List Entry) (answers : List Answer) → AllByRecursion (IsAnswered users number journal) answers
+turns-accepted : (users : Users) (number : ℕ) (journal : List Entry) (answers : List Answer) → AllByRecursion (IsAnswered users number journal) answers
     → count_by was_accepted (map (λ (answer : Answer). answer.turn) answers) ≡ count_by is_accepted (replies_in answers)
 turns-accepted users number journal [] answered = refl
 turns-accepted users number journal (answer ∷ answers) answered =
@@ -65,7 +65,7 @@ written-all : (before after : Option (List ℕ)) (printed written : List ℕ) �
 unfolding value_or
 written-all before after printed written none some added = ap value_or (sym some ∙ subst (λ b. Adds b printed after) none added)
 
-pub closed-session : (users : List User) (session : ℕ) (requests : List Request) (octets : List ℕ) (told : Option ℤ) (pass now : PassState Entry (List User)) (before after : LinkTold) (turns : List Served) (how : How) (written : List ℕ)
+pub closed-session : (users : Users) (session : ℕ) (requests : List Request) (octets : List ℕ) (told : Option ℤ) (pass now : PassState Entry Users) (before after : LinkTold) (turns : List Served) (how : How) (written : List ℕ)
     → HasServed users told pass now before after turns how → how ≡ Closed → before.left ≡ Some octets → before.written ≡ Some [] → after.written ≡ Some written
     → told ≡ Some (pos load_moment) → Spell users session requests octets → length turns ≡ length requests → length requests < request_limit
     → AllByRecursion HadMemory turns → IsLegal (directory_of users) now.seen
@@ -95,7 +95,7 @@ closed-session users session requests octets told pass now before after turns ho
       by (inr closes) = (closes.ending, closes.answered)
 
 -- so the account of a session's turns says that it answered all
-pub done-session : (users : List User) (puts session : ℕ) (octets : List ℕ) (count : ℕ) (pass now : PassState Entry (List User)) (told : Option ℤ) (before after : LinkTold) (turns : List Served) (how : How) (link : LinkState) (outcome : Outcome)
+pub done-session : (users : Users) (puts session : ℕ) (octets : List ℕ) (count : ℕ) (pass now : PassState Entry Users) (told : Option ℤ) (before after : LinkTold) (turns : List Served) (how : How) (link : LinkState) (outcome : Outcome)
     → HasServed users told pass now before after turns how → before.left ≡ Some octets → before.written ≡ Some [] → after.written ≡ Some link.written → told ≡ Some (pos load_moment)
     → Spell users session (requests_of puts session) octets → count ≡ length (requests_of puts session) → puts ≤ 800 → IsLegal (directory_of users) now.seen
     → IsAccountOf how turns count link outcome → Did users puts (Serve session) pass now outcome

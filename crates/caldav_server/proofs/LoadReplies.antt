@@ -18,7 +18,7 @@ use Rattle.cal_model.specs.Serving.EventReplies.{reply_to, state_after}
 use Rattle.cal_model.specs.Serving.Outcomes.{Outcome, accepted, unchanged, outcome}
 use Rattle.cal_model.specs.State.Changes.{Change, change_of}
 use Rattle.cal_model.specs.State.ServerState.{Directory, ServerState, directory_of, opening_state, user_number}
-use Rattle.cal_model.specs.Users.UsersFile.{User}
+use Rattle.cal_model.specs.Users.UsersFile.{Users}
 use Rattle.cal_book.specs.EventSteps as book
 use Rattle.cal_session.specs.Turns as session
 use Rattle.cal_session.specs.Turns.{Answer, event_of, entries_in, is_busy, reply_in}
@@ -40,7 +40,7 @@ turns_of number user [] (answer ∷ answers) = []
 turns_of number user (request ∷ requests) [] = []
 turns_of number user (request ∷ requests) (answer ∷ answers) = turn_of number user request answer ∷ turns_of number user requests answers
 
-turns-replies : (users : List User) (number user : ℕ) (requests : List Request) (answers : List Answer) → AllZip (Answers users user) requests answers
+turns-replies : (users : Users) (number user : ℕ) (requests : List Request) (answers : List Answer) → AllZip (Answers users user) requests answers
     → map (λ (turn : Turn). turn.reply) (turns_of number user requests answers) ≡ replies_in answers
 turns-replies users number user [] [] each = refl
 turns-replies users number user [] (answer ∷ answers) each = absurd each
@@ -48,11 +48,11 @@ turns-replies users number user (request ∷ requests) [] each = absurd each
 turns-replies users number user (request ∷ requests) (answer ∷ answers) each = ap (λ rest. answer.reply ∷ rest) (turns-replies users number user requests answers each.1)
 
 -- the same events, but for the session's number
-at_moment : (users : List User) (number user : ℕ) (request : Request) (answer : Answer) → Answers users user request answer
+at_moment : (users : Users) (number user : ℕ) (request : Request) (answer : Answer) → Answers users user request answer
     → event_of number user answer.turn.moment request ≡ on_session number (load_event user request)
 at_moment users number user request answer is = ap (λ moment. event_of number user moment request) is.moment
 
-turns-events : (users : List User) (directory : Directory) (number user : ℕ) (state : ServerState) (requests : List Request) (answers : List Answer) → AllZip (Answers users user) requests answers
+turns-events : (users : Users) (directory : Directory) (number user : ℕ) (state : ServerState) (requests : List Request) (answers : List Answer) → AllZip (Answers users user) requests answers
     → replies_alone directory state (map (λ (turn : Turn). turn.event) (turns_of number user requests answers)) ≡ replies directory state user requests
 turns-events users directory number user state [] [] each = refl
 turns-events users directory number user state [] (answer ∷ answers) each = absurd each
@@ -79,7 +79,7 @@ not-busy answer there = by (eqb_tells answer.reply.status 503) where
   by (inl busy) = absurd (there busy.1)
   by (inr free) = free.0
 
-module _ (users : List User) (number user : ℕ) (journal : List Entry) where
+module _ (users : Users) (number user : ℕ) (journal : List Entry) where
   entries-same : (request : Request) (answer : Answer) → Answers users user request answer
       → session.entries_of users number journal answer ≡ lone.entries_of (directory_of users) journal (turn_of number user request answer)
   entries-same request answer is =
@@ -185,7 +185,7 @@ all_entries-about directory journal number user (turn ∷ turns) each =
     (entries-about directory turn.event user (change_of directory turn.event.request) (outcome directory (lone.state_at directory journal turn) turn.event) refl each.0.about)
     (all_entries-about directory journal number user turns each.1)
 
-pub own-about : (users : List User) (number user : ℕ) (journal : List Entry) (requests : List Request) (answers : List Answer) (old : List Entry)
+pub own-about : (users : Users) (number user : ℕ) (journal : List Entry) (requests : List Request) (answers : List Answer) (old : List Entry)
     → AllByRecursion (λ (request : Request). IsAbout (directory_of users) request user × SizeIsTold request.size request.content) requests → AllZip (Answers users user) requests answers
     → session.IsSession users number old answers journal → entries_by (λ (entry : Entry). entry.session) number old ≡ []
     → AreAbout (directory_of users) user (entries_by (λ (entry : Entry). entry.session) number journal)
@@ -196,7 +196,7 @@ own-about users number user journal requests answers old own each is none =
 
 -- The requests of a session are about its own home.
 
-module _ (users : List User) (puts user : ℕ) (known : user_number (directory_of users) (load_user user) ≡ Some user) where
+module _ (users : Users) (puts user : ℕ) (known : user_number (directory_of users) (load_user user) ≡ Some user) where
   abbrev IsOfUser : Request → Type 0
   IsOfUser request = IsAbout (directory_of users) request user × SizeIsTold request.size request.content
 

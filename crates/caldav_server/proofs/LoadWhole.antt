@@ -14,7 +14,7 @@ use Rattle.cal_model.specs.History.Journal.{Entry}
 use Rattle.cal_model.specs.Load.LoadRequests.{requests_of}
 use Rattle.cal_model.specs.Load.LoadSummary.{load_users, replies_of, replies, is_accepted, all_octets}
 use Rattle.cal_model.specs.State.ServerState.{Directory, directory_of, opening_state}
-use Rattle.cal_model.specs.Users.UsersFile.{User}
+use Rattle.cal_model.specs.Users.UsersFile.{Users}
 use Rattle.home_laws.specs.Homes.{IsOwnOrApart}
 use Rattle.home_laws.specs.LoneSessions.{is_of}
 use Rattle.load_requests.specs.NumberedUsers.{AreNumbered}
@@ -78,7 +78,7 @@ has-between n first xs ys has =
 
 -- Passes
 
-pub numbers-done : (users : List User) (puts : ℕ) (seats : List Seat) (dones : List Done) → AllZip (HasDone users puts) seats dones → numbers (passes_of dones) ≡ numbers (passes_at seats)
+pub numbers-done : (users : Users) (puts : ℕ) (seats : List Seat) (dones : List Done) → AllZip (HasDone users puts) seats dones → numbers (passes_of dones) ≡ numbers (passes_at seats)
 numbers-done users puts [] [] each = refl
 numbers-done users puts [] (done ∷ dones) each = absurd each
 numbers-done users puts (seat ∷ seats) [] each = absurd each
@@ -86,7 +86,7 @@ numbers-done users puts (seat ∷ seats) (done ∷ dones) each =
     let first = ap (λ (pass : Known). pass.number) each.0.pass in let rest = numbers-done users puts seats dones each.1 in λ i. first i ∷ rest i
 
 -- the passes come back as they were given, but for what they have seen
-pub all-back : (users : List User) (puts : ℕ) (lock : TableId) (seats : List Seat) (dones : List Done) → AllByRecursion (IsSeat lock users) seats → AllZip (HasDone users puts) seats dones
+pub all-back : (users : Users) (puts : ℕ) (lock : TableId) (seats : List Seat) (dones : List Done) → AllByRecursion (IsSeat lock users) seats → AllZip (HasDone users puts) seats dones
     → AllByRecursion (λ (done : Done). IsBack lock done.pass) dones
 all-back users puts lock [] [] ready each = tt
 all-back users puts lock [] (done ∷ dones) ready each = absurd each
@@ -102,7 +102,7 @@ all-back users puts lock (seat ∷ seats) (done ∷ dones) ready each = (
 
 -- What was done
 
-module _ (users : List User) (puts : ℕ) where
+module _ (users : Users) (puts : ℕ) where
   -- a session that did not fail answered all
   answered : (session : ℕ) (duty : Duty) (pass now : Known) (outcome : Outcome) → duty ≡ Serve session → Did users puts duty pass now outcome → HasNotFailed outcome
       → (account : Account) × (outcome ≡ Served account) × HasAnswered users session (requests_of puts session) pass now account.requests account.accepted account.link.written
@@ -136,7 +136,7 @@ known-number : (number other : ℕ) (journal : List Entry) (directory : Director
 known-number number other journal directory user is about = subst (λ n. AreAbout directory user (entries_by author n journal)) (sym is) about
 
 -- All passes were joined into one
-module _ (users : List User) (puts sessions : ℕ) (lock : TableId) (all : Known) (named : directory_of users ≡ load_users sessions) (found : AreNumbered users sessions) where
+module _ (users : Users) (puts sessions : ℕ) (lock : TableId) (all : Known) (named : directory_of users ≡ load_users sessions) (found : AreNumbered users sessions) where
   abbrev AreIn : List Done → Type 0
   AreIn dones = AllByRecursion (λ other. IsWithin other all) (passes_of dones)
 
@@ -242,7 +242,7 @@ module _ (users : List User) (puts sessions : ℕ) (lock : TableId) (all : Known
 has-zero : (numbers_of : List ℕ) → Has (0 ∷ numbers_of) 0
 has-zero numbers_of = has-first 0 numbers_of
 
-length-done : (users : List User) (puts : ℕ) (seats : List Seat) (dones : List Done) → AllZip (HasDone users puts) seats dones → length (numbers (passes_of dones)) ≡ length seats
+length-done : (users : Users) (puts : ℕ) (seats : List Seat) (dones : List Done) → AllZip (HasDone users puts) seats dones → length (numbers (passes_of dones)) ≡ length seats
 length-done users puts [] [] each = refl
 length-done users puts [] (done ∷ dones) each = absurd each
 length-done users puts (seat ∷ seats) [] each = absurd each
@@ -254,7 +254,7 @@ first-or-idle n ns journal unwritten later has = by (eqb_tells 0 n) where
   by (inl same) = subst (λ m. entries_by author m journal ≡ []) same.1 unwritten
   by (inr apart) = later (has-rest 0 n ns apart.0 has)
 
-pub all-summed : (users : List User) (puts sessions : ℕ) (lock : TableId) (made all : Known) (seats : List Seat) (dones : List Done) (tally : Tally)
+pub all-summed : (users : Users) (puts sessions : ℕ) (lock : TableId) (made all : Known) (seats : List Seat) (dones : List Done) (tally : Tally)
     → directory_of users ≡ load_users sessions → AreNumbered users sessions → 0 < sessions → SeatsMade lock users made seats → AreSeats sessions seats
     → AllZip (HasDone users puts) seats dones → HasJoined made all (passes_of dones) → IsSumOf dones tally → IsSummed puts sessions tally
 all-summed users puts sessions lock made all seats dones tally named found some from at each joined sums =

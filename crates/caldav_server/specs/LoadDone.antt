@@ -4,7 +4,7 @@ use Rattle.std.specs.Prelude.{◌≡◌, ℕ, List, All, length, count_by}
 use Rattle.turn_lock.specs.Journals.{entries_by}
 use Rattle.cal_base.specs.World.Memory.{LinkState}
 use Rattle.cal_model.specs.Load.LoadRequests.{requests_of}
-use Rattle.cal_model.specs.Users.UsersFile.{User}
+use Rattle.cal_model.specs.Users.UsersFile.{Users}
 use Rattle.cal_session.specs.declared.served.How.{How}
 use Rattle.cal_session.specs.declared.served.How.TheVariants.{Closed}
 use Rattle.cal_session.specs.declared.served.Served.{Served as Turn}
@@ -18,7 +18,7 @@ use Rattle.caldav_server.specs.declared.load_sessions.Outcome.TheVariants.{Serve
 use Rattle.caldav_server.specs.declared.load_sessions.Seat.{Seat}
 
 -- what came of a duty: a session answered all that it was asked, a worker entered nothing; or it failed
-abbrev pub Did : List User → ℕ → Duty → Known → Known → Outcome → Type 0
+abbrev pub Did : Users → ℕ → Duty → Known → Known → Outcome → Type 0
 Did users puts (Serve session) pass now (Served account) = HasAnswered users session (requests_of puts session) pass now account.requests account.accepted account.link.written
 Did users puts (Serve session) pass now Worked = ⊥
 Did users puts (Serve session) pass now Failed = Unit {0}
@@ -27,7 +27,7 @@ Did users puts Expand pass now Worked = entries_by author pass.number now.seen �
 Did users puts Expand pass now Failed = ⊥
 
 -- what a thread did with its seat
-pub record HasDone (users : List User) (puts : ℕ) (seat : Seat) (done : Done) : Type 0 where
+pub record HasDone (users : Users) (puts : ℕ) (seat : Seat) (done : Done) : Type 0 where
   pub pass : done.pass ≡ record seat.pass { seen = done.pass.seen; looks = done.pass.looks }
   pub did : Did users puts seat.duty seat.pass done.pass done.outcome
 

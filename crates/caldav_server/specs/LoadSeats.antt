@@ -11,10 +11,10 @@ use Rattle.caldav_server.specs.Shares.{IsPassFor}
 use Rattle.caldav_server.specs.declared.load_sessions.Duty.{Duty}
 use Rattle.caldav_server.specs.declared.load_sessions.Duty.TheVariants.{Serve, Expand}
 use Rattle.caldav_server.specs.declared.load_sessions.Seat.{Seat}
-use Rattle.cal_model.specs.Users.UsersFile.{User}
+use Rattle.cal_model.specs.Users.UsersFile.{Users}
 
 abbrev pub Known : Type 0
-Known = PassState Entry (List User)
+Known = PassState Entry Users
 
 abbrev pub author : Entry → ℕ
 author entry = entry.session
@@ -46,7 +46,7 @@ IsNumber (Serve session) = session < 100
 IsNumber Expand = Unit {0}
 
 -- a pass that was split off and has entered nothing, and a duty
-pub record IsSeat (lock : TableId) (users : List User) (seat : Seat) : Type 0 where
+pub record IsSeat (lock : TableId) (users : Users) (seat : Seat) : Type 0 where
   pub pass : IsPassFor lock users seat.pass
   pub leaf : IsLeaf seat.pass
   pub fresh : entries_by author seat.pass.number seat.pass.seen ≡ []
@@ -56,11 +56,11 @@ abbrev pub passes_at : List Seat → List Known
 passes_at seats = map (λ (seat : Seat). seat.pass) seats
 
 -- the first pass of a lock
-abbrev pub first_pass : TableId → List User → Known
+abbrev pub first_pass : TableId → Users → Known
 first_pass lock users = record { lock = lock; number = 0; base = Some users; seen = []; looks = []; kin = []; gone = []; holds_turn = false }
 
 -- seats were made of a first pass, and it entered nothing
-pub record SeatsMade (lock : TableId) (users : List User) (pass : Known) (seats : List Seat) : Type 0 where
+pub record SeatsMade (lock : TableId) (users : Users) (pass : Known) (seats : List Seat) : Type 0 where
   pub pass_is : pass ≡ record (first_pass lock users) { seen = pass.seen; looks = pass.looks; kin = numbers (passes_at seats) }
   pub nothing : entries_by author 0 pass.seen ≡ []
   pub each : AllByRecursion (IsSeat lock users) seats

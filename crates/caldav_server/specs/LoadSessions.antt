@@ -9,13 +9,13 @@ use Rattle.cal_model.specs.History.Journal.{Entry, IsLegal}
 use Rattle.cal_model.specs.Load.LoadRequests.{load_moment}
 use Rattle.cal_model.specs.Load.LoadSummary.{is_accepted, all_octets}
 use Rattle.cal_model.specs.State.ServerState.{directory_of}
-use Rattle.cal_model.specs.Users.UsersFile.{User}
+use Rattle.cal_model.specs.Users.UsersFile.{Users}
 use Rattle.load_requests.specs.MeantRequests.{Means}
 use Rattle.cal_session.specs.Turns.{Answer, IsSession}
 use Rattle.cal_session.specs.declared.served.Served.{Served}
 
 -- an answer to what is meant, at the moment of all sessions, and not for want of memory
-pub record Answers (users : List User) (session : ℕ) (request : Request) (answer : Answer) : Type 0 where
+pub record Answers (users : Users) (session : ℕ) (request : Request) (answer : Answer) : Type 0 where
   pub means : Means users session request answer.wire
   pub moment : answer.turn.moment ≡ pos load_moment
   pub there : answer.reply.status ≢ 503
@@ -31,7 +31,7 @@ abbrev pub HadMemory : Served → Type 0
 HadMemory turn = turn.status ≢ 503
 
 -- What a session did: all requests were answered, in the journal that its pass has seen at its end.
-pub record HasAnswered (users : List User) (session : ℕ) (requests : List Request) (pass now : PassState Entry (List User)) (count accepted : ℕ) (written : List ℕ) : Type 0 where
+pub record HasAnswered (users : Users) (session : ℕ) (requests : List Request) (pass now : PassState Entry Users) (count accepted : ℕ) (written : List ℕ) : Type 0 where
   pub answers : List Answer
   pub each : AllZip (Answers users session) requests answers
   pub session_is : IsSession users pass.number pass.seen answers now.seen

@@ -1,7 +1,7 @@
 //! The command `serve`.
 ghost use Rattle.std.specs.Prelude.{◌≡◌, ◌≤◌, ◌<◌, ◌⊎◌, List, IfSome, OnOk, IsErrOf};
 ghost use Rattle.cal_base.specs.World.Outside.{Rose};
-ghost use Rattle.cal_model.specs.Users.UsersFile.{User};
+ghost use Rattle.cal_model.specs.Users.UsersFile.{Users};
 ghost use Rattle.cal_script.specs.UsersTaken.{AreUsersOf, IsRefusedAt};
 ghost use Rattle.caldav_server.specs.ServeEnds.{IsServeStatus, IsServedStatus};
 ghost use Rattle.command_words.specs.ServeWords as spec;
@@ -36,7 +36,7 @@ pub(crate) fn run_serve<F: Files, D: Door, R: Threads + Wait + Sync>(
     ensures words_first { result.status ≡ 2 → (files.new ≡ files.old) × (door.new ≡ door.old) }
     ensures users_refused { result.status ≡ 3 → IfSome (F.content files.old (spec.users_path words.now)) (λ octets. IsRefusedAt octets result.place) }
     ensures users_first { result.status ≡ 3 → door.new ≡ door.old }
-    ensures users_taken { result.status ≡ 0 → IfSome (F.content files.old (spec.users_path words.now)) (λ octets. (users : List User) × AreUsersOf octets users) }
+    ensures users_taken { result.status ≡ 0 → IfSome (F.content files.old (spec.users_path words.now)) (λ octets. (users : Users) × AreUsersOf octets users) }
 
     // The connections.
     ensures limited { result.status ≡ 0 → 0 < spec.connections words.now }
@@ -68,7 +68,7 @@ fn serve_file<F: Files, D: Door, R: Threads + Wait + Sync>(
     ensures known { IsServeStatus result.status × ¬ (result.status ≡ 2) }
     ensures users_refused { result.status ≡ 3 → IfSome (F.content files.old words.now.users.now) (λ octets. IsRefusedAt octets result.place) }
     ensures users_first { result.status ≡ 3 → door.new ≡ door.old }
-    ensures users_taken { result.status ≡ 0 → IfSome (F.content files.old words.now.users.now) (λ octets. (users : List User) × AreUsersOf octets users) }
+    ensures users_taken { result.status ≡ 0 → IfSome (F.content files.old words.now.users.now) (λ octets. (users : Users) × AreUsersOf octets users) }
     ensures limited { result.status ≡ 0 → 0 < words.now.connections }
     ensures tries { result.status ≡ 0 → RoseBy (share_of words.now.connections words.now.sessions 0) (D.tries door.old) (D.tries door.new) }
     ensures fault { result.status ≡ 4 → Rose (F.faults files.old) (F.faults files.new) ⊎ Rose (D.faults door.old) (D.faults door.new) }

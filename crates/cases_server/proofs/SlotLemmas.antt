@@ -8,7 +8,7 @@ use Rattle.cal_model.specs.History.Claims.{Work}
 use Rattle.cal_model.specs.History.Journal.{Entry, replay}
 use Rattle.cal_model.specs.History.LiveObjects.{Placed, placed_by}
 use Rattle.cal_model.specs.State.ServerState.{directory_of}
-use Rattle.cal_model.specs.Users.UsersFile.{User}
+use Rattle.cal_model.specs.Users.UsersFile.{Users}
 use Rattle.cal_book.specs.EventSteps.{entries_made, work_after}
 use Rattle.cal_book.specs.Publishing.{IsClaimIn}
 use Rattle.cal_book.specs.declared.claims.Claim.{Claim}
@@ -29,7 +29,7 @@ slot_stays journal more (Claimed claim) h = entry_stays journal more claim.origi
 slot_stays journal more (Expanded expanded) h = entry_stays journal more expanded.claim.origin _ h
 
 -- a request lets the journal grow
-pub grows : (users : List User) (event : Event) (old new : Work) (status : ℕ) → (status ≢ 503 → new ≡ work_after users event old) → (status ≡ 503 → new ≡ old)
+pub grows : (users : Users) (event : Event) (old new : Work) (status : ℕ) → (status ≢ 503 → new ≡ work_after users event old) → (status ≡ 503 → new ≡ old)
     → (more : List Entry) × (new.journal ≡ old.journal ++ more)
 grows users event old new status worked kept = elim (eqb_tells status 503) [
   | inl same ↦ ([], ap (λ (w : Work). w.journal) (kept same.1) ∙ sym (append-nil old.journal))

@@ -115,7 +115,7 @@ fn found_at(
     deep: bool,
 ) -> Result<Reply, NoMemory>
     requires no_objects { AreLive [] (origins_of store.now) }
-    requires user { who < length store.now.users }
+    requires user { who < length store.now.users.people }
 {
     let view = OpeningView::new(store);
     let seen = Seen { view: &view, who };
@@ -162,7 +162,7 @@ fn answered_at(
     out: &mut Octets,
 ) -> Result<u16, NoMemory>
     requires no_objects { AreLive [] (origins_of store.now) }
-    requires user { who < length store.now.users }
+    requires user { who < length store.now.users.people }
     requires not_data { same_name name.now calendar_data ≡ false }
 {
     let view = OpeningView::new(store);

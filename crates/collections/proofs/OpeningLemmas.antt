@@ -3,7 +3,7 @@ use Rattle.std.proofs.Common.{◌≡◌, ℕ, zero, suc, ◌+◌, List, [], ◌�
 use Rattle.std.specs.Prelude.{slice_get, option_map, option_and_then, bytes_eq, if◌then◌else◌}
 use Rattle.std.specs.List.Sorted.{IsStrictlySortedBy}
 use Rattle.cal_base.specs.Lists.NameMap.{value_at}
-use Rattle.cal_model.specs.Users.UsersFile.{User}
+use Rattle.cal_model.specs.Users.UsersFile.{User, Users}
 use Rattle.cal_model.specs.declared.property.PropSet.{PropSet}
 use Rattle.cal_model.specs.State.PropertyTexts.{with_text}
 use Rattle.cal_model.specs.Properties.PropertyTable.{row_of}
@@ -35,13 +35,13 @@ homes_more_one users =
     ap opening_homes (let same : users + 1 ≡ suc users = omega arith in same) ∙ (homes_more users 0 ∙ ap (λ n. opening_homes users ++ opening_home n ∷ []) (zero_more users))
 
 -- the state
-homes_shown : (users : List User) (number : ℕ) → map home_of (homes_from (length users) number) ≡ map (λ name. first_home) (map (λ (user : User). user.name) users)
+homes_shown : (people : List User) (number : ℕ) → map home_of (homes_from (length people) number) ≡ map (λ name. first_home) (map (λ (user : User). user.name) people)
 homes_shown [] number = refl
-homes_shown (user ∷ users) number = ap (λ rest. first_home ∷ rest) (homes_shown users (number + 1))
+homes_shown (user ∷ people) number = ap (λ rest. first_home ∷ rest) (homes_shown people (number + 1))
 
-pub opening_shown : (users : List User) → state_of (record { users = users; homes = opening_homes (length users) }) ≡ opening_state (directory_of users)
+pub opening_shown : (users : Users) → state_of (record { users = users; homes = opening_homes (length users.people) }) ≡ opening_state (directory_of users)
 unfolding opening_state
-opening_shown users = ap {B = ServerState} (λ homes. record { homes = homes }) (homes_shown users 0)
+opening_shown users = ap {B = ServerState} (λ homes. record { homes = homes }) (homes_shown users.people 0)
 
 -- the homes
 one_value : {V : Type 0} (key name : List ℕ) (value found : V) → value_at ((key, value) ∷ []) name ≡ Some found → (name ≡ key) × (value ≡ found)
@@ -72,10 +72,10 @@ found_from (suc users) number (suc n) home at = found_from users (number + 1) n 
 opening_are : (users : ℕ) → AreHomes (opening_homes users)
 opening_are users n home at = subst (IsHome n) (sym (found_from users 0 n home at ∙ ap opening_home (zero_more n))) (opening_is n)
 
-pub opening_store : (users : List User) → IsStore (record { users = users; homes = opening_homes (length users) })
+pub opening_store : (users : Users) → IsStore (record { users = users; homes = opening_homes (length users.people) })
 opening_store users = record {
   sound = subst (IsSound (directory_of users)) (sym (opening_shown users)) (opening-sound (directory_of users));
-  homes = opening_are (length users);
+  homes = opening_are (length users.people);
 }
 
 -- no objects
@@ -102,10 +102,10 @@ no_origin : (found : Option KeptObject) (n : ℕ) → ((kept : KeptObject) → f
 no_origin None n never e = absurd cc
 no_origin (Some kept) n never e = never kept refl
 
-pub opening_live : (users : List User) → AreLive [] (origins_of (record { users = users; homes = opening_homes (length users) }))
+pub opening_live : (users : Users) → AreLive [] (origins_of (record { users = users; homes = opening_homes (length users.people) }))
 opening_live users = record {
   live = λ n placed e. absurd (nothing_live n placed e);
-  known = λ home calendar object n e. absurd (no_origin (kept_object (opening_homes (length users)) home calendar object) n (nothing_in (length users) home calendar object) e);
+  known = λ home calendar object n e. absurd (no_origin (kept_object (opening_homes (length users.people)) home calendar object) n (nothing_in (length users.people) home calendar object) e);
 }
 
 -- the first calendar

@@ -11,7 +11,7 @@ use Rattle.std.proofs.lemmas.Cmp.{nat_list_cmp_total}
 use Rattle.std.proofs.lemmas.Option.{slice_get-map}
 use Rattle.cal_base.specs.Lists.NameMap.{Named, name_order, IsInOrder, value_at, with_value, with_changed}
 use Rattle.cal_model.specs.State.ServerState.{Calendar, Home, ServerState, home_at, calendar_at, octets_at, with_home, with_calendar as state_with_calendar}
-use Rattle.cal_model.specs.Users.UsersFile.{User}
+use Rattle.cal_model.specs.Users.UsersFile.{Users}
 use Rattle.collections.specs.declared.home.KeptHome.{KeptHome}
 use Rattle.collections.specs.KeptCalendars.{KeptObject, KeptCalendar, each_value, calendar_of}
 use Rattle.collections.specs.Kept.{home_of, state_of, kept_calendar, kept_object}
@@ -20,14 +20,14 @@ use Rattle.collections.proofs.NamedLemmas.{absent_below, value_at-each, with_val
 
 -- Look-ups
 
-pub home_shown : (users : List User) (homes : List KeptHome) (number : ℕ) → home_at (state_of (record { users = users; homes = homes })) number ≡ option_map home_of (slice_get homes number)
+pub home_shown : (users : Users) (homes : List KeptHome) (number : ℕ) → home_at (state_of (record { users = users; homes = homes })) number ≡ option_map home_of (slice_get homes number)
 home_shown users homes number = slice_get-map home_of homes number
 
 calendar_in : (found : Option KeptHome) (name : List ℕ) → option_and_then (λ (h : Home). value_at h.calendars name) (option_map home_of found) ≡ option_map calendar_of (option_and_then (λ (h : KeptHome). value_at h.calendars name) found)
 calendar_in None name = refl
 calendar_in (Some home) name = value_at-each calendar_of home.calendars name
 
-pub calendar_shown : (users : List User) (homes : List KeptHome) (number : ℕ) (name : List ℕ) → calendar_at (state_of (record { users = users; homes = homes })) number name ≡ option_map calendar_of (kept_calendar homes number name)
+pub calendar_shown : (users : Users) (homes : List KeptHome) (number : ℕ) (name : List ℕ) → calendar_at (state_of (record { users = users; homes = homes })) number name ≡ option_map calendar_of (kept_calendar homes number name)
 calendar_shown users homes number name =
     ap (option_and_then (λ (h : Home). value_at h.calendars name)) (home_shown users homes number) ∙ calendar_in (slice_get homes number) name
 
@@ -35,7 +35,7 @@ octets_in : (found : Option KeptCalendar) (name : List ℕ) → option_and_then 
 octets_in None name = refl
 octets_in (Some kept) name = value_at-each (λ (object : KeptObject). object.octets) kept.objects name
 
-pub octets_shown : (users : List User) (homes : List KeptHome) (number : ℕ) (calendar name : List ℕ)
+pub octets_shown : (users : Users) (homes : List KeptHome) (number : ℕ) (calendar name : List ℕ)
     → octets_at (state_of (record { users = users; homes = homes })) number calendar name ≡ option_map (λ (object : KeptObject). object.octets) (kept_object homes number calendar name)
 octets_shown users homes number calendar name =
     ap (option_and_then (λ (c : Calendar). value_at c.objects name)) (calendar_shown users homes number calendar) ∙ octets_in (kept_calendar homes number calendar) name
@@ -47,7 +47,7 @@ map-set f [] n x = refl
 map-set f (y ∷ ys) zero x = refl
 map-set f (y ∷ ys) (suc n) x = ap (λ rest. f y ∷ rest) (map-set f ys n x)
 
-module _ (users : List User) (homes : List KeptHome) (number : ℕ) (change : KeptHome → KeptHome) (made : Home → Home) where
+module _ (users : Users) (homes : List KeptHome) (number : ℕ) (change : KeptHome → KeptHome) (made : Home → Home) where
   abbrev with_found : Option Home → ServerState
   with_found None = state_of (record { users = users; homes = homes })
   with_found (Some home) = record { homes = slice_set (map home_of homes) number (made home) }

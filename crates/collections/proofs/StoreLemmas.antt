@@ -1,7 +1,7 @@
 -- A store whose homes are changed, as contracts see it.
 use Rattle.std.proofs.Common.{◌≡◌, ℕ, List, sym, ap, ◌∙◌, subst}
 use Rattle.std.specs.Prelude.{Result, Ok, Err, OnOk, OnErr}
-use Rattle.cal_model.specs.Users.UsersFile.{User}
+use Rattle.cal_model.specs.Users.UsersFile.{Users}
 use Rattle.cal_model.specs.State.Changes.{Change, effect}
 use Rattle.cal_model.specs.History.Origins.{origins_after}
 use Rattle.collections.specs.declared.home.KeptHome.{KeptHome}
@@ -9,16 +9,16 @@ use Rattle.collections.specs.Kept.{Kept, state_of, users_of, origins_of}
 use Rattle.collections.specs.Stores.{IsStore}
 use Rattle.collections.proofs.MadeLemmas.{IsMade}
 
-abbrev pub kept : List User → List KeptHome → Kept
+abbrev pub kept : Users → List KeptHome → Kept
 kept users homes = record { users = users; homes = homes }
 
 -- what holds of stores, where the homes are changed or stay
-pub store_after : {T E : Type 0} (users : List User) (homes homes' made : List KeptHome) (result : Result T E) → OnOk result (homes' ≡ made) → OnErr result (homes' ≡ homes)
+pub store_after : {T E : Type 0} (users : Users) (homes homes' made : List KeptHome) (result : Result T E) → OnOk result (homes' ≡ made) → OnErr result (homes' ≡ homes)
     → IsStore (record { users = users; homes = made }) → IsStore (record { users = users; homes = homes }) → IsStore (record { users = users; homes = homes' })
 store_after users homes homes' made (Ok x) ok err store before = subst (λ hs. IsStore (kept users hs)) (sym ok) store
 store_after users homes homes' made (Err e) ok err store before = subst (λ hs. IsStore (kept users hs)) (sym err) before
 
-module _ (users : List User) (homes homes' : List KeptHome) (now : Kept) (is : ◌≡◌ {A = Kept} (record { users = users; homes = homes }) now) where
+module _ (users : Users) (homes homes' : List KeptHome) (now : Kept) (is : ◌≡◌ {A = Kept} (record { users = users; homes = homes }) now) where
   pub users_shown : users_of (record { users = users; homes = homes' }) ≡ users_of now
   users_shown = ap users_of is
 

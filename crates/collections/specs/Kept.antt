@@ -4,13 +4,13 @@ use Rattle.std.specs.Prelude.{ℕ, List, map, Option, option_map, option_and_the
 use Rattle.cal_base.specs.Lists.NameMap.{value_at}
 use Rattle.cal_model.specs.State.ServerState.{Directory, Home, ServerState, directory_of}
 use Rattle.cal_model.specs.History.Origins.{Origins}
-use Rattle.cal_model.specs.Users.UsersFile.{User}
+use Rattle.cal_model.specs.Users.UsersFile.{Users}
 use Rattle.collections.specs.declared.home.KeptHome.{KeptHome}
 use Rattle.collections.specs.KeptCalendars.{KeptObject, KeptCalendar, each_value, calendar_of}
 
 -- the users, and their homes in the order of their numbers
 pub record Kept : Type 0 where
-  pub users : List User
+  pub users : Users
   pub homes : List KeptHome
 
 -- The state

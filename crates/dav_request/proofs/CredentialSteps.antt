@@ -6,7 +6,7 @@ use Rattle.std.proofs.lemmas.Option.{same_Some}
 use Rattle.std.proofs.lemmas.Bool.Decides.{same_from_decides}
 use Rattle.std.proofs.lemmas.Slice.Eq.{bytes_eq-Decides}
 use Rattle.cal_model.specs.Users.Credentials.{base64_octets, basic_text, credentials_of, spelled_credentials, user_of_credentials, authenticated}
-use Rattle.cal_model.specs.Users.UsersFile.{User}
+use Rattle.cal_model.specs.Users.UsersFile.{User, Users}
 
 -- what `eq_ignore_ascii_case` answers is the test of the definition
 pub same_name : (a b : List ℕ) (r : Bool) → (r ≡ true → str_to_ascii_lowercase a ≡ str_to_ascii_lowercase b) × (str_to_ascii_lowercase a ≡ str_to_ascii_lowercase b → r ≡ true) → str_eq_ignore_ascii_case a b ≡ r
@@ -22,10 +22,10 @@ pub spelled_by_text : (value : List ℕ) (text : Option (List ℕ)) → text ≡
 unfolding spelled_credentials
 spelled_by_text value text is = ap (option_and_then (λ text. option_and_then credentials_of (base64_octets text))) (sym is)
 
-pub authenticated_by_value : (users : List User) (field : Option (List ℕ)) (value text : List ℕ) → field ≡ Some value → text ≡ value → authenticated users field ≡ option_and_then (user_of_credentials users) (spelled_credentials text)
+pub authenticated_by_value : (users : Users) (field : Option (List ℕ)) (value text : List ℕ) → field ≡ Some value → text ≡ value → authenticated users field ≡ option_and_then (user_of_credentials users) (spelled_credentials text)
 unfolding authenticated
 authenticated_by_value users field value text is same = ap (authenticated users) (is ∙ ap Some (sym same))
 
-pub nobody_authenticated : (users : List User) (field : Option (List ℕ)) → field ≡ None → authenticated users field ≡ None
+pub nobody_authenticated : (users : Users) (field : Option (List ℕ)) → field ≡ None → authenticated users field ≡ None
 unfolding authenticated
 nobody_authenticated users field is = ap (authenticated users) is

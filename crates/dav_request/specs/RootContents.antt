@@ -1,5 +1,5 @@
 -- What a method takes from the root of its body.
-use Rattle.std.specs.Prelude.{Bool, true, false, List}
+use Rattle.std.specs.Prelude.{Bool, true, false}
 use Rattle.cal_base.specs.declared.element.Element.{Element}
 use Rattle.cal_model.specs.declared.request.Content.{Content}
 use Rattle.cal_model.specs.declared.request.Content.TheVariants.{Bad}
@@ -9,9 +9,9 @@ use Rattle.cal_model.specs.Bodies.AclBodies.{acl_content}
 use Rattle.cal_model.specs.Bodies.PropertyBodies.{find_content, find_all, patch_content, make_content, make_plain}
 use Rattle.cal_model.specs.Bodies.Refusals.{bad_request}
 use Rattle.cal_model.specs.Bodies.ReportBodies.{report_content}
-use Rattle.cal_model.specs.Users.UsersFile.{User}
+use Rattle.cal_model.specs.Users.UsersFile.{Users}
 
-abbrev pub root_content : List User → Method → Bool → Element → Content
+abbrev pub root_content : Users → Method → Bool → Element → Content
 root_content users Options deep root = Bad bad_request
 root_content users Get deep root = Bad bad_request
 root_content users Head deep root = Bad bad_request

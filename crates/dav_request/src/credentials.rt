@@ -112,8 +112,8 @@ fn admitted(users: &Users, name: &[u8], password: &[u8]) -> Option<u32>
 }
 
 fn admitted_as(users: &Users, who: u32, digest: &[u8; 64]) -> Option<u32>
-    requires { who < length users.now }
-    ensures { result ≡ option_and_then (λ (user : User). if bytes_eq digest.now user.digest then Some who else None) (slice_get users.now who) }
+    requires { who < length users.now.people }
+    ensures { result ≡ option_and_then (λ (user : User). if bytes_eq digest.now user.digest then Some who else None) (slice_get users.now.people who) }
 {
     if users.admits(who, digest) {
         Some(who)

@@ -9,7 +9,7 @@ use Rattle.cal_model.specs.declared.wire.WireRequest.{WireRequest}
 use Rattle.cal_model.specs.Load.LoadRequests.{load_user, load_body, drawn_body, after_draws, next_draw, first_number, drawn_below, put_of, asked_after}
 use Rattle.cal_model.specs.Streams.StreamRequests.{front, idle, Begins}
 use Rattle.cal_model.specs.Streams.WireLimits.{body_limit}
-use Rattle.cal_model.specs.Users.UsersFile.{User}
+use Rattle.cal_model.specs.Users.UsersFile.{Users}
 use Rattle.cal_model.proofs.Streams.ReadingLaws.{streams_grow}
 use Rattle.http_wire.specs.declared.wire.Wire.{Wire}
 use Rattle.http_wire.specs.Wires.{Stands}
@@ -21,7 +21,7 @@ use Rattle.load_requests.specs.WrittenRequests.{HasAsked}
 
 -- Requests
 
-zip-snoc : (users : List User) (session : ℕ) (requests : List Request) (wires : List WireRequest) (request : Request) (wire : WireRequest)
+zip-snoc : (users : Users) (session : ℕ) (requests : List Request) (wires : List WireRequest) (request : Request) (wire : WireRequest)
     → AllZip (Means users session) requests wires → Means users session request wire → AllZip (Means users session) (requests ++ request ∷ []) (wires ++ wire ∷ [])
 zip-snoc users session [] [] request wire each here = (here, tt)
 zip-snoc users session [] (first ∷ wires) request wire each here = absurd each
@@ -29,11 +29,11 @@ zip-snoc users session (first ∷ requests) [] request wire each here = absurd e
 zip-snoc users session (first ∷ requests) (next ∷ wires) request wire each here = (each.0, zip-snoc users session requests wires request wire each.1 here)
 
 -- nothing was asked yet
-pub asked-none : (users : List User) (session : ℕ) (wire : Wire) → Stands [] wire → HasAsked users session [] [] 0 wire
+pub asked-none : (users : Users) (session : ℕ) (wire : Wire) → Stands [] wire → HasAsked users session [] [] 0 wire
 asked-none users session wire stands = record { wires = []; rest = []; spelled = refl; stands = stands; each = tt; count_is = refl }
 
 -- one more: its octets came behind those before, the wire gave it, and it asks for what is meant
-pub asked-more : (users : List User) (session : ℕ) (octets piece : List ℕ) (count : ℕ) (old fed now : Wire) (wire : WireRequest) (request : Request)
+pub asked-more : (users : Users) (session : ℕ) (octets piece : List ℕ) (count : ℕ) (old fed now : Wire) (wire : WireRequest) (request : Request)
     → ((rest : List ℕ) → Stands rest old → Stands (rest ++ piece) fed)
     → ((rest : List ℕ) → Stands rest fed → (behind : List ℕ) × Begins rest wire behind × Stands behind now)
     → Means users session request wire
@@ -50,7 +50,7 @@ asked-more users session octets piece count old fed now wire request feeds gives
     }
 
 -- where nothing is left behind them, the octets spell the requests
-pub all-spelled : (users : List User) (session : ℕ) (requests : List Request) (octets : List ℕ) (count : ℕ) (wire : Wire)
+pub all-spelled : (users : Users) (session : ℕ) (requests : List Request) (octets : List ℕ) (count : ℕ) (wire : Wire)
     → ((rest : List ℕ) → Stands rest wire → front rest ≡ idle) → HasAsked users session requests octets count wire → Spell users session requests octets
 all-spelled users session requests octets count wire is_idle asked =
     record { wires = asked.wires; rest = asked.rest; reading = record { spelled = asked.spelled; ended = is_idle asked.rest asked.stands }; each = asked.each }
@@ -102,7 +102,7 @@ drawn-next puts session k old new drawn is day hour form minutes next =
 -- The steps of the functions
 
 -- the request that was read, where it is meant
-pub asked-ok : {A E : Type 0} (users : List User) (session : ℕ) (request : Request) (octets piece more : List ℕ) (count next : ℕ) (old fed now : Wire) (wire : WireRequest)
+pub asked-ok : {A E : Type 0} (users : Users) (session : ℕ) (request : Request) (octets piece more : List ℕ) (count next : ℕ) (old fed now : Wire) (wire : WireRequest)
     → more ≡ octets ++ piece → next ≡ count + 1
     → ((rest : List ℕ) → Stands rest old → Stands (rest ++ piece) fed)
     → ((rest : List ℕ) → Stands rest fed → (behind : List ℕ) × Begins rest wire behind × Stands behind now × (length wire.body ≤ body_limit))
@@ -115,7 +115,7 @@ asked-ok users session request octets piece more count next old fed now wire mor
 asked-ok users session request octets piece more count next old fed now wire more_is next_is feeds gives (Err e) means = tt
 
 -- a request that is another
-pub asked-as : {A E : Type 0} (users : List User) (session : ℕ) (request meant : Request) (octets more : List ℕ) (count next : ℕ) (old now : Wire) → request ≡ meant → (r : Result A E)
+pub asked-as : {A E : Type 0} (users : Users) (session : ℕ) (request meant : Request) (octets more : List ℕ) (count next : ℕ) (old now : Wire) → request ≡ meant → (r : Result A E)
     → OnOk r ((requests : List Request) → HasAsked users session requests octets count old → HasAsked users session (requests ++ request ∷ []) more next now)
     → OnOk r ((requests : List Request) → HasAsked users session requests octets count old → HasAsked users session (requests ++ meant ∷ []) more next now)
 asked-as users session request meant octets more count next old now is r step =

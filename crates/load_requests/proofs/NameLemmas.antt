@@ -16,7 +16,14 @@ listed f from (suc n) (name ∷ names) long each =
     let rest : names ≡ map f (range_with_len (from + 1) n) = listed f (from + 1) n names (omega arith) (λ k less. each (suc k) (omega arith) ∙ ap f (omega arith)) in
     λ i. first i ∷ rest i
 
--- the users of each session's name are those of `load`
-pub named : (directory : Directory) (sessions : ℕ) → length directory.names ≡ sessions → ((k : ℕ) → k < sessions → user_name directory k ≡ load_user k) → directory ≡ load_users sessions
-named directory sessions long each =
-    ap (λ (names : List (List ℕ)). record { names = names }) (listed load_user 0 sessions directory.names long (λ k less. each k less ∙ ap load_user (omega arith)))
+-- no list but one is empty
+empty : {X : Type 0} (xs : List X) → length xs ≡ 0 → xs ≡ []
+empty [] none = refl
+empty (x ∷ xs) none = absurd (omega arith)
+
+-- the users of each session's name, and no group, are those of `load`
+pub named : (directory : Directory) (sessions : ℕ) → length directory.names ≡ sessions → length directory.groups ≡ 0 → ((k : ℕ) → k < sessions → user_name directory k ≡ load_user k) → directory ≡ load_users sessions
+named directory sessions long none each =
+    let names = listed load_user 0 sessions directory.names long (λ k less. each k less ∙ ap load_user (omega arith)) in
+    let groups = empty directory.groups none in
+    λ i. record { names = names i; groups = groups i }

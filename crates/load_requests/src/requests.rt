@@ -5,7 +5,7 @@ ghost use Rattle.cal_model.specs.declared.request.Request.{Request};
 ghost use Rattle.cal_model.specs.Load.LoadRequests as spec;
 ghost use Rattle.cal_model.specs.Requests.AskedRequests.{asked, asked_of};
 ghost use Rattle.cal_model.specs.Streams.WireLimits.{body_limit};
-ghost use Rattle.cal_model.specs.Users.UsersFile.{User};
+ghost use Rattle.cal_model.specs.Users.UsersFile.{Users};
 ghost use Rattle.load_requests.specs.DrawnEvents.{IsDrawn, busy_year, events_of_march};
 ghost use Rattle.load_requests.specs.Meanings.{meant_by};
 ghost use Rattle.load_requests.specs.MeantRequests.{Means, Spell};
@@ -88,7 +88,7 @@ fn signature_of(alloc: Global, session: u32) -> Result<String, AllocError> {
 
 /// What was written, where nothing is left to be read of it.
 fn whole(asking: Asking) -> Result<(Octets, u64), NoMemory>
-    ensures spelled { IfOk result (λ asked. (users : List User) (session : ℕ) (requests : List Request) → HasAsked users session requests asking.octets asking.count asking.wire → Spell users session requests asked.0) }
+    ensures spelled { IfOk result (λ asked. (users : Users) (session : ℕ) (requests : List Request) → HasAsked users session requests asking.octets asking.count asking.wire → Spell users session requests asked.0) }
     ensures count { IfOk result (λ asked. asked.1 ≡ asking.count) }
 {
     let Asking {

@@ -38,13 +38,13 @@ fn users_file(alloc: Global, sessions: u32) -> Result<Octets, NoMemory> {
     Ok(file)
 }
 
-/// Whether these are those users.
+/// Whether these are those users, and there is no group.
 fn are_named(users: &Users, sessions: u32) -> bool
     requires { sessions ≤ 32 }
     ensures named { IsTrue result → directory_of users.now ≡ spec.load_users sessions }
     ensures found { IsTrue result → AreNumbered users.now sessions }
 {
-    if users.len() != sessions {
+    if users.len() != sessions || users.groups() != 0 {
         return false;
     }
     'names: for session in 0..sessions {
@@ -57,7 +57,7 @@ fn are_named(users: &Users, sessions: u32) -> bool
 
 /// Whether the user of a number is that of the session.
 fn is_named(users: &Users, session: u32) -> bool
-    requires there { session < length users.now }
+    requires there { session < length users.now.people }
     requires session { session < 100 }
     ensures name { IsTrue result → user_name (directory_of users.now) session ≡ load_user session }
     ensures number { IsTrue result → user_number (directory_of users.now) (load_user session) ≡ Some session }

@@ -131,7 +131,7 @@ fn users_are_at_most_32(rt: HostRuntime) -> Result<(), Fail> {
 
 /// Whether a user has this number and this name.
 fn is_numbered(users: &Users, number: u32, name: &[u8]) -> bool
-    requires { number < length users.now }
+    requires { number < length users.now.people }
 {
     users.name(number) == name && users.find(name) == Some(number)
 }

@@ -8,7 +8,7 @@ use Rattle.cal_model.specs.declared.path.Path.{Path}
 use Rattle.cal_model.specs.declared.path.Path.TheVariants.{Root, Principal, Home, Calendar, Object}
 use Rattle.cal_model.specs.declared.privilege.Grant.{Grant}
 use Rattle.cal_model.specs.declared.privilege.Who.{Who}
-use Rattle.cal_model.specs.declared.privilege.Who.TheVariants.{Everyone, Owner, Principal as ToPrincipal}
+use Rattle.cal_model.specs.declared.privilege.Who.TheVariants.{Everyone, Owner, Principal as ToPrincipal, Group as ToGroup}
 use Rattle.cal_model.specs.declared.request.Content.{Content}
 use Rattle.cal_model.specs.declared.request.Content.TheVariants as content
 use Rattle.cal_model.specs.declared.request.Request.{Request}
@@ -20,7 +20,7 @@ use Rattle.cal_model.specs.State.Changes.{change_at, change_of, change_of_object
 use Rattle.cal_model.specs.State.ServerState.{Directory, ServerState, directory_of, user_number}
 use Rattle.cal_model.specs.State.SoundStates.{IsToUser, AreToUsers}
 use Rattle.cal_model.specs.Requests.BookableRequests.{GrantsAmong}
-use Rattle.cal_model.specs.Users.UsersFile.{User}
+use Rattle.cal_model.specs.Users.UsersFile.{User, Users}
 use Rattle.request_checks.specs.declared.scenes.Scene.{Scene}
 use Rattle.cal_book.specs.declared.changes.places.Place.{Place}
 use Rattle.cal_book.specs.Checking.Passed.{IsPassed, IsOfCalendar, sighted}
@@ -72,8 +72,8 @@ module _ (directory : Directory) (state : ServerState) (shown : Scene) (request 
       change_of_calendar_is directory request place.home at.0 place.calendar.now at.1
       (user_known directory state shown.who shown.path.now place.home at.0 is.user_is (ap user_in (passed.path_is ∙ at.1)))
 
--- grants to the users of a file are grants to users that there are
-pub grants_to_users : (directory : Directory) (users : List User) (what : Content) (grants : List Grant) → directory_of users ≡ directory → what ≡ content.Acl grants → GrantsAmong users what → AreToUsers directory grants
+-- grants to the users and the groups of a file are grants to users and groups that there are
+pub grants_to_users : (directory : Directory) (users : Users) (what : Content) (grants : List Grant) → directory_of users ≡ directory → what ≡ content.Acl grants → GrantsAmong users what → AreToUsers directory grants
 grants_to_users directory users what grants are is among =
     subst (λ d. AreToUsers d grants) are
     (All-weaker (IsGrantAmong users) (λ (grant : Grant). IsToUser (directory_of users) grant.who) to_user grants (subst (GrantsAmong users) is among)) where
@@ -82,4 +82,5 @@ grants_to_users directory users what grants are is among =
         by : (who : Who) → IsAmong users who → IsToUser (directory_of users) who
         by Everyone is = tt
         by Owner is = tt
-        by (ToPrincipal number) is = omega (arith, is, length-map users (λ (user : User). user.name))
+        by (ToPrincipal number) is = omega (arith, is, length-map users.people (λ (user : User). user.name))
+        by (ToGroup number) is = is

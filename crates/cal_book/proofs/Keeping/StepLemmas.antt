@@ -5,7 +5,7 @@ use Rattle.cal_model.specs.State.ServerState.{directory_of, opening_state}
 use Rattle.cal_model.specs.State.Changes.{effect}
 use Rattle.cal_model.specs.State.SoundStates.{IsSoundChange}
 use Rattle.cal_model.specs.State.UserNames.{AreToldApart}
-use Rattle.cal_model.specs.Users.UsersFile.{User}
+use Rattle.cal_model.specs.Users.UsersFile.{Users}
 use Rattle.cal_model.specs.Serving.EventReplies.{state_after}
 use Rattle.cal_model.specs.History.Journal.{Entry, asked, replay, IsAcceptedAt}
 use Rattle.cal_model.specs.History.KeptChanges.{IsAcceptable}
@@ -17,7 +17,7 @@ use Rattle.collections.specs.Kept.{Kept as KeptStore, state_of, users_of, origin
 use Rattle.cal_book.specs.Keeping.KeptHistories.{IsInStep, IsNext}
 
 -- the opening state, with no entries
-pub at_start : (users : List User) (store : KeptStore) → AreToldApart (directory_of users) → store.users ≡ users → state_of store ≡ opening_state (directory_of users)
+pub at_start : (users : Users) (store : KeptStore) → AreToldApart (directory_of users) → store.users ≡ users → state_of store ≡ opening_state (directory_of users)
     → AreLive [] (origins_of store) → IsInStep users store []
 at_start users store told same opening live = record {
   same = ap directory_of same;
@@ -29,7 +29,7 @@ at_start users store told same opening live = record {
 }
 
 -- the change of an entry that comes next may be made
-pub is_acceptable : (users : List User) (store : KeptStore) (journal : List Entry) (entry : Entry) → IsInStep users store journal
+pub is_acceptable : (users : Users) (store : KeptStore) (journal : List Entry) (entry : Entry) → IsInStep users store journal
     → IsNext (directory_of users) (state_of store) entry → IsAcceptable (users_of store) (state_of store) entry.change
 is_acceptable users store journal entry step next =
     subst (λ directory. IsAcceptable directory (state_of store) entry.change) (sym step.same) (record {
@@ -39,12 +39,12 @@ is_acceptable users store journal entry step next =
       accepted_is = next.accepted;
     })
 
-pub is_sound : (users : List User) (store : KeptStore) (journal : List Entry) (entry : Entry) → IsInStep users store journal
+pub is_sound : (users : Users) (store : KeptStore) (journal : List Entry) (entry : Entry) → IsInStep users store journal
     → IsNext (directory_of users) (state_of store) entry → IsSoundChange (users_of store) entry.change
 is_sound users store journal entry step next = subst (λ directory. IsSoundChange directory entry.change) (sym step.same) next.sound
 
 -- with it the history is in step again
-pub one_more : (users : List User) (before after : KeptStore) (journal : List Entry) (entry : Entry) → IsInStep users before journal
+pub one_more : (users : Users) (before after : KeptStore) (journal : List Entry) (entry : Entry) → IsInStep users before journal
     → IsNext (directory_of users) (state_of before) entry
     → users_of after ≡ users_of before → state_of after ≡ effect entry.change (state_of before)
     → ((home : ℕ) (calendar object : List ℕ) → origins_of after home calendar object ≡ origins_after entry.change (length journal) (origins_of before) home calendar object)

@@ -1,6 +1,6 @@
 -- What is told of a request that changes something, in the words of outcomes (RFC 9110, 9.3 and 15.3; RFC 4791, 5.3; RFC 4918, 9; RFC 3744, 8.1).
 -- Given: the users, a state, an event and an answer.
-use Rattle.std.specs.Prelude.{◌≡◌, ◌≢◌, ℕ, true, false, List, Some, IsSome}
+use Rattle.std.specs.Prelude.{◌≡◌, ◌≢◌, ℕ, true, false, Some, IsSome}
 use Rattle.cal_model.specs.declared.change.Change.{Change as KeptChange}
 use Rattle.cal_model.specs.declared.path.Path.{Path}
 use Rattle.cal_model.specs.declared.path.Path.TheVariants as path
@@ -14,13 +14,13 @@ use Rattle.cal_model.specs.Serving.Outcomes.{accepted, unchanged, outcome}
 use Rattle.cal_model.specs.State.Changes.{Change, delete_object, delete_calendar, effect, change_of}
 use Rattle.cal_model.specs.State.ServerState.{Directory, ServerState, directory_of, calendar_at, octets_at}
 use Rattle.cal_model.specs.State.SoundStates.{IsSoundChange}
-use Rattle.cal_model.specs.Users.UsersFile.{User}
+use Rattle.cal_model.specs.Users.UsersFile.{Users}
 use Rattle.cal_book.specs.declared.changes.check.ChangeCheck.{ChangeCheck}
 use Rattle.cal_book.specs.declared.changes.check.ChangeCheck.TheVariants.{Made, Deletes, Refused, NoMemory}
 
 -- a request that one of these users can ask for
 pub record IsAskedOf (directory : Directory) (who : ℕ) (request : Request) : Type 0 where
-  pub users : List User
+  pub users : Users
   pub users_are : directory_of users ≡ directory
   pub bookable : IsBookable users who request
 

@@ -6,18 +6,18 @@ use Rattle.cal_model.specs.History.Origins.{Origins, AreLive}
 use Rattle.cal_model.specs.State.ServerState.{Directory, ServerState, directory_of}
 use Rattle.cal_model.specs.State.SoundStates.{IsSoundChange}
 use Rattle.cal_model.specs.State.UserNames.{AreToldApart}
-use Rattle.cal_model.specs.Users.UsersFile.{User}
+use Rattle.cal_model.specs.Users.UsersFile.{Users}
 use Rattle.cal_journal.specs.KeptEntries.{AreSound}
 use Rattle.collections.specs.Kept.{Kept as KeptStore, state_of, users_of, origins_of}
 
 -- the users, the store, the entries in their order, and for how many more there is room
 pub record Kept : Type 0 where
-  pub users : List User
+  pub users : Users
   pub store : KeptStore
   pub journal : List Entry
   pub room : ℕ
 
-abbrev pub users_in : Kept → List User
+abbrev pub users_in : Kept → Users
 users_in kept = kept.users
 
 abbrev pub directory_in : Kept → Directory
@@ -30,7 +30,7 @@ abbrev pub origins_in : Kept → Origins
 origins_in kept = origins_of kept.store
 
 -- Each entry was accepted at its place; together they lead to the store, and its origins are those of the objects that they left.
-pub record IsInStep (users : List User) (store : KeptStore) (journal : List Entry) : Type 0 where
+pub record IsInStep (users : Users) (store : KeptStore) (journal : List Entry) : Type 0 where
   pub same : users_of store ≡ directory_of users
   pub told : AreToldApart (directory_of users)
   pub legal : IsLegal (directory_of users) journal

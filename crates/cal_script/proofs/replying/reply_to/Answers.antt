@@ -1,9 +1,9 @@
-use Rattle.std.proofs.Common.{List, rules, subst, ◌∙◌, FitsSigned, w64}
+use Rattle.std.proofs.Common.{rules, subst, ◌∙◌, FitsSigned, w64}
 use Rattle.std.proofs.lemmas.Int.{to_z-of_z}
 use mir.Val.{to_z, of_z}
 use Rattle.cal_model.specs.History.Journal.{IsLegal}
 use Rattle.cal_model.specs.State.ServerState.{directory_of}
-use Rattle.cal_model.specs.Users.UsersFile.{User}
+use Rattle.cal_model.specs.Users.UsersFile.{Users}
 use Rattle.cal_script.proofs.EnteringLemmas.{goes_on_none}
 use Rattle.cal_script.proofs.ReplyingLemmas.{told_booked, told_answer, told_reason, told_on, told_by}
 use Rattle.cal_script.proofs.replying.reply_to.Goals as goal
@@ -25,7 +25,7 @@ returns-in-Request-clause-known g c =
 pub returns-in-Request-clause-book : goal.returns-in-Request-clause-book
 returns-in-Request-clause-book g c =
     let users_are = c.reserve.ensures.users ∙ c.requires.book.users_are in
-    record { users_are = c.ask-told.ensures.users ∙ users_are; legal = subst (λ (users : List User). IsLegal (directory_of users) (g.B.Desk.book c.ask-told.new.self).work.journal) users_are c.ask-told.ensures.legal }
+    record { users_are = c.ask-told.ensures.users ∙ users_are; legal = subst (λ (users : Users). IsLegal (directory_of users) (g.B.Desk.book c.ask-told.new.self).work.journal) users_are c.ask-told.ensures.legal }
 
 pub returns-in-Request-clause-goes_on : goal.returns-in-Request-clause-goes_on
 returns-in-Request-clause-goes_on g c =

@@ -1,6 +1,6 @@
-use Rattle.std.proofs.Common.{List, subst, sym, ◌∙◌}
+use Rattle.std.proofs.Common.{subst, sym, ◌∙◌}
 use Rattle.cal_model.specs.Transcripts.Transcript.{IsPrinted, IsPrintedInPart}
-use Rattle.cal_model.specs.Users.UsersFile.{User}
+use Rattle.cal_model.specs.Users.UsersFile.{Users}
 use Rattle.cal_script.specs.ScriptEnds.{HasEnded}
 use Rattle.cal_script.proofs.RunLemmas.{nothing_at_start, opening_book, run_from_start}
 use Rattle.cal_script.proofs.running.run_frames.Goals as goal
@@ -14,7 +14,7 @@ returns-in_default-start-clause-ended g c = nothing_at_start _ _ _
 pub returns-clause-ended : goal.returns-clause-ended
 returns-clause-ended g c =
     subst
-    (λ (users : List User). HasEnded (IsPrinted users) (IsPrintedInPart users) c.in-End.end (g.I.Source.left c.args.input.now) (g.I.Source.left c.frames_on.new.input) (g.O.Sink.written c.args.output.now) (g.O.Sink.written c.frames_on.new.output))
+    (λ (users : Users). HasEnded (IsPrinted users) (IsPrintedInPart users) c.in-End.end (g.I.Source.left c.args.input.now) (g.I.Source.left c.frames_on.new.input) (g.O.Sink.written c.args.output.now) (g.O.Sink.written c.frames_on.new.output))
     c.deref.ensures
     (run_from_start c.deref.result.now _ _ c.in-End.end _ _ _ _ (opening_book c.in-Ok-start.book c.deref.result.now (c.in-Ok-start.ensures.users ∙ (c.in-Ok.ensures ∙ sym c.deref.ensures)) c.in-Ok-start.ensures.work)
     c.in-End.ensures.ended)

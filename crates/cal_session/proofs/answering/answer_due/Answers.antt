@@ -1,9 +1,9 @@
-use Rattle.std.proofs.Common.{◌≡◌, ◌+◌, ◌<◌, ◌∙◌, ap, sym, subst, refl, arith, List, Option, length}
+use Rattle.std.proofs.Common.{◌≡◌, ◌+◌, ◌<◌, ◌∙◌, ap, sym, subst, refl, arith, Option, length}
 use Rattle.std.specs.Prelude.{ℤ}
 use Rattle.turn_lock.specs.Passes.{PassState}
 use Rattle.cal_model.specs.History.Journal.{Entry}
 use Rattle.cal_model.specs.Streams.WireLimits.{request_limit}
-use Rattle.cal_model.specs.Users.UsersFile.{User}
+use Rattle.cal_model.specs.Users.UsersFile.{Users}
 use Rattle.cal_session.specs.Sessions.{LinkTold}
 use Rattle.cal_session.specs.UnderWay.{IsUnderWay, IsWaiting, StopsSo}
 use Rattle.cal_session.proofs.AnswerLaws.{few_yet}
@@ -21,13 +21,13 @@ due-init g c = record {
 }
 
 pub answer_next-requires-clause-same : goal.answer_next-requires-clause-same
-answer_next-requires-clause-same g c κs within = ap (λ (p : PassState Entry (List User)). p.lock) c.due.invariant.pass ∙ c.requires.same
+answer_next-requires-clause-same g c κs within = ap (λ (p : PassState Entry Users). p.lock) c.due.invariant.pass ∙ c.requires.same
 
 pub answer_next-requires-clause-free : goal.answer_next-requires-clause-free
-answer_next-requires-clause-free g c κs within = ap (λ (p : PassState Entry (List User)). p.holds_turn) c.due.invariant.pass ∙ c.requires.free
+answer_next-requires-clause-free g c κs within = ap (λ (p : PassState Entry Users). p.holds_turn) c.due.invariant.pass ∙ c.requires.free
 
 pub answer_next-requires-clause-base : goal.answer_next-requires-clause-base
-answer_next-requires-clause-base g c κs within = ap (λ (p : PassState Entry (List User)). p.base) c.due.invariant.pass ∙ c.requires.base
+answer_next-requires-clause-base g c κs within = ap (λ (p : PassState Entry Users). p.base) c.due.invariant.pass ∙ c.requires.base
 
 pub answer_next-requires-clause-few : goal.answer_next-requires-clause-few
 answer_next-requires-clause-few g c κs within =

@@ -1,7 +1,7 @@
-use Rattle.std.proofs.Common.{◌≡◌, ◌+◌, ◌-◌, ◌≤◌, length, List}
+use Rattle.std.proofs.Common.{◌≡◌, ◌+◌, ◌-◌, ◌≤◌, length}
 use Rattle.cal_model.specs.History.Journal.{Entry}
 use Rattle.cal_model.specs.Streams.WireLimits.{request_limit}
-use Rattle.cal_model.specs.Users.UsersFile.{User}
+use Rattle.cal_model.specs.Users.UsersFile.{Users}
 use Rattle.turn_lock.specs.Passes.{PassState}
 use Rattle.cal_session.specs.Sessions.{LinkTold}
 use Rattle.cal_session.specs.UnderWay.{IsUnderWay}
@@ -11,7 +11,7 @@ abbrev pub invariant-due : goal.invariant-due
 invariant-due g l = record {
   pass : l.pass ≡ record l.fn.pass { seen = l.pass.seen; looks = l.pass.looks };
   room : length l.turns.items + l.turns.room ≡ length l.fn.turns.items + l.fn.turns.room;
-  session : (start : PassState Entry (List User)) (before : LinkTold) → l.fn.pass ≡ record start { seen = l.fn.pass.seen; looks = l.fn.pass.looks }
+  session : (start : PassState Entry Users) (before : LinkTold) → l.fn.pass ≡ record start { seen = l.fn.pass.seen; looks = l.fn.pass.looks }
       → IsUnderWay l.hall.users.now (g.C.Clock.moment l.fn.clock) start l.fn.pass before (record { faults = g.L.Link.faults l.fn.link; left = g.L.Link.left l.fn.link; written = g.L.Link.written l.fn.link }) l.fn.turns.items l.fn.wire
       → IsUnderWay l.hall.users.now (g.C.Clock.moment l.clock) start l.pass before (record { faults = g.L.Link.faults l.link; left = g.L.Link.left l.link; written = g.L.Link.written l.link }) l.turns.items l.wire;
   clock : g.C.Clock.moment l.clock ≡ g.C.Clock.moment l.fn.clock;

@@ -1,8 +1,8 @@
-use Rattle.std.proofs.Common.{rules, ℕ, List, ap, subst, to_z, of_z, to_z-of_z, FitsSigned, w64}
+use Rattle.std.proofs.Common.{rules, ℕ, ap, subst, to_z, of_z, to_z-of_z, FitsSigned, w64}
 use Rattle.std.specs.Prelude.{ℤ}
 use Rattle.turn_lock.specs.Passes.{PassState}
 use Rattle.cal_model.specs.History.Journal.{Entry}
-use Rattle.cal_model.specs.Users.UsersFile.{User}
+use Rattle.cal_model.specs.Users.UsersFile.{Users}
 use Rattle.cal_session.specs.AskedTurns.{AskedAt}
 use Rattle.cal_session.specs.Turns.{event_of}
 use Rattle.cal_session.proofs.ReplyLemmas.{replied, replied_known}
@@ -21,7 +21,7 @@ returns-in-Reply-clause-answered g c =
     let dated = subst (λ (m : ℤ). AskedAt users pass at (event_of pass.number who m request) c.ask_once-at.result.1 next.seen) (to_z-of_z fits) own in
     let turn = rw c.in-Reply.is at dated in
     replied users pass next c.args.wire.now c.args.moment who request at c.in-Reply.reply c.in-Request.ensures.asked turn
-    (ap (λ (p : PassState Entry (List User)). p.looks) c.ask_once-at.ensures.pass)
+    (ap (λ (p : PassState Entry Users). p.looks) c.ask_once-at.ensures.pass)
 
 pub returns-in-Reply-clause-known : goal.returns-in-Reply-clause-known
 returns-in-Reply-clause-known g c =

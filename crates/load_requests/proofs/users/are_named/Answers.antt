@@ -8,5 +8,6 @@ use Rattle.load_requests.proofs.users.are_named.Goals as goal
 pub returns-clause-named : goal.returns-clause-named
 returns-clause-named c = λ yes.
     named (directory_of c.args.users.now) c.args.sessions
-    (length-map c.args.users.now (λ (user : User). user.name) ∙ omega arith)
+    (length-map c.args.users.now.people (λ (user : User). user.name) ∙ omega arith)
+    (omega arith)
     (λ k less. c.names.invariant.named k (omega arith))
