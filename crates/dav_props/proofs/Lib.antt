@@ -1,6 +1,7 @@
 pub mod RowLemmas
 pub mod TextLemmas
 pub mod PieceLemmas
+pub mod GroupLemmas
 pub mod StatusLemmas
 pub mod SeenLemmas
 pub mod SettingLemmas

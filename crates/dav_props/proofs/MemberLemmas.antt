@@ -14,7 +14,7 @@ use Rattle.cal_model.specs.Serving.ReadingReplies.{objects_seen}
 use Rattle.cal_model.specs.Sight.Resources.{Resource, calendar, object}
 use Rattle.cal_model.specs.Sight.Scenes.{scene_at, visible_home}
 use Rattle.cal_model.specs.Sight.Views.{Sight, View, held_on, contents_of, only_where, sight_of, sight_with, seen_by, home_by}
-use Rattle.cal_model.specs.State.ServerState.{Directory, Calendar, Home as UserHome, ServerState, user_number, home_at}
+use Rattle.cal_model.specs.State.ServerState.{Directory, Calendar, Home as UserHome, ServerState, groups_of, user_number, home_at}
 use Rattle.cal_model.specs.State.SoundStates.{AreToUsers, IsSound, IsSoundCalendar, IsSoundHome}
 use Rattle.cal_model.specs.State.StoredData.{data_of, data_at, next_calendar}
 use Rattle.cal_model.specs.Words.Lists.{is_empty}
@@ -151,10 +151,10 @@ module _ (directory : Directory) (state : ServerState) (who : ℕ) (props : Prop
   unread user within c held true none = ap (λ b. flat_map response_of (calendar_members user within (Some (record (sight_with held c) { contents = only_where b (contents_of c) })))) none
 
   pub no_members_unread : (user within : List ℕ) (owner : ℕ) (kept : CalendarData) (held : ℕ) → IsSound directory state → Some owner ≡ user_number directory user → Some kept ≡ data_at state owner within
-      → held ≡ privileges_held [] kept.acl.grants owner who → has_all held read ≡ false → members_text directory state who props (CalendarPath user within) ≡ []
+      → held ≡ privileges_held (groups_of directory who) kept.acl.grants owner who → has_all held read ≡ false → members_text directory state who props (CalendarPath user within) ≡ []
   no_members_unread user within owner kept held sound known e is none =
       let there = some_calendar directory state who owner within kept e in
-      let same : held ≡ held_on directory owner who there.0 = is ∙ ap (λ (k : CalendarData). privileges_held [] k.acl.grants owner who) there.2 in
+      let same : held ≡ held_on directory owner who there.0 = is ∙ ap (λ (k : CalendarData). privileges_held (groups_of directory who) k.acl.grants owner who) there.2 in
       calendar_members_are user within
       ∙ ap (λ number. flat_map response_of (calendar_members user within (calendar_by directory state who number within))) (sym known)
       ∙ ap (λ sight. flat_map response_of (calendar_members user within sight)) (sight_there directory state who owner within there.0 sound there.1)
@@ -170,11 +170,11 @@ module _ (directory : Directory) (state : ServerState) (who : ℕ) (props : Prop
 
   -- the calendar's sight, and the responses of the objects that are seen
   pub members_of_calendar : (user within : List ℕ) (owner : ℕ) (kept : CalendarData) (held : ℕ) → IsSound directory state → Some owner ≡ user_number directory user → Some kept ≡ data_at state owner within
-      → held ≡ privileges_held [] kept.acl.grants owner who → has_all held read ≡ true
+      → held ≡ privileges_held (groups_of directory who) kept.acl.grants owner who → has_all held read ≡ true
       → (sight : Sight) × (sight.held ≡ held) × (flat_map (object_text directory who props user within sight) (objects_at state owner within) ≡ members_text directory state who props (CalendarPath user within))
   members_of_calendar user within owner kept held sound known e is all =
       let there = some_calendar directory state who owner within kept e in
-      let same : held ≡ held_on directory owner who there.0 = is ∙ ap (λ (k : CalendarData). privileges_held [] k.acl.grants owner who) there.2 in
+      let same : held ≡ held_on directory owner who there.0 = is ∙ ap (λ (k : CalendarData). privileges_held (groups_of directory who) k.acl.grants owner who) there.2 in
       let sight = sight_of directory owner who there.0 in
       let shown : holds_some directory owner who there.0 ≡ true = ap (λ h. not (h == 0)) (sym same) ∙ some_held directory state who held all in (
         sight,
@@ -187,10 +187,10 @@ module _ (directory : Directory) (state : ServerState) (who : ℕ) (props : Prop
       )
 
   -- the response of a calendar on which some privilege is held
-  pub calendar_written : (user name : List ℕ) (owner held : ℕ) (kept : CalendarData) (c : Calendar) → held ≡ privileges_held [] kept.acl.grants owner who → (held ≡ 0 → ⊥) → kept ≡ data_of owner c
+  pub calendar_written : (user name : List ℕ) (owner held : ℕ) (kept : CalendarData) (c : Calendar) → held ≡ privileges_held (groups_of directory who) kept.acl.grants owner who → (held ≡ 0 → ⊥) → kept ≡ data_of owner c
       → response_of (calendar user name (calendar_sight held kept (unseen_of directory state who owner name [] c))) ≡ calendar_text directory who props owner user (name, c)
   calendar_written user name owner held kept c is some same =
-      let held_is : held ≡ held_on directory owner who c = is ∙ ap (λ (k : CalendarData). privileges_held [] k.acl.grants owner who) same in
+      let held_is : held ≡ held_on directory owner who c = is ∙ ap (λ (k : CalendarData). privileges_held (groups_of directory who) k.acl.grants owner who) same in
       let test : (held == 0) ≡ false = grind (arith, nat_tests) in
       let text = response_of (calendar user name (sight_of directory owner who c)) in
       ap (λ s. response_of (calendar user name s)) (sym (sight_is directory state who owner held name [] c kept held_is same))

@@ -9,8 +9,8 @@ use Rattle.cal_model.specs.Properties.PropertyValues.{bit_elements, kinds_elemen
 use Rattle.cal_model.specs.declared.path.Path.TheVariants.{Principal}
 use Rattle.cal_model.specs.declared.privilege.Grant.{Grant}
 use Rattle.cal_model.specs.declared.privilege.Who.{Who}
-use Rattle.cal_model.specs.declared.privilege.Who.TheVariants.{Everyone, Owner, Principal as ToPrincipal}
-use Rattle.cal_model.specs.State.ServerState.{Directory, user_name}
+use Rattle.cal_model.specs.declared.privilege.Who.TheVariants.{Everyone, Owner, Principal as ToPrincipal, Group as ToGroup}
+use Rattle.cal_model.specs.State.ServerState.{Directory, user_name, group_name}
 use Rattle.cal_model.specs.Replies.XmlText.{element}
 use Rattle.dav_write.proofs.ErrorLemmas.{filled}
 use Rattle.multistatus.proofs.TagLemmas.{href_pieces}
@@ -69,6 +69,7 @@ grantee_there : (directory : Directory) (who : Who) → 0 < length (grantee dire
 grantee_there directory Everyone = omega arith
 grantee_there directory Owner = omega arith
 grantee_there directory (ToPrincipal user) = subst (λ text. 0 < length text) (href_pieces (Principal (user_name directory user))) (omega arith)
+grantee_there directory (ToGroup number) = subst (λ text. 0 < length text) (href_pieces (Principal (group_name directory number))) (omega arith)
 
 -- the ace of a grant, piece by piece
 pub grant_pieces : (directory : Directory) (grant : Grant)

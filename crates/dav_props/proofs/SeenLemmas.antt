@@ -1,6 +1,6 @@
 -- What is found in a store by look-ups is what a user sees at a path.
 use Rattle.std.proofs.Common.{◌≡◌, ℕ, zero, suc, Bool, true, false, not, ◌||◌, cond, ◌==◌, List, [], ◌∷◌, ◌++◌, map, Option, Some, None, refl, sym, ap, ◌∙◌, subst, append-nil, arith}
-use Rattle.std.specs.Prelude.{option_map, option_and_then, option_to_list, flat_map, IfOk, Result, Ok, Err}
+use Rattle.std.specs.Prelude.{option_map, option_and_then, option_to_list, is_some, flat_map, IfOk, Result, Ok, Err}
 use Rattle.std.specs.Borrow.{Bor}
 use Rattle.std.proofs.lemmas.Bool.Decides.{nat_tests}
 use Rattle.std.proofs.lemmas.Map.Entries.{option_filter}
@@ -12,12 +12,12 @@ use Rattle.cal_model.specs.declared.stored.Stored.{Stored}
 use Rattle.cal_model.specs.Words.Lists.{is_empty}
 use Rattle.cal_model.specs.Access.Privileges.{privileges_held, has_all, read}
 use Rattle.cal_model.specs.State.PropertyTexts.{Texts}
-use Rattle.cal_model.specs.State.ServerState.{Directory, Calendar, Home as UserHome, ServerState, user_number, home_at, calendar_at, octets_at}
+use Rattle.cal_model.specs.State.ServerState.{Directory, Calendar, Home as UserHome, ServerState, groups_of, group_number, user_number, home_at, calendar_at, octets_at}
 use Rattle.cal_model.specs.State.StoredData.{data_of, data_at}
 use Rattle.cal_model.specs.State.SoundStates.{AreToUsers, IsSound}
 use Rattle.cal_model.specs.Sight.Views.{Sight, View, held_on, contents_of, only_where, sight_of, sight_with, seen_by, home_by}
 use Rattle.cal_model.specs.Sight.Scenes.{scene_at, at_both, visible_home, octets_seen}
-use Rattle.cal_model.specs.Sight.Resources.{Resource, calendar, object}
+use Rattle.cal_model.specs.Sight.Resources.{Resource, principal, group, calendar, object}
 use Rattle.cal_model.specs.declared.property.PropName.{PropName}
 use Rattle.cal_model.specs.Properties.PropertyTable.{answer, answer_of_row, row_of, without_value}
 use Rattle.cal_model.specs.Serving.SeenResources.{resources_seen, answer_at, seen_answer}
@@ -94,6 +94,12 @@ module _ (directory : Directory) (state : ServerState) (who : ℕ) where
     by None e = absurd cc
     by (Some c) e = let same : kept ≡ data_of owner c = cc in (c, refl, same)
 
+  -- the grants of a calendar that is there are to users and groups that there are
+  pub grants_known : (owner : ℕ) (name : List ℕ) (kept : CalendarData) → IsSound directory state → Some kept ≡ data_at state owner name → AreToUsers directory kept.acl.grants
+  grants_known owner name kept sound e =
+      let there = some_calendar owner name kept e in
+      subst (λ (k : CalendarData). AreToUsers directory k.acl.grants) (sym there.2) (calendar-sound directory state owner name there.0 sound there.1).grants
+
   pub not_there : (user name : List ℕ) (owner : ℕ) → IsSound directory state → Some owner ≡ user_number directory user → None ≡ data_at state owner name
       → resources_seen directory state who (CalendarPath user name) ≡ []
   not_there user name owner sound known e =
@@ -122,10 +128,10 @@ module _ (directory : Directory) (state : ServerState) (who : ℕ) where
   not_zero n some = let test : (n == 0) ≡ false = grind (arith, nat_tests) in ap not test
 
   pub hidden : (user name : List ℕ) (owner : ℕ) (kept : CalendarData) (held : ℕ) → IsSound directory state → Some owner ≡ user_number directory user → Some kept ≡ data_at state owner name
-      → held ≡ privileges_held [] kept.acl.grants owner who → held ≡ 0 → resources_seen directory state who (CalendarPath user name) ≡ []
+      → held ≡ privileges_held (groups_of directory who) kept.acl.grants owner who → held ≡ 0 → resources_seen directory state who (CalendarPath user name) ≡ []
   hidden user name owner kept held sound known e is none =
       let found = some_calendar owner name kept e in
-      let same : held ≡ held_on directory owner who found.0 = is ∙ ap (λ (k : CalendarData). privileges_held [] k.acl.grants owner who) found.2 in
+      let same : held ≡ held_on directory owner who found.0 = is ∙ ap (λ (k : CalendarData). privileges_held (groups_of directory who) k.acl.grants owner who) found.2 in
       let test : holds_some directory owner who found.0 ≡ false = ap (λ h. not (h == 0)) (sym same ∙ none) in
       calendars_are user name
       ∙ ap (λ number. calendars_by user name (calendar_by number name)) (sym known)
@@ -147,11 +153,11 @@ module _ (directory : Directory) (state : ServerState) (who : ℕ) where
       ∙ (λ i. calendar_sight (sym is i) (sym same i) (unseen_of owner within name c))
 
   pub found : (user : Bor (List ℕ)) (name : List ℕ) (owner : ℕ) (kept : Bor CalendarData) (held : ℕ) → IsSound directory state → Some owner ≡ user_number directory user.now
-      → Some kept.now ≡ data_at state owner name → held ≡ privileges_held [] kept.now.acl.grants owner who → (held ≡ 0 → ⊥)
+      → Some kept.now ≡ data_at state owner name → held ≡ privileges_held (groups_of directory who) kept.now.acl.grants owner who → (held ≡ 0 → ⊥)
       → IsSeenAs directory state who (CalendarPath user.now name) (subject.Calendar user held kept)
   found user name owner kept held sound known e is some =
       let there = some_calendar owner name kept.now e in
-      let same : held ≡ held_on directory owner who there.0 = is ∙ ap (λ (k : CalendarData). privileges_held [] k.acl.grants owner who) there.2 in
+      let same : held ≡ held_on directory owner who there.0 = is ∙ ap (λ (k : CalendarData). privileges_held (groups_of directory who) k.acl.grants owner who) there.2 in
       let test : holds_some directory owner who there.0 ≡ true = ap (λ h. not (h == 0)) (sym same) ∙ not_zero held some in
       record {
         unseen = unseen_of owner name [] there.0;
@@ -161,7 +167,7 @@ module _ (directory : Directory) (state : ServerState) (who : ℕ) where
             ∙ ap (calendars_by user.now name) (sight_there owner name there.0 sound there.1 ∙ ap (λ b. cond b (Some (sight_of directory owner who there.0)) None) test)
             ∙ ap (λ sight. calendar user.now name sight ∷ []) (sight_is owner held name [] there.0 kept.now same there.2);
         path_is = refl;
-        users = subst (λ (k : CalendarData). AreToUsers directory k.acl.grants) (sym there.2) (calendar-sound directory state owner name there.0 sound there.1).grants;
+        users = grants_known owner name kept.now sound e;
       }
 
   -- Objects
@@ -173,10 +179,10 @@ module _ (directory : Directory) (state : ServerState) (who : ℕ) where
   unread user within name c held false none = refl
 
   pub unread_object : (user within name : List ℕ) (owner : ℕ) (kept : CalendarData) (held : ℕ) → IsSound directory state → Some owner ≡ user_number directory user → Some kept ≡ data_at state owner within
-      → held ≡ privileges_held [] kept.acl.grants owner who → has_all held read ≡ false → resources_seen directory state who (ObjectPath user within name) ≡ []
+      → held ≡ privileges_held (groups_of directory who) kept.acl.grants owner who → has_all held read ≡ false → resources_seen directory state who (ObjectPath user within name) ≡ []
   unread_object user within name owner kept held sound known e is none =
       let there = some_calendar owner within kept e in
-      let same : held ≡ held_on directory owner who there.0 = is ∙ ap (λ (k : CalendarData). privileges_held [] k.acl.grants owner who) there.2 in
+      let same : held ≡ held_on directory owner who there.0 = is ∙ ap (λ (k : CalendarData). privileges_held (groups_of directory who) k.acl.grants owner who) there.2 in
       objects_are user within name
       ∙ ap (λ number. objects_by user within name (calendar_by number within)) (sym known)
       ∙ ap (objects_by user within name) (sight_there owner within there.0 sound there.1)
@@ -205,19 +211,19 @@ module _ (directory : Directory) (state : ServerState) (who : ℕ) where
       ∙ ap (λ o. map (object user within name (sight_of directory owner who c)) (option_to_list o)) (sym (octets_there owner within name c there))
 
   pub no_object : (user within name : List ℕ) (owner : ℕ) (kept : CalendarData) (held : ℕ) → IsSound directory state → Some owner ≡ user_number directory user → Some kept ≡ data_at state owner within
-      → held ≡ privileges_held [] kept.acl.grants owner who → has_all held read ≡ true → None ≡ octets_at state owner within name → resources_seen directory state who (ObjectPath user within name) ≡ []
+      → held ≡ privileges_held (groups_of directory who) kept.acl.grants owner who → has_all held read ≡ true → None ≡ octets_at state owner within name → resources_seen directory state who (ObjectPath user within name) ≡ []
   no_object user within name owner kept held sound known e is all none =
       let there = some_calendar owner within kept e in
-      let same : held ≡ held_on directory owner who there.0 = is ∙ ap (λ (k : CalendarData). privileges_held [] k.acl.grants owner who) there.2 in
+      let same : held ≡ held_on directory owner who there.0 = is ∙ ap (λ (k : CalendarData). privileges_held (groups_of directory who) k.acl.grants owner who) there.2 in
       objects_read user within name owner held there.0 sound known there.1 same all
       ∙ ap (λ o. map (object user within name (sight_of directory owner who there.0)) (option_to_list o)) (sym none)
 
   pub found_object : (user : Bor (List ℕ)) (within name : List ℕ) (owner : ℕ) (kept : CalendarData) (held : ℕ) (stored : Bor Stored) → IsSound directory state → Some owner ≡ user_number directory user.now
-      → Some kept ≡ data_at state owner within → held ≡ privileges_held [] kept.acl.grants owner who → has_all held read ≡ true → Some stored.now.octets ≡ octets_at state owner within name
+      → Some kept ≡ data_at state owner within → held ≡ privileges_held (groups_of directory who) kept.acl.grants owner who → has_all held read ≡ true → Some stored.now.octets ≡ octets_at state owner within name
       → IsSeenAs directory state who (ObjectPath user.now within name) (subject.Object user held stored)
   found_object user within name owner kept held stored sound known e is all octets =
       let there = some_calendar owner within kept e in
-      let same : held ≡ held_on directory owner who there.0 = is ∙ ap (λ (k : CalendarData). privileges_held [] k.acl.grants owner who) there.2 in
+      let same : held ≡ held_on directory owner who there.0 = is ∙ ap (λ (k : CalendarData). privileges_held (groups_of directory who) k.acl.grants owner who) there.2 in
       record {
         unseen = unseen_of owner within name there.0;
         is =
@@ -239,8 +245,20 @@ module _ (directory : Directory) (state : ServerState) (who : ℕ) where
   pub root_seen : (path : Path) → path ≡ Root → IsSeenAs directory state who path subject.Root
   root_seen path is = record { unseen = nothing_unseen; is = ap (resources_seen directory state who) is; path_is = sym is; users = tt }
 
-  pub principal_seen : (path : Path) (user : Bor (List ℕ)) → path ≡ Principal user.now → IsSeenAs directory state who path (subject.Principal user)
-  principal_seen path user is = record { unseen = nothing_unseen; is = ap (resources_seen directory state who) is; path_is = sym is; users = tt }
+  -- the principal of a name, by the number of its group
+  abbrev principal_of : List ℕ → Option ℕ → List Resource
+  principal_of name found = cond (is_some found) (group name) (principal name) ∷ []
+
+  principals_are : (name : List ℕ) → resources_seen directory state who (Principal name) ≡ principal_of name (group_number directory name)
+  unfolding scene_at
+  principals_are name = refl
+
+  pub group_seen : (name : Bor (List ℕ)) (number : ℕ) → Some number ≡ group_number directory name.now → IsSeenAs directory state who (Principal name.now) (subject.Group name number)
+  group_seen name number known = record { unseen = nothing_unseen; is = principals_are name.now ∙ ap (principal_of name.now) (sym known); path_is = refl; users = known }
+
+  pub principal_seen : (name : Bor (List ℕ)) (number : Option ℕ) → None ≡ group_number directory name.now → number ≡ user_number directory name.now
+      → IsSeenAs directory state who (Principal name.now) (subject.Principal name number)
+  principal_seen name number none known = record { unseen = nothing_unseen; is = principals_are name.now ∙ ap (principal_of name.now) (sym none); path_is = refl; users = known }
 
   pub home_seen : (path : Path) (user : Bor (List ℕ)) → path ≡ Home user.now → IsSeenAs directory state who path (subject.Home user)
   home_seen path user is = record { unseen = nothing_unseen; is = ap (resources_seen directory state who) is; path_is = sym is; users = tt }

@@ -1,5 +1,5 @@
 -- The content of a property of a resource as it is seen, by the code's names for both. Where the property is not there this says nothing of use; that it is the table's content elsewhere is proved.
-use Rattle.std.specs.Prelude.{◌≡◌, ℕ, if◌then◌else◌, List, [], ◌++◌, flat_map, length, codes, decimal, unwrap_or, Option, None}
+use Rattle.std.specs.Prelude.{◌≡◌, ℕ, if◌then◌else◌, List, [], ◌++◌, flat_map, length, codes, decimal, unwrap_or, Option, Some, None}
 use Rattle.cal_model.specs.declared.path.Path.TheVariants.{Principal, Home}
 use Rattle.cal_model.specs.declared.property.PropName.{PropName}
 use Rattle.cal_model.specs.Access.Privileges.{has_all}
@@ -12,17 +12,18 @@ use Rattle.cal_model.specs.Replies.ReplyElements.{href_element}
 use Rattle.cal_model.specs.Replies.XmlText.{xml_text}
 use Rattle.cal_model.specs.State.PropertyTexts.{text_at}
 use Rattle.cal_model.specs.State.ServerState.{Directory, user_name}
-use Rattle.cal_model.specs.Properties.PropertyValues.{empty_named, held_elements, kinds_elements, acl_elements, data_type, report_elements}
+use Rattle.cal_model.specs.Properties.PropertyValues.{empty_named, members_of, memberships_of, held_elements, kinds_elements, acl_elements, data_type, report_elements}
 use Rattle.dav_props.specs.declared.rows.Row.{Row}
 use Rattle.dav_props.specs.declared.rows.Row.TheVariants as rows
 use Rattle.dav_props.specs.declared.subjects.Subject.{Subject}
 use Rattle.dav_props.specs.declared.subjects.Subject.TheVariants as subject
 use Rattle.dav_props.specs.Subjects.{texts_of}
 
--- the name of the user whose home a resource is in
+-- the name of the user whose home a resource is in, or of the principal itself
 abbrev pub owner_named : Subject → List ℕ
 owner_named subject.Root = []
-owner_named (subject.Principal user) = user.now
+owner_named (subject.Principal user number) = user.now
+owner_named (subject.Group name number) = name.now
 owner_named (subject.Home user) = user.now
 owner_named (subject.Calendar user held kept) = user.now
 owner_named (subject.Object user held stored) = user.now
@@ -32,13 +33,15 @@ all_privileges = 511
 
 abbrev pub held_at : Subject → ℕ
 held_at subject.Root = all_privileges
-held_at (subject.Principal user) = all_privileges
+held_at (subject.Principal user number) = all_privileges
+held_at (subject.Group name number) = all_privileges
 held_at (subject.Home user) = all_privileges
 held_at (subject.Calendar user held kept) = held
 held_at (subject.Object user held stored) = held
 
 abbrev pub type_elements : Subject → List ℕ
-type_elements (subject.Principal user) = empty_named (codes "D:collection") ++ empty_named (codes "D:principal")
+type_elements (subject.Principal user number) = empty_named (codes "D:collection") ++ empty_named (codes "D:principal")
+type_elements (subject.Group name number) = empty_named (codes "D:collection") ++ empty_named (codes "D:principal")
 type_elements (subject.Calendar user held kept) = empty_named (codes "D:collection") ++ empty_named (codes "C:calendar")
 type_elements (subject.Object user held stored) = []
 type_elements other = empty_named (codes "D:collection")
@@ -49,8 +52,18 @@ text_element name (subject.Calendar user held kept) = xml_text (unwrap_or (text_
 text_element name other = []
 
 abbrev pub display_element : PropName → Subject → List ℕ
-display_element name (subject.Principal user) = xml_text user.now
+display_element name (subject.Principal user number) = xml_text user.now
+display_element name (subject.Group of number) = xml_text of.now
 display_element name other = text_element name other
+
+-- the members of a group, and the groups of a user
+abbrev pub members_shown : Directory → Subject → List ℕ
+members_shown directory (subject.Group name number) = members_of directory number
+members_shown directory other = []
+
+abbrev pub memberships_shown : Directory → Subject → List ℕ
+memberships_shown directory (subject.Principal user (Some number)) = memberships_of directory number
+memberships_shown directory other = []
 
 abbrev pub octets_in : Subject → List ℕ
 octets_in (subject.Object user held stored) = stored.now.octets
@@ -77,6 +90,8 @@ shown_content directory who rows.HeldPrivileges name seen = held_elements (held_
 shown_content directory who rows.DisplayName name seen = display_element name seen
 shown_content directory who rows.PrincipalUrl name seen = href_element (Principal (owner_named seen))
 shown_content directory who rows.CalendarHome name seen = href_element (Home (owner_named seen))
+shown_content directory who rows.GroupMembers name seen = members_shown directory seen
+shown_content directory who rows.GroupMemberships name seen = memberships_shown directory seen
 shown_content directory who rows.Etag name seen = said_of_octets (λ octets. etag_text (etag_of octets)) seen
 shown_content directory who rows.ContentType name seen = codes "text/calendar; charset=utf-8"
 shown_content directory who rows.ContentLength name seen = said_of_octets (λ octets. decimal (length octets)) seen

@@ -2,10 +2,10 @@
 use Rattle.std.specs.Prelude.{◌≡◌, Bool, List, [], ◌∷◌, codes, decimal, length}
 use Rattle.cal_model.specs.declared.property.PropName.{PropName}
 use Rattle.cal_model.specs.Access.Privileges.{read, read_acl, read_held}
-use Rattle.cal_model.specs.Sight.Resources.{Resource, any_resource, is_principal, is_calendar, is_object, is_named, is_owned}
+use Rattle.cal_model.specs.Sight.Resources.{Resource, any_resource, is_principal, is_user, is_group, is_calendar, is_object, is_named, is_owned}
 use Rattle.cal_model.specs.Properties.PropertyTable as table
 use Rattle.cal_model.specs.Properties.PropertyTable.{Property, in_dav, in_caldav, row, text_row, in_both, in_names, in_none, protected, text, zone, kinds}
-use Rattle.cal_model.specs.Properties.PropertyValues.{always, resource_type, asking_principal, principal_href, home_href, privileges_held_here, text_value, display_value, of_octets, shown_data, kinds_value, acl_value, data_type, report_elements}
+use Rattle.cal_model.specs.Properties.PropertyValues.{always, resource_type, asking_principal, principal_href, home_href, group_members, group_memberships, privileges_held_here, text_value, display_value, of_octets, shown_data, kinds_value, acl_value, data_type, report_elements}
 use Rattle.cal_model.specs.Replies.Etags.{etag_of, etag_text}
 use Rattle.cal_model.specs.Refusals.RequestLimits.{resource_limit, instances_limit}
 use Rattle.cal_model.specs.Busy.FreeBusyText.{utc_text}
@@ -13,7 +13,7 @@ use Rattle.cal_model.specs.Words.Limits.{first_date, last_date}
 use Rattle.dav_props.specs.declared.rows.Row.{Row}
 use Rattle.dav_props.specs.declared.rows.Row.TheVariants as rows
 use Rattle.dav_props.specs.declared.rows.Place.{Place}
-use Rattle.dav_props.specs.declared.rows.Place.TheVariants.{Anywhere, Owned, Principal, Calendar, Named, Object}
+use Rattle.dav_props.specs.declared.rows.Place.TheVariants.{Anywhere, Owned, Principal, User, Group, Calendar, Named, Object}
 use Rattle.dav_props.specs.declared.rows.Listing.{Listing}
 use Rattle.dav_props.specs.declared.rows.Listing.TheVariants.{Both, Names, Neither}
 use Rattle.dav_props.specs.declared.rows.Setting.{Setting}
@@ -30,6 +30,8 @@ name_of rows.HeldPrivileges = in_dav (codes "current-user-privilege-set")
 name_of rows.DisplayName = in_dav (codes "displayname")
 name_of rows.PrincipalUrl = in_dav (codes "principal-URL")
 name_of rows.CalendarHome = in_caldav (codes "calendar-home-set")
+name_of rows.GroupMembers = in_dav (codes "group-member-set")
+name_of rows.GroupMemberships = in_dav (codes "group-membership")
 name_of rows.Etag = in_dav (codes "getetag")
 name_of rows.ContentType = in_dav (codes "getcontenttype")
 name_of rows.ContentLength = in_dav (codes "getcontentlength")
@@ -54,7 +56,9 @@ property_of rows.Owner name = row name is_owned 0 in_names protected principal_h
 property_of rows.HeldPrivileges name = row name is_calendar read_held in_names protected privileges_held_here
 property_of rows.DisplayName name = row name is_named read in_both text (display_value name)
 property_of rows.PrincipalUrl name = row name is_principal 0 in_names protected principal_href
-property_of rows.CalendarHome name = row name is_principal 0 in_names protected home_href
+property_of rows.CalendarHome name = row name is_user 0 in_names protected home_href
+property_of rows.GroupMembers name = row name is_group 0 in_names protected group_members
+property_of rows.GroupMemberships name = row name is_principal 0 in_names protected group_memberships
 property_of rows.Etag name = row name is_object read in_both protected (of_octets (λ octets. etag_text (etag_of octets)))
 property_of rows.ContentType name = row name is_object read in_both protected (of_octets (λ octets. codes "text/calendar; charset=utf-8"))
 property_of rows.ContentLength name = row name is_object read in_both protected (of_octets (λ octets. decimal (length octets)))
@@ -74,8 +78,8 @@ property_of rows.Text name = text_row name in_both text
 -- the properties that have rows of their own, in their order
 abbrev pub listed_rows : List Row
 listed_rows =
-    rows.ResourceType ∷ rows.AskingPrincipal ∷ rows.Owner ∷ rows.HeldPrivileges ∷ rows.DisplayName ∷ rows.PrincipalUrl ∷ rows.CalendarHome ∷ rows.Etag
-    ∷ rows.ContentType ∷ rows.ContentLength ∷ rows.CalendarData ∷ rows.Description ∷ rows.Timezone ∷ rows.Kinds ∷ rows.DataType ∷ rows.MaxSize ∷ rows.MinDate
+    rows.ResourceType ∷ rows.AskingPrincipal ∷ rows.Owner ∷ rows.HeldPrivileges ∷ rows.DisplayName ∷ rows.PrincipalUrl ∷ rows.CalendarHome ∷ rows.GroupMembers ∷ rows.GroupMemberships
+    ∷ rows.Etag ∷ rows.ContentType ∷ rows.ContentLength ∷ rows.CalendarData ∷ rows.Description ∷ rows.Timezone ∷ rows.Kinds ∷ rows.DataType ∷ rows.MaxSize ∷ rows.MinDate
     ∷ rows.MaxDate ∷ rows.MaxInstances ∷ rows.Reports ∷ rows.Acl ∷ []
 
 -- Columns
@@ -84,6 +88,8 @@ abbrev pub is_on : Place → Resource → Bool
 is_on Anywhere = any_resource
 is_on Owned = is_owned
 is_on Principal = is_principal
+is_on User = is_user
+is_on Group = is_group
 is_on Calendar = is_calendar
 is_on Named = is_named
 is_on Object = is_object

@@ -8,10 +8,10 @@ use Rattle.cal_model.specs.declared.property.PropSet.{PropSet}
 use Rattle.cal_model.specs.declared.store.CalendarData.{CalendarData}
 use Rattle.cal_model.specs.Access.Privileges.{has_all, read, read_acl}
 use Rattle.cal_model.specs.State.PropertyTexts.{Texts}
-use Rattle.cal_model.specs.State.ServerState.{Directory, ServerState}
+use Rattle.cal_model.specs.State.ServerState.{Directory, ServerState, user_number, group_number}
 use Rattle.cal_model.specs.State.SoundStates.{AreToUsers}
 use Rattle.cal_model.specs.Sight.Views.{Sight, only_where}
-use Rattle.cal_model.specs.Sight.Resources.{Resource, root, principal, home, calendar, object, path_of_resource}
+use Rattle.cal_model.specs.Sight.Resources.{Resource, root, principal, group, home, calendar, object, path_of_resource}
 use Rattle.cal_model.specs.Serving.SeenResources.{resources_seen}
 use Rattle.dav_props.specs.declared.subjects.Subject.{Subject}
 use Rattle.dav_props.specs.declared.subjects.Subject.TheVariants as subject
@@ -41,13 +41,16 @@ calendar_sight held kept unseen = record {
 
 abbrev pub resource_of : Subject → Unseen → Resource
 resource_of subject.Root unseen = root
-resource_of (subject.Principal user) unseen = principal user.now
+resource_of (subject.Principal user number) unseen = principal user.now
+resource_of (subject.Group name number) unseen = group name.now
 resource_of (subject.Home user) unseen = home user.now
 resource_of (subject.Calendar user held kept) unseen = calendar user.now unseen.calendar (calendar_sight held kept.now unseen)
 resource_of (subject.Object user held stored) unseen = object user.now unseen.calendar unseen.name (record unseen.sight { held = held }) stored.now.octets
 
--- its grants are to users
+-- a principal has the number of its name, and the grants of a calendar are to users and groups that there are
 abbrev pub HasUsers : Directory → Subject → Type 0
+HasUsers directory (subject.Principal user number) = number ≡ user_number directory user.now
+HasUsers directory (subject.Group name number) = Some number ≡ group_number directory name.now
 HasUsers directory (subject.Calendar user held kept) = AreToUsers directory kept.now.acl.grants
 HasUsers directory other = Unit {0}
 

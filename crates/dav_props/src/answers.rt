@@ -8,7 +8,7 @@ ghost use Rattle.cal_model.specs.State.ServerState.{Directory};
 ghost use Rattle.dav_props.specs.Contents.{IsShownHere};
 ghost use Rattle.dav_props.specs.Rows.{asked_name};
 ghost use Rattle.dav_props.specs.Subjects.{Unseen, HasUsers};
-ghost use Rattle.dav_props.specs.Answers.{answered, is_there_at, has_text_set};
+ghost use Rattle.dav_props.specs.Answers.{answered, is_there_at, has_text_set, is_known as is_known_at};
 
 use crate::contents::push_content;
 use crate::rows::{Asked, Row, asked_for, columns_of};
@@ -130,7 +130,7 @@ pub(crate) fn push_whole<V: View>(
 /// The status of a property of a resource: 404 where it is not on such a resource, 403 where its
 /// privilege is not held, 404 where it is not there, and else 200.
 pub(crate) fn status_of(asked: &Asked<'_>, subject: &Subject<'_>) -> u16
-    ensures { (directory : Directory) (who : ℕ) (shown : Option (List ℕ → List ℕ)) (unseen : Unseen) → IsShownHere asked.now.row shown → result ≡ (answered directory who shown asked.now subject.now unseen).status }
+    ensures { (directory : Directory) (who : ℕ) (shown : Option (List ℕ → List ℕ)) (unseen : Unseen) → HasUsers directory subject.now → IsShownHere asked.now.row shown → result ≡ (answered directory who shown asked.now subject.now unseen).status }
 {
     let columns = columns_of(asked.row);
     let on = is_on(columns.place, subject);
@@ -155,8 +155,16 @@ fn is_there(asked: &Asked<'_>, subject: &Subject<'_>) -> bool
         Row::DisplayName | Row::Description | Row::Timezone | Row::Text => {
             has_text(asked, subject)
         }
+        Row::GroupMemberships => is_known(subject),
         _ => true,
     }
+}
+
+/// Whether a principal is that of a group, or of a user that there is.
+fn is_known(subject: &Subject<'_>) -> bool
+    ensures { result ≡ is_known_at subject.now }
+{
+    !matches!(subject, Subject::Principal(_, None))
 }
 
 /// Whether a text was set on a calendar; a principal has a name.

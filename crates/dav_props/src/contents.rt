@@ -9,6 +9,7 @@ ghost use Rattle.dav_props.specs.Rows.{asked_name};
 ghost use Rattle.dav_props.specs.Subjects.{HasUsers};
 
 use crate::access::push_acl;
+use crate::groups::{push_groups_of, push_members_of};
 use crate::privileges_held::{push_held, push_if_all};
 use crate::rows::{Asked, Row};
 use crate::subjects::{Subject, held_on};
@@ -57,7 +58,7 @@ pub(crate) fn push_content<V: View>(
         Row::DisplayName => push_display(asked, subject, out),
         Row::PrincipalUrl => push_principal(alloc, owner_of(subject), out),
         Row::CalendarHome => push_home(alloc, owner_of(subject), out),
-        Row::GroupMembers => push_members(alloc, seen, subject, out),
+        Row::GroupMembers => push_group_members(alloc, seen, subject, out),
         Row::GroupMemberships => push_memberships(alloc, seen, subject, out),
         Row::Etag => push_etag(subject, out),
         Row::ContentType => out.extend_from_slice(b"text/calendar; charset=utf-8"),
@@ -83,19 +84,19 @@ fn type_of(subject: &Subject<'_>) -> &'static [u8]
 {
     match subject {
         Subject::Root | Subject::Home(_) => b"<D:collection/>",
-        Subject::Principal(_) | Subject::Group(_, _) => b"<D:collection/><D:principal/>",
+        Subject::Principal(_, _) | Subject::Group(_, _) => b"<D:collection/><D:principal/>",
         Subject::Calendar(_, _, _) => b"<D:collection/><C:calendar/>",
         Subject::Object(_, _, _) => b"",
     }
 }
 
-/// The name of the user whose home a resource is in.
+/// The name of the user whose home a resource is in, or of the principal itself.
 fn owner_of<'a>(subject: &Subject<'a>) -> &'a [u8]
     ensures { result.now ≡ spec.owner_named subject.now }
 {
     match subject {
         Subject::Root => b"",
-        Subject::Principal(user) | Subject::Group(user, _) | Subject::Home(user) => user,
+        Subject::Principal(user, _) | Subject::Group(user, _) | Subject::Home(user) => user,
         Subject::Calendar(user, _, _) | Subject::Object(user, _, _) => user,
     }
 }
@@ -106,48 +107,43 @@ fn push_display(asked: &Asked<'_>, subject: &Subject<'_>, out: &mut Octets) -> R
     ensures front { take (length out.old) out.new ≡ out.old }
 {
     match subject {
-        Subject::Principal(name) | Subject::Group(name, _) => push_text(name, out),
+        Subject::Principal(name, _) | Subject::Group(name, _) => push_text(name, out),
         _ => push_set_text(asked, subject, out),
     }
 }
 
-/// Appends the members of a group, by their numbers (RFC 3744, 4.3).
-fn push_members<V: View>(
+/// Appends the members of a group (RFC 3744, 4.3).
+fn push_group_members<V: View>(
     alloc: Global,
     seen: &Seen<'_, V>,
     subject: &Subject<'_>,
     out: &mut Octets,
-) -> Result<(), NoMemory> {
-    let Subject::Group(_, group) = subject else {
-        return Ok(());
-    };
-    for who in 0..seen.view.user_count() {
-        if seen.view.is_member(*group, who) {
-            push_principal(alloc, seen.view.user_name(who), out)?;
-        }
+) -> Result<(), NoMemory>
+    requires { HasUsers (V.directory seen.now.view.now) subject.now }
+    ensures text { OnOk result (out.new ≡ out.old ++ spec.members_shown (V.directory seen.now.view.now) subject.now) }
+    ensures front { take (length out.old) out.new ≡ out.old }
+{
+    match subject {
+        Subject::Group(_, group) => push_members_of(alloc, seen.view, *group, out),
+        _ => Ok(()),
     }
-    Ok(())
 }
 
-/// Appends the groups that a user is in, by their numbers; a group is in none (RFC 3744, 4.4).
+/// Appends the groups that a user is in; a group is in none (RFC 3744, 4.4).
 fn push_memberships<V: View>(
     alloc: Global,
     seen: &Seen<'_, V>,
     subject: &Subject<'_>,
     out: &mut Octets,
-) -> Result<(), NoMemory> {
-    let Subject::Principal(name) = subject else {
-        return Ok(());
-    };
-    let Some(who) = seen.view.find_user(name) else {
-        return Ok(());
-    };
-    for group in 0..seen.view.group_count() {
-        if seen.view.is_member(group, who) {
-            push_principal(alloc, seen.view.group_name(group), out)?;
-        }
+) -> Result<(), NoMemory>
+    requires { HasUsers (V.directory seen.now.view.now) subject.now }
+    ensures text { OnOk result (out.new ≡ out.old ++ spec.memberships_shown (V.directory seen.now.view.now) subject.now) }
+    ensures front { take (length out.old) out.new ≡ out.old }
+{
+    match subject {
+        Subject::Principal(_, Some(user)) => push_groups_of(alloc, seen.view, *user, out),
+        _ => Ok(()),
     }
-    Ok(())
 }
 
 /// Appends what was set on a calendar.

@@ -8,6 +8,7 @@
 mod access;
 mod answers;
 mod contents;
+mod groups;
 mod kept_texts;
 mod members;
 mod privileges_held;

@@ -1,6 +1,7 @@
 //! Resources as a user sees them, as far as their properties show them.
 ghost use Rattle.std.specs.Prelude.{◌≡◌, ◌<◌, ℕ, [], ◌∷◌, length, Option, IfSome, IfNone, Some, None, IsTrue};
 ghost use Rattle.cal_model.specs.Access.Privileges as privilege;
+ghost use Rattle.cal_model.specs.declared.path.Path.TheVariants.{Principal as PrincipalPath};
 ghost use Rattle.cal_model.specs.State.ServerState.{ServerState};
 ghost use Rattle.cal_model.specs.Sight.Resources.{held_of};
 ghost use Rattle.cal_model.specs.Serving.SeenResources.{resources_seen};
@@ -25,7 +26,8 @@ const READ: u16 = 2;
 #[derive(Clone, Copy)]
 pub(crate) enum Subject<'a> {
     Root,
-    Principal(&'a [u8]),
+    /// The principal of a name that no group has, with the number of its user, if there is one.
+    Principal(&'a [u8], Option<u32>),
     /// The principal of a group, with its name and its number.
     Group(&'a [u8], u32),
     Home(&'a [u8]),
@@ -39,7 +41,7 @@ pub(crate) fn held_on(subject: &Subject<'_>) -> u16
     ensures seen { (unseen : Unseen) → held_of (resource_of subject.now unseen) ≡ result }
 {
     match subject {
-        Subject::Root | Subject::Principal(_) | Subject::Group(_, _) | Subject::Home(_) => ALL,
+        Subject::Root | Subject::Principal(_, _) | Subject::Group(_, _) | Subject::Home(_) => ALL,
         Subject::Calendar(_, held, _) | Subject::Object(_, held, _) => *held,
     }
 }
@@ -59,15 +61,15 @@ pub(crate) fn is_on(place: Place, subject: &Subject<'_>) -> bool
         Place::Anywhere => true,
         Place::Owned => !matches!(
             subject,
-            Subject::Root | Subject::Principal(_) | Subject::Group(_, _)
+            Subject::Root | Subject::Principal(_, _) | Subject::Group(_, _)
         ),
-        Place::Principal => matches!(subject, Subject::Principal(_) | Subject::Group(_, _)),
-        Place::User => matches!(subject, Subject::Principal(_)),
+        Place::Principal => matches!(subject, Subject::Principal(_, _) | Subject::Group(_, _)),
+        Place::User => matches!(subject, Subject::Principal(_, _)),
         Place::Group => matches!(subject, Subject::Group(_, _)),
         Place::Calendar => matches!(subject, Subject::Calendar(_, _, _)),
         Place::Named => matches!(
             subject,
-            Subject::Principal(_) | Subject::Group(_, _) | Subject::Calendar(_, _, _)
+            Subject::Principal(_, _) | Subject::Group(_, _) | Subject::Calendar(_, _, _)
         ),
         Place::Object => matches!(subject, Subject::Object(_, _, _)),
     }
@@ -75,6 +77,7 @@ pub(crate) fn is_on(place: Place, subject: &Subject<'_>) -> bool
 
 /// What a user sees at a path, if something is there that is seen. Takes no memory.
 pub(crate) fn subject_at<'a, V: View>(seen: &Seen<'a, V>, path: &'a Path) -> Option<Subject<'a>>
+    requires { seen.now.who < length (V.directory seen.now.view.now).names }
     ensures some { IfSome result (λ subject. IsSeenAs (V.directory seen.now.view.now) (V.state seen.now.view.now) seen.now.who path.now subject) }
     ensures none { IfNone result (resources_seen (V.directory seen.now.view.now) (V.state seen.now.view.now) seen.now.who path.now ≡ []) }
 {
@@ -88,10 +91,12 @@ pub(crate) fn subject_at<'a, V: View>(seen: &Seen<'a, V>, path: &'a Path) -> Opt
 }
 
 /// The principal of a name: a group's, or a user's.
-fn principal_at<'a, V: View>(seen: &Seen<'a, V>, name: &'a [u8]) -> Subject<'a> {
+fn principal_at<'a, V: View>(seen: &Seen<'a, V>, name: &'a [u8]) -> Subject<'a>
+    ensures { IsSeenAs (V.directory seen.now.view.now) (V.state seen.now.view.now) seen.now.who (PrincipalPath name.now) result }
+{
     match seen.view.find_group(name) {
         Some(group) => Subject::Group(name, group),
-        None => Subject::Principal(name),
+        None => Subject::Principal(name, seen.view.find_user(name)),
     }
 }
 
@@ -101,6 +106,7 @@ fn calendar_at<'a, V: View>(
     user: &'a Octets,
     name: &'a Octets,
 ) -> Option<Subject<'a>>
+    requires { seen.now.who < length (V.directory seen.now.view.now).names }
     ensures { IsCalendarSeen (V.directory seen.now.view.now) (V.state seen.now.view.now) seen.now.who user.now name.now result }
 {
     let view: &'a V = seen.view;
@@ -121,6 +127,7 @@ fn object_at<'a, V: View>(
     calendar: &'a Octets,
     name: &'a Octets,
 ) -> Option<Subject<'a>>
+    requires { seen.now.who < length (V.directory seen.now.view.now).names }
     ensures { IsObjectSeen (V.directory seen.now.view.now) (V.state seen.now.view.now) seen.now.who user.now calendar.now name.now result }
 {
     let view: &'a V = seen.view;

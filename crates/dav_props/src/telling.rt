@@ -306,6 +306,7 @@ fn tell_bare<V: View>(
     response: &mut Response,
     out: &mut Octets,
 ) -> Result<(), NoMemory>
+    requires users { HasUsers (V.directory seen.now.view.now) subject.now }
     requires found { IsFound asked.now }
     ensures { OnOk result ((unseen : Unseen) → Tells (asking (V.directory seen.now.view.now) seen.now.who) (resource_of subject.now unseen) spec_telling.Names (asked_name asked.now ∷ []) response.old out.old response.new out.new) }
 {

@@ -10,8 +10,8 @@ returns-then-status-eq200 g c =
     let directory = g.V.View.directory c.args.seen.now.view.now in
     let who = c.args.seen.now.who in
     record {
-      status = λ shown unseen here. sym c.if-status-eq200.true ∙ c.status_of-status.ensures directory who shown unseen here;
-      element = λ shown unseen here. c.in_ok-push_whole.ensures.element shown unseen here (sym (c.status_of-status.ensures directory who shown unseen here) ∙ c.if-status-eq200.true);
+      status = λ shown unseen here. sym c.if-status-eq200.true ∙ c.status_of-status.ensures directory who shown unseen c.requires.users here;
+      element = λ shown unseen here. c.in_ok-push_whole.ensures.element shown unseen here (sym (c.status_of-status.ensures directory who shown unseen c.requires.users here) ∙ c.if-status-eq200.true);
       front = c.push_whole.ensures.front;
     }
 
@@ -23,12 +23,12 @@ returns g c =
     let seen = c.args.subject.now in
     let status = c.status_of-status.result in
     record {
-      status = λ shown unseen here. c.status_of-status.ensures directory who shown unseen here;
+      status = λ shown unseen here. c.status_of-status.ensures directory who shown unseen c.requires.users here;
       element =
           λ shown unseen here.
           c.in_ok-push_empty.ensures.element status
           ∙ ap (λ (a : Answer). c.args.out.now ++ property_element a)
           (sym (answer_without (asked_name asked) (is_on_at directory who shown unseen asked.row (asked_name asked) seen) (is_held_at directory who shown unseen asked.row (asked_name asked) seen)
-          (value_at directory who shown unseen asked.row (asked_name asked) seen) status (c.status_of-status.ensures directory who shown unseen here) c.if-status-eq200.false));
+          (value_at directory who shown unseen asked.row (asked_name asked) seen) status (c.status_of-status.ensures directory who shown unseen c.requires.users here) c.if-status-eq200.false));
       front = c.push_empty.ensures.front;
     }

@@ -28,7 +28,7 @@ returns-clause-element g c =
     (c.in_ok-push_content.ensures.text ∙ ap (λ text. text ++ content) (c.in_ok-push.ensures.ok ∙ ap (λ text. text ++ codes ">") c.in_ok-push_open.ensures.text))
     ∙ ap (λ (a : Answer). old ++ property_element a)
     (sym (answer_whole (asked_name asked) (is_on_at directory who shown unseen asked.row (asked_name asked) seen) (is_held_at directory who shown unseen asked.row (asked_name asked) seen)
-    (value_at directory who shown unseen asked.row (asked_name asked) seen) content (λ found. content_is directory who shown unseen asked.row (asked_name asked) seen found here) fine)))
+    (value_at directory who shown unseen asked.row (asked_name asked) seen) content (λ found. content_is directory who shown unseen asked.row (asked_name asked) seen found c.requires.users here) fine)))
     c.push_close.ensures.text
 
 pub returns-clause-front : goal.returns-clause-front

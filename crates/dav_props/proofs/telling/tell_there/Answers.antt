@@ -18,7 +18,7 @@ returns-then-status_of-eq200 g c =
     (λ tells unseen front href before so_far.
     let a = answer (asking directory who) (resource_of c.args.subject.now unseen) (asked_name asked) in
     let status : a.status ≡ 200 =
-    sym (c.status_of.ensures directory who None unseen (shown_none asked.row) ∙ ap (λ (b : Answer). b.status) (answered_is directory who asked c.args.subject.now unseen c.requires.found)) ∙ c.if-status_of-eq200.true in
+    sym (c.status_of.ensures directory who None unseen c.requires.users (shown_none asked.row) ∙ ap (λ (b : Answer). b.status) (answered_is directory who asked c.args.subject.now unseen c.requires.found)) ∙ c.if-status_of-eq200.true in
     subst (λ (more : List Answer). IsAnswered front href (before ++ more) c.tell_whole.new.response c.tell_whole.new.out) (sym (told_there a status)) (tells unseen front href before so_far))
     c.tell_whole.ensures
 
@@ -29,5 +29,5 @@ returns-else-status_of-eq200 g c unseen =
     let asked = c.args.asked.now in
     let a = answer (asking directory who) (resource_of c.args.subject.now unseen) (asked_name asked) in
     let status : c.status_of.result ≡ a.status =
-    c.status_of.ensures directory who None unseen (shown_none asked.row) ∙ ap (λ (b : Answer). b.status) (answered_is directory who asked c.args.subject.now unseen c.requires.found) in
+    c.status_of.ensures directory who None unseen c.requires.users (shown_none asked.row) ∙ ap (λ (b : Answer). b.status) (answered_is directory who asked c.args.subject.now unseen c.requires.found) in
     tells_absent (asking directory who) (resource_of c.args.subject.now unseen) There (asked_name asked) c.args.response.now c.args.out.now (told_gone a (λ e. c.if-status_of-eq200.false (status ∙ e)))
