@@ -1,5 +1,5 @@
 -- The change that a request asks for, once its path, its content and its user are known.
-use Rattle.std.proofs.Common.{◌≡◌, ℕ, true, List, Some, sym, ap, ◌∙◌, subst, arith}
+use Rattle.std.proofs.Common.{◌≡◌, ℕ, ◌<◌, true, List, length, Some, sym, ap, ◌∙◌, subst, arith}
 use Rattle.std.specs.Prelude.{option_and_then, IsTrue}
 use Rattle.std.proofs.lemmas.List.{length-map}
 use Rattle.std.proofs.lemmas.List.Elements.{All-weaker}
@@ -23,6 +23,7 @@ use Rattle.cal_model.specs.Requests.BookableRequests.{GrantsAmong}
 use Rattle.cal_model.specs.Users.UsersFile.{User, Users}
 use Rattle.request_checks.specs.declared.scenes.Scene.{Scene}
 use Rattle.cal_book.specs.declared.changes.places.Place.{Place}
+use Rattle.cal_book.specs.Checking.Checks.{IsAskedOf}
 use Rattle.cal_book.specs.Checking.Passed.{IsPassed, IsOfCalendar, sighted}
 use Rattle.cal_book.specs.Checking.Places.{IsPlace}
 use Rattle.cal_book.proofs.Checking.PassedLemmas.{is_of_calendars, of_calendar}
@@ -40,6 +41,11 @@ pub user_known : (directory : Directory) (state : ServerState) (who : ℕ) (path
     → user_in path ≡ Some user → user_number directory user ≡ Some home
 unfolding scene_at
 user_known directory state who path home user known named = sym (ap (option_and_then (user_number directory)) named) ∙ known
+
+-- who asks is a user that there is
+pub asker_known : (directory : Directory) (who : ℕ) (request : Request) → IsAskedOf directory who request → who < length directory.names
+asker_known directory who request asked =
+    subst (λ (d : Directory). who < length d.names) asked.users_are (omega (arith, asked.bookable.user, length-map asked.users.people (λ (user : User). user.name)))
 
 -- Changes
 

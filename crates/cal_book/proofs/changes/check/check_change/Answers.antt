@@ -1,4 +1,4 @@
-use Rattle.std.proofs.Common.{ℕ, Some, sym, ap, ◌∙◌, subst}
+use Rattle.std.proofs.Common.{ℕ, ◌<◌, length, Some, sym, ap, ◌∙◌, subst}
 use Rattle.std.specs.Prelude.{IfSome}
 use Rattle.std.specs.Borrow.{Bor}
 use Rattle.cal_model.specs.declared.path.Path.{Path}
@@ -12,9 +12,15 @@ use Rattle.request_checks.specs.Sightings.{IsDataAt, IsSoundAt}
 use Rattle.cal_book.specs.Checking.Checks.{IsAskedOf}
 use Rattle.cal_book.specs.Checking.OwnChecks.{IsOwnChecked}
 use Rattle.cal_book.specs.Checking.Passed.{sighted}
+use Rattle.cal_book.proofs.Checking.ChangeLemmas.{asker_known}
 use Rattle.cal_book.proofs.Checking.OutcomeLemmas.{checked_refusal, checked_own}
 use Rattle.cal_book.proofs.Checking.SceneLemmas.{scene_seen, who_seen, path_seen, room_for}
 use Rattle.cal_book.proofs.changes.check.check_change.Goals as goal
+
+pub scene_at-scene-requires : goal.scene_at-scene-requires
+scene_at-scene-requires c =
+    let directory = shown_directory c.args.seen.now.view.now in
+    record { known = subst (λ (who : ℕ). who < length directory.names) (sym c.requires.who) (asker_known directory c.args.event.now.who c.args.event.now.request c.requires.bookable) }
 
 pub refused-requires : goal.refused-requires
 refused-requires c =
