@@ -243,10 +243,10 @@ def case(title, text, status, place, output, form="frames", read="-", write="-",
     ANSWERS.append(f"# {title}\nstatus {status} place {place}\n".encode() + output)
 
 
-def runs(title, steps, connection=0):
+def runs(title, steps, connection=0, **how):
     """A script that is read to its end."""
     text, output = exchange(steps, connection)
-    case(title, text, 0, len(whole(text)), output)
+    case(title, text, 0, len(whole(text)), output, **how)
 
 
 def ends():
@@ -1154,6 +1154,59 @@ def rows():
     ])
 
 
+def teams():
+    """Groups of users: `team` has bob and carol, `own` has alice and bob. What is granted to a group is granted to each who is in it."""
+    def principal(name):
+        return f"<D:href>/principals/{name}/</D:href>"
+
+    def to(name, privilege="<D:read/>"):
+        return request("ACL", CALENDAR, grants(ace(f"<D:principal>{principal(name)}</D:principal>", privilege)))
+
+    def of_team(title, steps):
+        runs(title, steps, words="script --users team")
+
+    asked, shown = query("20250310T090000Z", "20250310T100000Z"), reply(200, E1, TEXT, etag(E1))
+    queried = found((CALENDAR + "one.ics", [(200, f'<D:getetag>"{etag(E1)}"</D:getetag>' + data(E1))]))
+    hidden = [(request("GET", CALENDAR + "one.ics", who="bob"), reply(404)), (report(asked, who="carol"), reply(404))]
+    bobs = [(request("GET", CALENDAR + "one.ics", who="bob"), shown), (report(asked, who="bob"), queried)]
+    of_team("a calendar that is granted to a group, then to one who is in it, then to a group of others", [
+        (put("one.ics", E1), stored(E1)), *hidden, (to("team"), reply(200)), *bobs, (report(asked, who="carol"), queried),
+        (to("bob"), reply(200)), *bobs, hidden[1], (to("own"), reply(200)), *bobs, hidden[1], (to("alice"), reply(200)), *hidden,
+    ])
+    read = "<D:privilege><C:read-free-busy/></D:privilege><D:privilege><D:read/></D:privilege>"
+    owners = "<D:ace><D:principal><D:property><D:owner/></D:property></D:principal><D:grant><D:privilege><D:all/></D:privilege></D:grant><D:protected/></D:ace>"
+    of_team("a grant to a group is shown by the group's name, and one to a group that there is not is refused", [
+        (to("crew"), refused("<D:recognized-principal/>")), (to("team"), reply(200)), (to("crew"), refused("<D:recognized-principal/>")),
+        (request("PROPFIND", CALENDAR, propfind("<D:acl/>"), depth="0"),
+         found((CALENDAR, [(200, f"<D:acl>{owners}<D:ace><D:principal>{principal('team')}</D:principal><D:grant>{read}</D:grant></D:ace></D:acl>")]))),
+        (put("one.ics", E1, who="bob"), needs(CALENDAR + "one.ics", "D:bind")),
+    ])
+
+    def asks(name, body, *told):
+        return request("PROPFIND", f"/principals/{name}/", body, depth="0"), found((f"/principals/{name}/", list(told)))
+
+    both = propfind("<D:group-member-set/><D:group-membership/><C:calendar-home-set/>")
+    home = "<C:calendar-home-set><D:href>/calendars/%s/</D:href></C:calendar-home-set>"
+    names = f"<D:propfind {NAMES}><D:propname/></D:propfind>".encode()
+    of_team("who is in a group, and in which groups a user is, in the order of their numbers", [
+        asks("team", both, (200, f"<D:group-member-set>{principal('bob')}{principal('carol')}</D:group-member-set><D:group-membership/>"), (404, "<C:calendar-home-set/>")),
+        asks("own", both, (200, f"<D:group-member-set>{principal('alice')}{principal('bob')}</D:group-member-set><D:group-membership/>"), (404, "<C:calendar-home-set/>")),
+        asks("alice", both, (200, f"<D:group-membership>{principal('own')}</D:group-membership>" + home % "alice"), (404, "<D:group-member-set/>")),
+        asks("bob", both, (200, f"<D:group-membership>{principal('team')}{principal('own')}</D:group-membership>" + home % "bob"), (404, "<D:group-member-set/>")),
+        asks("team", None, (200, "<D:resourcetype><D:collection/><D:principal/></D:resourcetype><D:displayname>team</D:displayname>")),
+        asks("team", names, (200, "<D:resourcetype/><D:current-user-principal/><D:displayname/><D:principal-URL/><D:group-member-set/><D:group-membership/>")),
+        asks("bob", names, (200, "<D:resourcetype/><D:current-user-principal/><D:displayname/><D:principal-URL/><C:calendar-home-set/><D:group-membership/>")),
+        asks("team", propfind("<D:principal-URL/><D:owner/><D:current-user-principal/>"),
+             (200, f"<D:principal-URL>{principal('team')}</D:principal-URL><D:current-user-principal>{principal('alice')}</D:current-user-principal>"), (404, "<D:owner/>")),
+    ])
+    of_team("a group has a principal, and no home", [
+        (request("OPTIONS", "/principals/team/"), reply(200, allow=OF_HOME)), (request("PROPPATCH", "/principals/team/"), reply(405, allow=OF_HOME)),
+        *[(request("PROPFIND", "/principals/crew/", depth="0"), reply(404)), (request("PROPFIND", "/calendars/team/", depth="0"), reply(404))],
+        *[(request(method, path), reply(404)) for method, path in (("OPTIONS", "/calendars/team/"), ("OPTIONS", "/calendars/team/calendar/"), ("MKCALENDAR", "/calendars/team/work/"))],
+    ])
+    case("a users file with a group whose member is no user", b"", 3, 226, b"", words="script --users stranger")
+
+
 def replaced():
     """An object that is replaced, or replaced and put back, between a worker's frames: a query shows what was put last."""
     later = event("one", "DTSTART:20250310T110000Z", "DTEND:20250310T120000Z")
@@ -1285,7 +1338,7 @@ def with_part(text, kind, cases):
 
 def main():
     orders = (methods, shapes, conditions, bodies, reading, deleting, putting, properties, granting, reporting, long_answers, homes)
-    for part in (ends, cuttings, moments, streams, objects, *orders, replaced, several, rows, books):
+    for part in (ends, cuttings, moments, streams, objects, *orders, replaced, several, rows, teams, books):
         part()
     for name, made in (("stdin", {"books": WALKS, "scripts": CASES}), ("stdout", {"books": TOLD, "scripts": ANSWERS})):
         path = os.path.join(TOP, "crates/cases_server", name)
