@@ -155,12 +155,12 @@ fn is_value(setting: &PropSet, wanted: &[u8]) -> bool {
     }
 }
 
-/// Grants to bob, whose number is 1, and to all.
+/// Grants to bob, whose number is 1, to the group team, whose number is 1 too, and to all.
 #[test]
-fn two_grants(rt: HostRuntime) -> Result<(), Fail> {
+fn three_grants(rt: HostRuntime) -> Result<(), Fail> {
     let body = body_of(
         rt.alloc(),
-        b"D:acl><D:ace><D:principal><D:href>/principals/bob/</D:href></D:principal><D:grant><D:privilege><D:read/></D:privilege><D:privilege><D:bind/></D:privilege></D:grant></D:ace><D:ace><D:principal><D:all/></D:principal><D:grant><D:privilege><C:read-free-busy/></D:privilege></D:grant></D:ace></D:acl",
+        b"D:acl><D:ace><D:principal><D:href>/principals/bob/</D:href></D:principal><D:grant><D:privilege><D:read/></D:privilege><D:privilege><D:bind/></D:privilege></D:grant></D:ace><D:ace><D:principal><D:href>/principals/team</D:href></D:principal><D:grant><D:privilege><D:read/></D:privilege></D:grant></D:ace><D:ace><D:principal><D:all/></D:principal><D:grant><D:privilege><C:read-free-busy/></D:privilege></D:grant></D:ace></D:acl",
     )?;
     let content = content_of(rt.alloc(), Method::Acl, body.as_slice())?;
     let same = match &content {
@@ -173,9 +173,11 @@ fn two_grants(rt: HostRuntime) -> Result<(), Fail> {
 
 fn are_those_grants(grants: &[Grant]) -> bool {
     match grants {
-        [bob, all] => {
+        [bob, team, all] => {
             bob.who == Who::Principal(1)
                 && bob.held == PrivilegeSet(19)
+                && team.who == Who::Group(1)
+                && team.held == PrivilegeSet(3)
                 && all.who == Who::Everyone
                 && all.held == PrivilegeSet(1)
         }

@@ -7,9 +7,9 @@ use dav_elements::{read_acl, read_find, read_make, read_patch, read_report};
 use privileges::{Users, read_users};
 use std::alloc::Global;
 
-/// Alice and bob, whose password is `abc`: the digest is by the program sha256sum.
+/// Alice and bob, whose password is `abc`, and two groups: the digest is by the program sha256sum.
 const USERS: &[u8] =
-    b"user alice ba7816bf8f01cfea414140de5dae2223b00361a396177a9cb410ff61f20015ad\nuser bob ba7816bf8f01cfea414140de5dae2223b00361a396177a9cb410ff61f20015ad\n";
+    b"user alice ba7816bf8f01cfea414140de5dae2223b00361a396177a9cb410ff61f20015ad\nuser bob ba7816bf8f01cfea414140de5dae2223b00361a396177a9cb410ff61f20015ad\ngroup own alice\ngroup team alice bob\n";
 
 fn users(alloc: Global) -> Result<Users, NoMemory> {
     match read_users(alloc, USERS) {
