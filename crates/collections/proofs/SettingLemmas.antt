@@ -186,7 +186,7 @@ by_rows (row ∷ rows) all name = elim (cases_Bool (same_name row.name name)) [
 
 pub kinds_row : (name : PropName) → is_kinds (row_of name).setting ≡ same_name name kinds_name
 unfolding properties
-kinds_row name = by_rows properties (refl, (refl, (refl, (refl, (refl, (refl, (refl, (refl, (refl, (refl, (refl, (refl, (refl, (refl, (refl, (refl, (refl, (refl, (refl, (refl, (refl, tt))))))))))))))))))))) name
+kinds_row name = by_rows properties (refl, (refl, (refl, (refl, (refl, (refl, (refl, (refl, (refl, (refl, (refl, (refl, (refl, (refl, (refl, (refl, (refl, (refl, (refl, (refl, (refl, (refl, (refl, tt))))))))))))))))))))))) name
 
 -- The time zone by its name
 

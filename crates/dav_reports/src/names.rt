@@ -73,7 +73,9 @@ fn names_in_names(alloc: Global) -> Result<List<PropName>, NoMemory>
         b"displayname".as_slice(),
         b"principal-URL".as_slice(),
     ];
-    let of_object = [
+    let behind_home = [
+        b"group-member-set".as_slice(),
+        b"group-membership".as_slice(),
         b"getetag".as_slice(),
         b"getcontenttype".as_slice(),
         b"getcontentlength".as_slice(),
@@ -90,7 +92,7 @@ fn names_in_names(alloc: Global) -> Result<List<PropName>, NoMemory>
     ];
     put_names(alloc, DAV, first.as_slice(), &mut names)?;
     put_name(alloc, CALDAV, b"calendar-home-set", &mut names)?;
-    put_names(alloc, DAV, of_object.as_slice(), &mut names)?;
+    put_names(alloc, DAV, behind_home.as_slice(), &mut names)?;
     put_names(alloc, CALDAV, of_calendar.as_slice(), &mut names)?;
     put_name(alloc, DAV, b"supported-report-set", &mut names)?;
     put_name(alloc, DAV, b"acl", &mut names)?;

@@ -11,9 +11,9 @@ returns c =
       c.in_ok-put_name.ensures,
       c.in_ok-put_names.ensures,
       c.new-names.ensures,
-      c.as_slice-18.ensures,
-      c.as_slice-19.ensures,
       c.as_slice-20.ensures,
+      c.as_slice-21.ensures,
+      c.as_slice-22.ensures,
       c.as_slice.ensures,
       c.as_slice-2.ensures,
       c.as_slice-3.ensures,
@@ -31,4 +31,6 @@ returns c =
       c.as_slice-15.ensures,
       c.as_slice-16.ensures,
       c.as_slice-17.ensures,
+      c.as_slice-18.ensures,
+      c.as_slice-19.ensures,
     ) at c.in_ok-put_name-3.ensures
