@@ -20,7 +20,7 @@ use Rattle.cal_book.proofs.changes.check.check_change.Goals as goal
 pub scene_at-scene-requires : goal.scene_at-scene-requires
 scene_at-scene-requires c =
     let directory = shown_directory c.args.seen.now.view.now in
-    record { known = subst (λ (who : ℕ). who < length directory.names) (sym c.requires.who) (asker_known directory c.args.event.now.who c.args.event.now.request c.requires.bookable) }
+    subst (λ (who : ℕ). who < length directory.names) (sym c.requires.who) (asker_known directory c.args.event.now.who c.args.event.now.request c.requires.bookable)
 
 pub refused-requires : goal.refused-requires
 refused-requires c =
