@@ -3,6 +3,9 @@ pub mod DigitRanges
 pub mod PeriodSpans
 pub mod AskedStarts
 pub mod NeededDigits
+pub mod HeldGovernors
+pub mod MovedStarts
+pub mod NeededRanges
 pub mod MasterRows
 pub mod ExpandableObjects
 pub mod CountedRows

@@ -9,21 +9,20 @@ use Rattle.cal_model.specs.Ranges.Cost.{days_apart}
 use Rattle.cal_model.specs.Recurrence.RecurrenceSet.{every_moment}
 use Rattle.override_merge.specs.NamedStarts.{days_in}
 use Rattle.rrule_sets.specs.declared.windows.Needed.{Needed}
-use Rattle.rrule_sets.specs.NeededDigits.{HasDay, HasMoved, HasWindow, days_needed, overrides_in}
+use Rattle.rrule_sets.specs.NeededDigits.{HasDay, HasMoved, HasWindow, days_needed, id_days, overrides_in}
+use Rattle.rrule_sets.specs.NeededRanges.{IsNeeded}
 
--- a range has the digits that its window needs, and ends with the last of them
-pub record IsNeeded (zones : List ZoneTable) (ids : Stamp) (components : List Component) (needed : Needed) : Type 0 where
-  pub window : HasWindow needed.window needed.range
-  pub days : All (HasDay needed.range) (flat_map (days_needed zones ids needed.window) components)
-  pub least : (z : ℤ) → ((needed.window +ℤ pos 1) *ℤ window_seconds) ≤ℤ z → All (λ midnight. (midnight +ℤ pos 86400) ≤ℤ z) (flat_map (days_needed zones ids needed.window) components) → needed.range.high ≤ℤ z
+-- the digits of a window are those that it needs
+abbrev pub HasNeeded : List ZoneTable → Stamp → List Component → Needed → Type 0
+HasNeeded zones ids components needed = IsNeeded zones ids components needed.window needed.range
 
--- and the starts that overrides may move into it, where all offsets are below n
+-- The same beside all starts of an object, where all offsets are below n.
 pub record IsNeededFor (object : Object) (ids : Stamp) (n : ℕ) (needed : Needed) : Type 0 where
   pub window : HasWindow needed.window needed.range
   pub days : All (HasDay needed.range) (flat_map (days_needed object.zones ids needed.window) object.components)
   pub moved : All (λ g. HasMoved n needed.window needed.range (move_of object.zones g)) (governors object ids (starts every_moment object))
   pub their_days : All (λ o. moves_later o ≡ true → All (HasDay needed.range) (days_in (named_by object.zones ids o))) (overrides object)
-  pub least : (z : ℤ) → ((needed.window +ℤ pos 1) *ℤ window_seconds) ≤ℤ z → All (λ midnight. (midnight +ℤ pos 86400) ≤ℤ z) (flat_map (days_needed object.zones ids needed.window) object.components) →
+  pub least : (z : ℤ) → ((needed.window +ℤ pos 1) *ℤ window_seconds) ≤ℤ z → All (λ midnight. (midnight +ℤ pos 86400) ≤ℤ z) (flat_map (id_days object.zones ids) object.components) →
       All (λ g. (((needed.window +ℤ pos 1) *ℤ window_seconds +ℤ pos (86400 * days_apart object)) -ℤ move_of object.zones g) ≤ℤ z) (governors object ids (starts every_moment object)) → needed.range.high ≤ℤ z
 
 -- the steps for a window and for the overrides that are looked at for it

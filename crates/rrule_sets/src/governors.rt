@@ -1,8 +1,26 @@
 //! Overrides that move all later instances, and the rows of the starts that they govern (RFC 5545,
 //! 3.2.13 and 3.8.4.4).
+ghost use Rattle.std.specs.Prelude.{◌≡◌, ◌<◌, ◌^◌, ◌∷◌, ◌++◌, [], length, map, flat_map, option_to_list, All, AllPairs, IfOk, IfSome, OnOk, MatchOption, ℤ, pos, neg_ℤ};
+ghost use Rattle.std.specs.List.{list_any};
+ghost use Rattle.cal_moment.specs.Calendar.{IsBetween};
+ghost use Rattle.cal_model.specs.declared.object.Component.{Component};
+ghost use Rattle.cal_model.specs.declared.row.Row.{Row};
+ghost use Rattle.cal_model.specs.Instances.Alignment as alignment;
+ghost use Rattle.cal_model.specs.Instances.Rows as rows;
+ghost use Rattle.cal_model.proofs.Instances.KeptStarts.{stand_in};
+ghost use Rattle.cal_model.proofs.Instances.RisingLists.{IsBelow};
+ghost use Rattle.override_merge.specs.AlignedStamps.{aligned_by, HasDigits};
+ghost use Rattle.override_merge.specs.Conversions.{tables_of, HasConvertibleRow, HasConvertibleRows, HasRowTimes, HasZone, IsRowTime};
+ghost use Rattle.override_merge.specs.DayStarts.{starts_on, RisesByDay};
+ghost use Rattle.override_merge.specs.NamedStarts.{days_in};
+ghost use Rattle.override_merge.specs.Parts.{id_by};
+ghost use Rattle.rrule_sets.specs.HeldGovernors.{HasNoGreaterId, HoldsGovernors, IsMovable, days_of_movers, governors_by, governors_of, held, last_before, stand_in_by};
+ghost use Rattle.rrule_sets.specs.HeldGovernors as spec;
+ghost use Rattle.rrule_sets.specs.NeededDigits.{HasDay, HasRange};
+
 use crate::range::Digits;
 use cal_base::{List, NoMemory};
-use cal_model::{Component, Extent, LocalTimes, Object, Row, ZoneTable};
+use cal_model::{Component, Extent, LocalTimes, Object, Row};
 use cal_moment::Stamp;
 use override_merge::days::{DayStart, day_starts, first_on};
 use override_merge::ends::end_of_extent;
@@ -34,15 +52,46 @@ pub struct Governor {
 }
 
 /// Whether some component moves later instances.
-pub fn has_future(components: &[Component]) -> bool {
+pub fn has_future(components: &[Component]) -> bool
+    ensures { result ≡ list_any (λ (c : Component). c.future) components.now }
+{
     components.iter().any(|component| component.future)
 }
 
-/// The id of an override beside the starts of the local days that overrides name.
-fn id_of(zones: &[LocalTimes<'_>], ids: Stamp, days: &[DayStart], name: Aligned) -> i64 {
+/// The start that a RECURRENCE-ID means: its value, or of a local day the first start on it, else its
+/// midnight.
+fn start_meant(zones: &[LocalTimes<'_>], ids: Stamp, days: &[DayStart], name: Aligned) -> i64
+    requires ids { HasZone (length zones.now) ids }
+    requires days { AllPairs RisesByDay days.now }
+    requires name { HasDigits name }
+    ensures { result ≡ id_by (alignment.reading_of (tables_of zones.now) ids) days.now (aligned_by name) }
+{
     match name {
         Aligned::At(value) => value,
         Aligned::OnDay(midnight) => first_on(days, midnight, instant_beside(zones, ids, midnight)),
+    }
+}
+
+/// An override that moves later instances, where its id is known.
+fn governor_at(
+    zones: &[LocalTimes<'_>],
+    component: &Component,
+    number: u32,
+    stamp: Stamp,
+    id: i64,
+) -> Governor
+    requires zone { HasZone (length zones.now) stamp }
+    requires near { IsRowTime (alignment.written_value stamp) }
+    requires id { IsBetween (neg_ℤ (pos 1_200_000_000_000)) (pos 1_200_000_000_000) id }
+    ensures value { result ≡ held (tables_of zones.now) (spec.governor_at (record { number = number; component = component.now }) stamp id) }
+    ensures moved { IsBetween (neg_ℤ (pos 2_300_000_000_000)) (pos 2_300_000_000_000) result.moved }
+{
+    Governor {
+        id,
+        number,
+        stamp,
+        extent: component.extent,
+        moved: written_value(stamp) - local_beside(zones, stamp, id),
     }
 }
 
@@ -53,51 +102,93 @@ fn governor_of(
     days: &[DayStart],
     component: &Component,
     number: u32,
-) -> Option<Governor> {
+) -> Option<Governor>
+    requires ids { HasZone (length zones.now) ids }
+    requires days { AllPairs RisesByDay days.now }
+    requires near { (midnight : ℤ) → All IsRowTime (starts_on midnight days.now) }
+    requires component { HasConvertibleRow (length zones.now) component.now }
+    ensures value { option_to_list result ≡ map (held (tables_of zones.now)) (governors_of (id_by (alignment.reading_of (tables_of zones.now) ids) days.now) (tables_of zones.now) ids (record { number = number; component = component.now })) }
+    ensures movable { All (IsMovable (length zones.now)) (option_to_list result) }
+{
     if !component.future {
         return None;
     }
     let name = component.recurrence_id?;
     let stamp = own_start(component)?;
-    let id = id_of(zones, ids, days, align(zones, name, ids));
-    Some(Governor {
-        id,
-        number,
-        stamp,
-        extent: component.extent,
-        moved: written_value(stamp) - local_beside(zones, stamp, id),
-    })
+    let id = start_meant(zones, ids, days, align(zones, name, ids));
+    Some(governor_at(zones, component, number, stamp, id))
 }
 
-/// The overrides that move later instances, by their ids, then by their numbers.
-pub fn governors(
-    alloc: Global,
+/// Puts the overrides that move later instances behind others, as they stand.
+fn put_governors(
     zones: &[LocalTimes<'_>],
     ids: Stamp,
     days: &[DayStart],
     components: &[Component],
-) -> Result<List<Governor>, NoMemory> {
-    let mut found = List::new(alloc);
+    out: &mut List<Governor>,
+) -> Result<(), NoMemory>
+    requires ids { HasZone (length zones.now) ids }
+    requires days { AllPairs RisesByDay days.now }
+    requires near { (midnight : ℤ) → All IsRowTime (starts_on midnight days.now) }
+    requires components { All (HasConvertibleRow (length zones.now)) components.now }
+    requires few { length components.now < 2 ^ 32 }
+    requires movable { All (IsMovable (length zones.now)) out.old }
+    ensures made { OnOk result (out.new ≡ out.old ++ map (held (tables_of zones.now)) (governors_by (tables_of zones.now) ids days.now components.now)) }
+    ensures movable { OnOk result (All (IsMovable (length zones.now)) out.new) }
+{
     let mut rest = components;
     let mut number = 0u32;
     'overrides: while let Some((component, behind)) = rest.split_first() {
         if let Some(governor) = governor_of(zones, ids, days, component, number) {
-            found.push(governor)?;
+            out.push(governor)?;
         }
         if !behind.is_empty() {
             number += 1;
         }
         rest = behind;
     }
-    let mut items = found.into_vec();
-    match items.sort_by_key(|governor| (governor.id, governor.number)) {
+    Ok(())
+}
+
+/// Overrides by their ids, those of one id as they stood.
+fn put_by_id(governors: List<Governor>) -> Result<List<Governor>, NoMemory>
+    ensures rising { IfOk result (λ sorted. AllPairs HasNoGreaterId sorted) }
+    ensures kept { IfOk result (λ sorted. (id : ℤ) → spec.with_id id sorted ≡ spec.with_id id governors) }
+{
+    let mut items = governors.into_vec();
+    match items.sort_by_key(|governor| governor.id) {
         Ok(()) => Ok(List::from_vec(items)),
         Err(_) => Err(NoMemory),
     }
 }
 
+/// The overrides that move later instances, by their ids, those of one id as their components stand.
+/// The starts by their days tell which start a RECURRENCE-ID means that names a local day.
+pub fn governors(
+    alloc: Global,
+    zones: &[LocalTimes<'_>],
+    ids: Stamp,
+    days: &[DayStart],
+    components: &[Component],
+) -> Result<List<Governor>, NoMemory>
+    requires ids { HasZone (length zones.now) ids }
+    requires days { AllPairs RisesByDay days.now }
+    requires near { (midnight : ℤ) → All IsRowTime (starts_on midnight days.now) }
+    requires components { All (HasConvertibleRow (length zones.now)) components.now }
+    requires few { length components.now < 2 ^ 32 }
+    ensures held { IfOk result (HoldsGovernors (tables_of zones.now) (governors_by (tables_of zones.now) ids days.now components.now)) }
+    ensures movable { IfOk result (λ governors. All (IsMovable (length zones.now)) governors) }
+{
+    let mut found = List::new(alloc);
+    put_governors(zones, ids, days, components, &mut found)?;
+    put_by_id(found)
+}
+
 /// The override that governs a start: the last whose id lies before it.
-pub fn governing(governors: &[Governor], start: i64) -> Option<Governor> {
+pub fn governing(governors: &[Governor], start: i64) -> Option<Governor>
+    requires { AllPairs HasNoGreaterId governors.now }
+    ensures { option_to_list result ≡ last_before start governors.now }
+{
     let place = governors.partition_point(|governor| governor.id < start);
     if place == 0 {
         None
@@ -107,30 +198,64 @@ pub fn governing(governors: &[Governor], start: i64) -> Option<Governor> {
 }
 
 /// The digits to which an override moves a start, by the clock of its own.
-pub fn moved_digits(zones: &[LocalTimes<'_>], governor: Governor, start: i64) -> i64 {
+pub fn moved_digits(zones: &[LocalTimes<'_>], governor: Governor, start: i64) -> i64
+    requires governor { IsMovable (length zones.now) governor }
+    requires start { IsBetween (neg_ℤ (pos 180_000_000_000_000)) (pos 180_000_000_000_000) start }
+    ensures { result ≡ spec.moved_digits (tables_of zones.now) governor start }
+{
     local_beside(zones, governor.stamp, start) + governor.moved
 }
 
 /// Whether digits are those of dates that are served.
-pub fn are_served(digits: i64) -> bool {
+pub fn are_served(digits: i64) -> bool
+    ensures { result ≡ rows.are_served digits }
+{
     FIRST_DATE <= digits && digits <= LAST_DATE
 }
 
-/// The row of a start that an override governs, if its digits are served.
-fn moved_row(zones: &[LocalTimes<'_>], governor: Governor, row: &Row) -> Option<Row> {
-    let digits = moved_digits(zones, governor, row.id);
-    if !are_served(digits) {
-        return None;
-    }
+/// The row that an override makes of a start whose digits it has moved.
+fn row_from(zones: &[LocalTimes<'_>], ids: Stamp, governor: Governor, id: i64, digits: i64) -> Row
+    requires governor { IsMovable (length zones.now) governor }
+    requires digits { IsRowTime digits }
+    ensures { result ≡ spec.row_from (tables_of zones.now) ids id governor digits }
+{
     let start = instant_beside(zones, governor.stamp, digits);
-    Some(Row {
-        id: row.id,
+    Row {
+        id,
         start,
         end: end_of_extent(zones, governor.stamp, governor.extent, start),
         component: governor.number,
-        id_kind: row.id_kind,
+        id_kind: kind_of(ids),
         kind: kind_of(governor.stamp),
-    })
+    }
+}
+
+/// The row of a start that an override governs, if its digits are served.
+fn moved_row(zones: &[LocalTimes<'_>], ids: Stamp, governor: Governor, start: i64) -> Option<Row>
+    requires governor { IsMovable (length zones.now) governor }
+    requires start { IsRowTime start }
+    ensures { option_to_list result ≡ spec.moved_row (tables_of zones.now) ids start governor }
+{
+    let digits = moved_digits(zones, governor, start);
+    if are_served(digits) {
+        Some(row_from(zones, ids, governor, start, digits))
+    } else {
+        None
+    }
+}
+
+/// The row that stands for the master's at a start that no override names: that row itself where none
+/// governs it.
+fn moved_by(zones: &[LocalTimes<'_>], ids: Stamp, governors: &[Governor], row: &Row) -> Option<Row>
+    requires rising { AllPairs HasNoGreaterId governors.now }
+    requires movable { All (IsMovable (length zones.now)) governors.now }
+    requires start { IsRowTime row.now.id }
+    ensures { option_to_list result ≡ spec.moved_by (tables_of zones.now) ids row.now (last_before row.now.id governors.now) }
+{
+    match governing(governors, row.id) {
+        Some(governor) => moved_row(zones, ids, governor, row.id),
+        None => Some(*row),
+    }
 }
 
 /// The row that stands for the master's at a start: that row itself where an override names the start
@@ -141,151 +266,176 @@ fn governed(
     names: &Names,
     governors: &[Governor],
     row: &Row,
-) -> Option<Row> {
+) -> Option<Row>
+    requires ids { HasZone (length zones.now) ids }
+    requires values { AllPairs IsBelow names.now.values }
+    requires days { AllPairs IsBelow names.now.days }
+    requires rising { AllPairs HasNoGreaterId governors.now }
+    requires movable { All (IsMovable (length zones.now)) governors.now }
+    requires start { IsRowTime row.now.id }
+    ensures { option_to_list result ≡ stand_in_by (tables_of zones.now) ids names.now governors.now row.now }
+{
     if is_named(zones, ids, names, row.id) {
-        return Some(*row);
-    }
-    match governing(governors, row.id) {
-        Some(governor) => moved_row(zones, governor, row),
-        None => Some(*row),
+        Some(*row)
+    } else {
+        moved_by(zones, ids, governors, row)
     }
 }
 
-/// The rows of a master with those moved that overrides govern. Those of each local day that such an
-/// override names have to be among them.
+/// Puts what stands for the rows of a master behind other rows.
+fn put_governed(
+    zones: &[LocalTimes<'_>],
+    ids: Stamp,
+    names: &Names,
+    governors: &[Governor],
+    rows: &[Row],
+    out: &mut List<Row>,
+) -> Result<(), NoMemory>
+    requires ids { HasZone (length zones.now) ids }
+    requires values { AllPairs IsBelow names.now.values }
+    requires days { AllPairs IsBelow names.now.days }
+    requires rising { AllPairs HasNoGreaterId governors.now }
+    requires movable { All (IsMovable (length zones.now)) governors.now }
+    requires near { All HasRowTimes rows.now }
+    ensures { OnOk result (out.new ≡ out.old ++ flat_map (stand_in_by (tables_of zones.now) ids names.now governors.now) rows.now) }
+{
+    let mut rest = rows;
+    'rows: while let Some((row, behind)) = rest.split_first() {
+        if let Some(row) = governed(zones, ids, names, governors, row) {
+            out.push(row)?;
+        }
+        rest = behind;
+    }
+    Ok(())
+}
+
+/// The overrides that move later instances, beside the rows of a master.
+fn governors_beside(
+    alloc: Global,
+    zones: &[LocalTimes<'_>],
+    ids: Stamp,
+    object: &Object,
+    rows: &[Row],
+) -> Result<List<Governor>, NoMemory>
+    requires object { HasConvertibleRows object.now }
+    requires zones { tables_of zones.now ≡ object.now.zones }
+    requires ids { HasZone (length zones.now) ids }
+    requires near { All HasRowTimes rows.now }
+    ensures held { IfOk result (HoldsGovernors object.now.zones (rows.governors object.now ids (map (λ (r : Row). r.id) rows.now))) }
+    ensures movable { IfOk result (λ governors. All (IsMovable (length zones.now)) governors) }
+{
+    let days = day_starts(alloc, zones, ids, rows)?;
+    governors(
+        alloc,
+        zones,
+        ids,
+        days.as_slice(),
+        object.components.as_slice(),
+    )
+}
+
+/// The rows of a master with those moved that overrides govern, of an object that may have such
+/// overrides.
+fn with_governed(
+    alloc: Global,
+    zones: &[LocalTimes<'_>],
+    ids: Stamp,
+    object: &Object,
+    rows: &[Row],
+) -> Result<List<Row>, NoMemory>
+    requires object { HasConvertibleRows object.now }
+    requires zones { tables_of zones.now ≡ object.now.zones }
+    requires ids { HasZone (length zones.now) ids }
+    requires near { All HasRowTimes rows.now }
+    ensures { IfOk result (λ moved. moved ≡ flat_map (stand_in object.now ids (map (λ (r : Row). r.id) rows.now)) rows.now) }
+{
+    let names = names_of_overrides(alloc, zones, ids, object.components.as_slice())?;
+    let governors = governors_beside(alloc, zones, ids, object, rows)?;
+    let mut out = List::new(alloc);
+    put_governed(zones, ids, &names, governors.as_slice(), rows, &mut out)?;
+    Ok(out)
+}
+
+/// The rows of a master with those moved that overrides govern, and those left out that are moved out
+/// of the dates that are served. An override by a local day takes its id from the rows that are given,
+/// so they have to hold those of each day that an override names which moves later instances.
 pub fn moved_rows(
     alloc: Global,
     zones: &[LocalTimes<'_>],
     ids: Stamp,
     object: &Object,
     rows: List<Row>,
-) -> Result<List<Row>, NoMemory> {
-    let components = object.components.as_slice();
-    if !has_future(components) {
-        return Ok(rows);
-    }
-    let names = names_of_overrides(alloc, zones, ids, components)?;
-    let days = day_starts(alloc, zones, ids, rows.as_slice())?;
-    let governors = governors(alloc, zones, ids, days.as_slice(), components)?;
-    let mut out = List::new(alloc);
-    out.reserve(rows.len())?;
-    for row in rows.as_slice() {
-        if let Some(row) = governed(zones, ids, &names, governors.as_slice(), row) {
-            out.push(row)?;
-        }
-    }
-    Ok(out)
-}
-
-/// Whether the offsets of a zone are below 18 hours, as all places of the world have them.
-fn has_common_offsets(zone: &ZoneTable) -> bool {
-    is_common(zone.before)
-        && zone
-            .onsets
-            .as_slice()
-            .iter()
-            .all(|onset| is_common(onset.offset))
-}
-
-fn is_common(offset: i32) -> bool {
-    -64_800 < offset && offset < 64_800
-}
-
-/// How many seconds a start that a moment names can lie beside the window that its row is moved to:
-/// four times the greatest offset.
-fn seconds_apart(zones: &[LocalTimes<'_>]) -> i64 {
-    if zones.iter().all(|times| has_common_offsets(times.table)) {
-        3 * DAY
+) -> Result<List<Row>, NoMemory>
+    requires object { HasConvertibleRows object.now }
+    requires zones { tables_of zones.now ≡ object.now.zones }
+    requires ids { HasZone (length zones.now) ids }
+    requires near { All HasRowTimes rows }
+    ensures { IfOk result (λ moved. moved ≡ flat_map (stand_in object.now ids (map (λ (r : Row). r.id) rows)) rows) }
+{
+    if has_future(object.components.as_slice()) {
+        with_governed(alloc, zones, ids, object, rows.as_slice())
     } else {
-        4 * DAY
+        Ok(rows)
     }
 }
 
-/// The digits whose starts a component may move into a window, and the local day that it names.
-fn moved_digits_of(
-    zones: &[LocalTimes<'_>],
-    ids: Stamp,
-    window: Digits,
-    component: &Component,
-) -> Option<Digits> {
-    if !component.future {
-        return None;
-    }
-    let name = component.recurrence_id?;
-    let stamp = own_start(component)?;
-    match align(zones, name, ids) {
-        Aligned::At(id) => {
-            let by = seconds_apart(zones);
-            let moved = written_value(stamp) - local_beside(zones, stamp, id);
-            Some(Digits {
-                low: window.low - by - moved,
-                high: window.high + by - moved,
-            })
-        }
-        Aligned::OnDay(midnight) => {
-            let moved = written_value(stamp) - midnight;
-            Some(Digits {
-                low: (window.low - 6 * DAY - moved).min(midnight),
-                high: (window.high + 7 * DAY - moved).max(midnight + DAY),
-            })
-        }
-    }
-}
-
-/// A range with the digits whose starts overrides may move into a window.
-pub fn with_moved(
-    zones: &[LocalTimes<'_>],
-    ids: Stamp,
-    components: &[Component],
-    window: Digits,
-    range: Digits,
-) -> Digits {
-    let mut range = range;
-    for component in components {
-        if let Some(more) = moved_digits_of(zones, ids, window, component) {
-            range = Digits {
-                low: range.low.min(more.low),
-                high: range.high.max(more.high),
-            };
-        }
-    }
-    range
-}
-
-/// The digits of the local days that overrides name which move later instances.
-pub fn named_range(
-    zones: &[LocalTimes<'_>],
-    ids: Stamp,
-    components: &[Component],
-) -> Option<Digits> {
-    let mut range = None;
-    for component in components {
-        if let Some(midnight) = day_named(zones, ids, component) {
-            range = Some(joined(range, midnight));
-        }
-    }
-    range
-}
-
-/// The local day that a component names which moves later instances.
-fn day_named(zones: &[LocalTimes<'_>], ids: Stamp, component: &Component) -> Option<i64> {
-    if !component.future {
-        return None;
-    }
-    match align(zones, component.recurrence_id?, ids) {
+/// The local day that a RECURRENCE-ID names, by its midnight, if it names one.
+pub fn day_of(name: Aligned) -> Option<i64>
+    requires { HasDigits name }
+    ensures value { option_to_list result ≡ days_in (aligned_by name ∷ []) }
+    ensures near { IfSome result IsRowTime }
+{
+    match name {
         Aligned::At(_) => None,
         Aligned::OnDay(midnight) => Some(midnight),
     }
 }
 
-/// A range with a local day.
-fn joined(range: Option<Digits>, midnight: i64) -> Digits {
-    let (low, high) = match range {
-        Some(range) => (range.low, range.high),
-        None => (midnight, midnight + DAY),
-    };
-    Digits {
-        low: low.min(midnight),
-        high: high.max(midnight + DAY),
+/// The local day that a component names which moves later instances, by its midnight.
+pub fn day_of_mover(zones: &[LocalTimes<'_>], ids: Stamp, component: &Component) -> Option<i64>
+    requires ids { HasZone (length zones.now) ids }
+    requires component { HasConvertibleRow (length zones.now) component.now }
+    ensures value { option_to_list result ≡ days_of_movers (tables_of zones.now) ids (component.now ∷ []) }
+    ensures near { IfSome result IsRowTime }
+{
+    if !component.future {
+        return None;
     }
+    day_of(align(zones, component.recurrence_id?, ids))
+}
+
+/// A range, if there is one, with a local day.
+fn joined(range: Option<Digits>, midnight: i64) -> Digits
+    requires { IsRowTime midnight }
+    ensures range { IfSome range (HasRange result) }
+    ensures day { HasDay result midnight }
+{
+    match range {
+        Some(range) => Digits {
+            low: range.low.min(midnight),
+            high: range.high.max(midnight + DAY),
+        },
+        None => Digits {
+            low: midnight,
+            high: midnight + DAY,
+        },
+    }
+}
+
+/// The digits of the local days that overrides name which move later instances; none where none names
+/// one.
+pub fn named_range(zones: &[LocalTimes<'_>], ids: Stamp, components: &[Component]) -> Option<Digits>
+    requires ids { HasZone (length zones.now) ids }
+    requires components { All (HasConvertibleRow (length zones.now)) components.now }
+    ensures { MatchOption result (days_of_movers (tables_of zones.now) ids components.now ≡ []) (λ range. All (HasDay range) (days_of_movers (tables_of zones.now) ids components.now)) }
+{
+    let mut range = None;
+    let mut rest = components;
+    'overrides: while let Some((component, behind)) = rest.split_first() {
+        if let Some(midnight) = day_of_mover(zones, ids, component) {
+            range = Some(joined(range, midnight));
+        }
+        rest = behind;
+    }
+    range
 }

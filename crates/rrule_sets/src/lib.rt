@@ -14,6 +14,7 @@ mod fine;
 mod governors;
 mod instances;
 mod later;
+mod moved;
 mod near;
 mod needed;
 mod once;

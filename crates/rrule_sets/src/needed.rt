@@ -1,20 +1,21 @@
 //! The digits whose starts a window needs.
-ghost use Rattle.std.specs.Prelude.{◌≡◌, ◌+◌, ◌≤◌, ◌<◌, ◌∷◌, [], length, All, IfSome, flat_map, option_to_list, pos, ℤ, ◌+ℤ◌, ◌*ℤ◌, ◌≤ℤ◌};
+ghost use Rattle.std.specs.Prelude.{◌≡◌, ◌+◌, ◌∷◌, [], length, All, IfSome, flat_map, option_to_list, pos, ℤ, ◌+ℤ◌, ◌*ℤ◌, ◌≤ℤ◌};
 ghost use Rattle.cal_moment.specs.declared.stamp.Stamp.{Stamp};
 ghost use Rattle.cal_model.specs.Instances.Alignment as alignment;
 ghost use Rattle.cal_model.specs.Instances.Rows.{window_at, window_seconds};
 ghost use Rattle.cal_model.specs.Words.Integers.{same_int};
-ghost use Rattle.override_merge.specs.AlignedStamps.{aligned_by, HasDigits};
 ghost use Rattle.override_merge.specs.Conversions.{tables_of, HasZone, HasConvertibleRow, IsConvertible, IsRowTime};
-ghost use Rattle.override_merge.specs.NamedStarts.{days_in};
+ghost use Rattle.rrule_sets.specs.HeldGovernors.{days_of_movers};
 ghost use Rattle.rrule_sets.specs.NeededDigits.{HasWindow, HasDay, HasRange, days_needed, overrides_in};
+ghost use Rattle.rrule_sets.specs.NeededRanges.{HasMovedOfAll, IsBehind, IsNeeded};
 
-use crate::governors::with_moved;
+use crate::governors::{day_of, day_of_mover, has_future};
+use crate::moved::moved_digits_of;
 use crate::range::Digits;
 use cal_base::Steps;
 use cal_model::{Component, LocalTimes};
 use cal_moment::Stamp;
-use override_merge::stamps::{Aligned, align, value_of};
+use override_merge::stamps::{align, value_of};
 use override_merge::starts::own_start;
 use override_merge::zones::local_beside;
 use std::sync::ledger::Ledger;
@@ -41,18 +42,6 @@ fn starts_in_window(zones: &[LocalTimes<'_>], stamp: Stamp, window: i32) -> bool
     ensures { result ≡ same_int (window_at ((alignment.reading_of (tables_of zones.now) stamp).local (alignment.value_of (tables_of zones.now) stamp))) window }
 {
     local_beside(zones, stamp, value_of(zones, stamp)).div_euclid(WINDOW) == window as i64
-}
-
-/// The local day that a stamp says beside a start, by its midnight, if it says one.
-fn day_of(name: Aligned) -> Option<i64>
-    requires { HasDigits name }
-    ensures value { option_to_list result ≡ days_in (aligned_by name ∷ []) }
-    ensures near { IfSome result IsRowTime }
-{
-    match name {
-        Aligned::At(_) => None,
-        Aligned::OnDay(midnight) => Some(midnight),
-    }
 }
 
 /// The local day that an override names, by its midnight, where it names one and its own row lies in the
@@ -112,9 +101,9 @@ fn count_override<L: Ledger>(component: &Component, steps: &mut Steps<L>)
     }
 }
 
-/// The digits whose starts are needed for the rows of a window: those of the window, and of each local
-/// day that an override names whose own row lies in it. Takes a step for each override.
-pub fn needed<L: Ledger>(
+/// The digits of a window, and of each local day that an override names whose own row lies in it. Takes a
+/// step for each override.
+fn with_own_days<L: Ledger>(
     zones: &[LocalTimes<'_>],
     ids: Stamp,
     components: &[Component],
@@ -135,5 +124,78 @@ pub fn needed<L: Ledger>(
         range = with_day(range, day_needed(zones, ids, window, component));
         rest = behind;
     }
-    with_moved(zones, ids, components, window_digits(window), range)
+    range
+}
+
+/// One range that has two.
+pub fn joined(a: Digits, b: Digits) -> Digits
+    ensures first { HasRange result a }
+    ensures second { HasRange result b }
+    ensures least { (z : ℤ) → a.high ≤ℤ z → b.high ≤ℤ z → result.high ≤ℤ z }
+{
+    Digits {
+        low: a.low.min(b.low),
+        high: a.high.max(b.high),
+    }
+}
+
+/// The range with another, if one is given.
+fn with_digits(range: Digits, more: Option<Digits>) -> Digits
+    ensures range { HasRange result range }
+    ensures more { All (HasRange result) (option_to_list more) }
+    ensures least { (z : ℤ) → range.high ≤ℤ z → All (λ (part : Digits). part.high ≤ℤ z) (option_to_list more) → result.high ≤ℤ z }
+{
+    match more {
+        Some(more) => joined(range, more),
+        None => range,
+    }
+}
+
+/// The range with the digits whose starts overrides may move into a window, and with the local days
+/// that these name.
+fn with_moved(
+    zones: &[LocalTimes<'_>],
+    ids: Stamp,
+    components: &[Component],
+    window: i32,
+    range: Digits,
+) -> Digits
+    requires ids { HasZone (length zones.now) ids }
+    requires components { All (HasConvertibleRow (length zones.now)) components.now }
+    ensures range { HasRange result range }
+    ensures moved { HasMovedOfAll (tables_of zones.now) ids window components.now result }
+    ensures days { All (HasDay result) (days_of_movers (tables_of zones.now) ids components.now) }
+    ensures least { (z : ℤ) → range.high ≤ℤ z → IsBehind (tables_of zones.now) ids window components.now z → result.high ≤ℤ z }
+{
+    let mut range = range;
+    let mut rest = components;
+    'overrides: while let Some((component, behind)) = rest.split_first() {
+        range = with_day(range, day_of_mover(zones, ids, component));
+        range = with_digits(range, moved_digits_of(zones, ids, window, component));
+        rest = behind;
+    }
+    range
+}
+
+/// The digits whose starts are needed for the rows of a window: those of the window, and of each local
+/// day that an override names whose own row lies in it; and those that overrides may move into it which
+/// move later instances, and each local day that one of these names. Takes a step for each override.
+pub fn needed<L: Ledger>(
+    zones: &[LocalTimes<'_>],
+    ids: Stamp,
+    components: &[Component],
+    window: i32,
+    steps: &mut Steps<L>,
+) -> Digits
+    requires ids { HasZone (length zones.now) ids }
+    requires components { All (HasConvertibleRow (length zones.now)) components.now }
+    ensures steps { steps.new ≡ steps.old + overrides_in components.now }
+    ensures needed { IsNeeded (tables_of zones.now) ids components.now window result }
+{
+    let range = with_own_days(zones, ids, components, window, steps);
+    if has_future(components) {
+        with_moved(zones, ids, components, window, range)
+    } else {
+        range
+    }
 }

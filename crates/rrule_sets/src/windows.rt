@@ -9,11 +9,11 @@ ghost use Rattle.rrule_sets.specs.ExpandableObjects.{HasRowsToFind};
 ghost use Rattle.rrule_sets.specs.MasterRows.{rows_of_master};
 ghost use Rattle.rrule_sets.specs.NearRows.{HasLesserId, LiesWhereInner};
 ghost use Rattle.rrule_sets.specs.NeededDigits.{HasRange};
-ghost use Rattle.rrule_sets.specs.SeveralWindows.{IsNeeded, looks_of};
+ghost use Rattle.rrule_sets.specs.SeveralWindows.{HasNeeded, looks_of};
 
 use crate::governors::moved_rows;
 use crate::near::{near_rows, rows_before, rows_from};
-use crate::needed::needed;
+use crate::needed::{joined, needed};
 use crate::once::{only_row, row_in_windows};
 use crate::range::Digits;
 use crate::window::{master_rows, rows_beside};
@@ -49,7 +49,7 @@ fn needed_of_each<L: Ledger>(
     requires components { All (HasConvertibleRow (length zones.now)) components.now }
     ensures steps { steps.new ≤ steps.old + sum (map (looks_of components.now) windows.now) }
     ensures windows { IfOk result (λ each. map (λ (n : Needed). n.window) each ≡ windows.now) }
-    ensures needed { IfOk result (λ each. All (IsNeeded (tables_of zones.now) ids components.now) each) }
+    ensures needed { IfOk result (λ each. All (HasNeeded (tables_of zones.now) ids components.now) each) }
 {
     let mut each = List::new(alloc);
     each.reserve(windows.len())?;
@@ -64,18 +64,6 @@ fn needed_of_each<L: Ledger>(
         rest = behind;
     }
     Ok(each)
-}
-
-/// One range that has two.
-fn joined(a: Digits, b: Digits) -> Digits
-    ensures first { HasRange result a }
-    ensures second { HasRange result b }
-    ensures least { (z : ℤ) → a.high ≤ℤ z → b.high ≤ℤ z → result.high ≤ℤ z }
-{
-    Digits {
-        low: a.low.min(b.low),
-        high: a.high.max(b.high),
-    }
 }
 
 /// One range that has a first one and those of several windows.
@@ -110,7 +98,7 @@ fn put_with_overrides(
     requires ids { Some ids ≡ spec.ids_start object.now }
     requires rows { rows.now ≡ flat_map (rows_of_master object.now.zones range) (spec.masters object.now) }
     requires range { HasRange range needed.now.range }
-    requires needed { IsNeeded object.now.zones ids object.now.components needed.now }
+    requires needed { HasNeeded object.now.zones ids object.now.components needed.now }
     ensures { OnOk result (out.new ≡ out.old ++ spec.rows_in object.now needed.now.window) }
 {
     let _ = range;
@@ -177,7 +165,7 @@ fn put_window(
     requires ids { Some ids ≡ spec.ids_start object.now }
     requires rows { rows.now ≡ flat_map (rows_of_master object.now.zones range) (spec.masters object.now) }
     requires range { HasRange range needed.now.range }
-    requires needed { IsNeeded object.now.zones ids object.now.components needed.now }
+    requires needed { HasNeeded object.now.zones ids object.now.components needed.now }
     ensures { OnOk result (out.new ≡ out.old ++ spec.rows_in object.now needed.now.window) }
 {
     if has_overrides(object.components.as_slice()) {
@@ -204,7 +192,7 @@ fn rows_in_range(
     requires ids { Some ids ≡ spec.ids_start object.now }
     requires rows { rows.now ≡ flat_map (rows_of_master object.now.zones range) (spec.masters object.now) }
     requires range { All (λ (n : Needed). HasRange range n.range) each.now }
-    requires needed { All (IsNeeded object.now.zones ids object.now.components) each.now }
+    requires needed { All (HasNeeded object.now.zones ids object.now.components) each.now }
     ensures { IfOk result (λ rows. rows ≡ flat_map (spec.rows_in object.now) (map (λ (n : Needed). n.window) each.now)) }
 {
     let mut out = List::new(alloc);
@@ -228,7 +216,7 @@ fn rows_of_needed<L: Ledger>(
     requires object { HasRowsToFind object.now }
     requires zones { tables_of zones.now ≡ object.now.zones }
     requires ids { Some ids ≡ spec.ids_start object.now }
-    requires needed { All (IsNeeded object.now.zones ids object.now.components) each.now }
+    requires needed { All (HasNeeded object.now.zones ids object.now.components) each.now }
     ensures steps { (before : ℕ) → steps.old ≤ before + sum (map (looks_of object.now.components) (map (λ (n : Needed). n.window) each.now)) → steps.new ≤ before + sum (map (cost object.now) (map (λ (n : Needed). n.window) each.now)) }
     ensures rows { IfOk result (λ rows. rows ≡ flat_map (spec.rows_in object.now) (map (λ (n : Needed). n.window) each.now)) }
 {

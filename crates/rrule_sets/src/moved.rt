@@ -1,0 +1,122 @@
+//! The digits whose starts an override may move into a window.
+ghost use Rattle.std.specs.Prelude.{◌≡◌, ◌*◌, length, option_to_list, pos, neg_ℤ, ◌+ℤ◌, ◌-ℤ◌, ◌*ℤ◌};
+ghost use Rattle.cal_moment.specs.Calendar.{IsBetween};
+ghost use Rattle.cal_model.specs.Instances.Alignment as alignment;
+ghost use Rattle.cal_model.specs.Instances.Rows.{window_seconds};
+ghost use Rattle.cal_model.specs.Ranges.Cost as cost;
+ghost use Rattle.override_merge.specs.AlignedStamps.{aligned_by};
+ghost use Rattle.override_merge.specs.Conversions.{tables_of, HasConvertibleRow, HasZone, IsConvertible, IsRowTime};
+ghost use Rattle.rrule_sets.specs.MovedStarts.{EndsByMoved, HasMovedOf, IsMovedFrom, IsNearName, offset_bound};
+
+use crate::range::Digits;
+use cal_model::{Component, LocalTimes, ZoneTable};
+use cal_moment::Stamp;
+use override_merge::stamps::{Aligned, align, written_value};
+use override_merge::starts::own_start;
+use override_merge::zones::local_beside;
+
+/// 64 days, in seconds.
+const WINDOW: i64 = 5_529_600;
+
+const DAY: i64 = 86_400;
+
+/// Whether an offset is below 18 hours.
+fn is_common(offset: i32) -> bool
+    ensures { result ≡ cost.is_common offset }
+{
+    -64_800 < offset && offset < 64_800
+}
+
+/// Whether the offsets of a zone are below 18 hours, as all places of the world have them.
+fn has_common_offsets(zone: &ZoneTable) -> bool
+    ensures { result ≡ cost.has_common_offsets zone.now }
+{
+    is_common(zone.before)
+        && zone
+            .onsets
+            .as_slice()
+            .iter()
+            .all(|onset| is_common(onset.offset))
+}
+
+/// How many seconds a start that a moment names can lie beside the window that its row is moved to:
+/// four times the greatest offset.
+fn seconds_apart(zones: &[LocalTimes<'_>]) -> i64
+    ensures { result ≡ pos (4 * offset_bound (tables_of zones.now)) }
+{
+    if zones.iter().all(|times| has_common_offsets(times.table)) {
+        3 * DAY
+    } else {
+        4 * DAY
+    }
+}
+
+/// The digits of a window moved back, with so many seconds before and behind them.
+fn moved_back(window: i32, moved: i64, before: i64, behind: i64) -> Digits
+    requires moved { IsBetween (neg_ℤ (pos 2_300_000_000_000)) (pos 2_300_000_000_000) moved }
+    requires before { IsBetween (pos 0) (pos 1_000_000) before }
+    requires behind { IsBetween (pos 0) (pos 1_000_000) behind }
+    ensures low { result.low ≡ (window *ℤ window_seconds -ℤ before) -ℤ moved }
+    ensures high { result.high ≡ ((window +ℤ pos 1) *ℤ window_seconds +ℤ behind) -ℤ moved }
+{
+    Digits {
+        low: window as i64 * WINDOW - before - moved,
+        high: (window as i64 + 1) * WINDOW + behind - moved,
+    }
+}
+
+/// The digits of an override that names a moment: those of the window, moved back from it.
+fn digits_of_moment(zones: &[LocalTimes<'_>], stamp: Stamp, window: i32, moment: i64) -> Digits
+    requires stamp { IsConvertible (length zones.now) stamp }
+    requires moment { IsBetween (neg_ℤ (pos 1_200_000_000_000)) (pos 1_200_000_000_000) moment }
+    ensures low { result.low ≡ (window *ℤ window_seconds -ℤ pos (4 * offset_bound (tables_of zones.now))) -ℤ (alignment.written_value stamp -ℤ (alignment.reading_of (tables_of zones.now) stamp).local moment) }
+    ensures high { result.high ≡ ((window +ℤ pos 1) *ℤ window_seconds +ℤ pos (4 * offset_bound (tables_of zones.now))) -ℤ (alignment.written_value stamp -ℤ (alignment.reading_of (tables_of zones.now) stamp).local moment) }
+{
+    let by = seconds_apart(zones);
+    let moved = written_value(stamp) - local_beside(zones, stamp, moment);
+    moved_back(window, moved, by, by)
+}
+
+/// The digits of an override that names a local day, before it is known which start it means: those of
+/// the window, moved back from the day's midnight, from six days before them to seven days behind.
+fn digits_of_day(stamp: Stamp, window: i32, midnight: i64) -> Digits
+    requires stamp { IsRowTime (alignment.written_value stamp) }
+    requires midnight { IsRowTime midnight }
+    ensures low { result.low ≡ (window *ℤ window_seconds -ℤ pos 518_400) -ℤ (alignment.written_value stamp -ℤ midnight) }
+    ensures high { result.high ≡ ((window +ℤ pos 1) *ℤ window_seconds +ℤ pos 604_800) -ℤ (alignment.written_value stamp -ℤ midnight) }
+{
+    moved_back(window, written_value(stamp) - midnight, 6 * DAY, 7 * DAY)
+}
+
+/// The digits of an override that starts at a stamp, by what its RECURRENCE-ID says.
+fn digits_of_name(zones: &[LocalTimes<'_>], stamp: Stamp, window: i32, name: Aligned) -> Digits
+    requires stamp { IsConvertible (length zones.now) stamp }
+    requires name { IsNearName (aligned_by name) }
+    ensures { IsMovedFrom (tables_of zones.now) window stamp (aligned_by name) result }
+{
+    match name {
+        Aligned::At(moment) => digits_of_moment(zones, stamp, window, moment),
+        Aligned::OnDay(midnight) => digits_of_day(stamp, window, midnight),
+    }
+}
+
+/// The digits whose starts a component may move into a window, if it moves later instances. Which start
+/// its RECURRENCE-ID means need not be known.
+pub fn moved_digits_of(
+    zones: &[LocalTimes<'_>],
+    ids: Stamp,
+    window: i32,
+    component: &Component,
+) -> Option<Digits>
+    requires ids { HasZone (length zones.now) ids }
+    requires component { HasConvertibleRow (length zones.now) component.now }
+    ensures moved { HasMovedOf (tables_of zones.now) ids window component.now (option_to_list result) }
+    ensures least { EndsByMoved (tables_of zones.now) ids window component.now (option_to_list result) }
+{
+    if !component.future {
+        return None;
+    }
+    let name = component.recurrence_id?;
+    let stamp = own_start(component)?;
+    Some(digits_of_name(zones, stamp, window, align(zones, name, ids)))
+}
