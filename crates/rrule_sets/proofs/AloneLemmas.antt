@@ -19,7 +19,7 @@ use Rattle.cal_model.specs.Ranges.Cost.{cost, last_day}
 use Rattle.cal_model.specs.Ranges.Nearness.{HasShortOffsets}
 use Rattle.cal_model.specs.Recurrence.RecurrenceSet.{every_moment}
 use Rattle.cal_model.specs.Words.Integers.{same_int}
-use Rattle.cal_model.proofs.Instances.KeptStarts.{governors-none, stand_in, stand_in_by}
+use Rattle.cal_model.proofs.Instances.KeptStarts.{governors-none, stand_in}
 use Rattle.cal_model.proofs.Instances.RisingLists.{AllPairs-head, AllPairs-tail}
 use Rattle.cal_model.proofs.Instances.RowsInOrder.{StandsAt, masters_stand}
 use Rattle.cal_model.proofs.Ranges.NearRanges.{window-holds}
@@ -37,6 +37,7 @@ use Rattle.rrule_sets.specs.MasterRows.{masters_cost, masters_from, rows_of_mast
 use Rattle.rrule_sets.specs.NearRows.{HasLesserId, LiesWhereInner, is_inner, is_near}
 use Rattle.rrule_sets.specs.NeededDigits.{EndsBy, HasDay, HasMoved, HasRange, HasWindow, days_needed, days_of_start, overrides_in}
 use Rattle.rrule_sets.proofs.CostLemmas.{window_counted}
+use Rattle.rrule_sets.proofs.GovernorLemmas.{stand_in-none}
 use Rattle.rrule_sets.proofs.NearRowLemmas.{filter_both, not_below, not_from}
 use Rattle.rrule_sets.proofs.OnceLemmas.{dated_kind}
 use Rattle.rrule_sets.proofs.SeveralLemmas.{filter-all, rows_by_id, window_found_near}
@@ -99,15 +100,8 @@ no_overrides k (c ∷ cs) alone = elim (cases_Bool (is_some c.recurrence_id)) [
 none_later : (object : Object) → IsAlone object.components → list_any moves_later (overrides object) ≡ false
 none_later object alone = ap (list_any moves_later) (no_overrides 0 object.components alone)
 
-as_made : (object : Object) (ids : Stamp) (all : List ℤ) (rows : List Row) → IsAlone object.components → flat_map (stand_in object ids all) rows ≡ rows
-as_made object ids all [] alone = refl
-as_made object ids all (row ∷ rows) alone =
-    ap₂ (λ (xs ys : List Row). xs ++ ys) (ap (λ gs. if is_named object ids row.id then row ∷ [] else stand_in_by object ids row (filter (λ (g : Governor). int_lt g.id row.id) gs)) (governors-none object ids all (none_later object alone)) ∙ same (is_named object ids row.id))
-    (as_made object ids all rows alone)
-  where
-    same : (b : Bool) → (if b then row ∷ [] else row ∷ []) ≡ row ∷ []
-    same true = refl
-    same false = refl
+pub as_made : (object : Object) (ids : Stamp) (all : List ℤ) (rows : List Row) → IsAlone object.components → flat_map (stand_in object ids all) rows ≡ rows
+as_made object ids all rows alone = stand_in-none object ids all rows (none_later object alone)
 
 alone_moved : (object : Object) (ids : Stamp) (window : ℤ) (range : Digits) (aligned : Some ids ≡ ids_start object) (n : ℕ) → IsAlone object.components → HasMovedBy object ids window range aligned n
 alone_moved object ids window range aligned n alone =

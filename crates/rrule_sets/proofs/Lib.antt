@@ -11,6 +11,8 @@ pub mod ReadLemmas
 pub mod CostLemmas
 pub mod LastDayLemmas
 pub mod HullLemmas
+pub mod GovernorLemmas
+pub mod MovedLemmas
 pub mod WindowLemmas
 pub mod RowCounts
 pub mod SpanLemmas

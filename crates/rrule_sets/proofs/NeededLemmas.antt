@@ -29,7 +29,7 @@ pub record IsNeededSoFar (zones : List ZoneTable) (ids : Stamp) (window : ℤ) (
 pub has_range : (wide range part : Digits) → HasRange wide range → HasRange range part → HasRange wide part
 has_range wide range part a b = let af = a.from in let at_end = a.to in let bf = b.from in let bt = b.to in record { from = omega (arith, ints, af, bf); to = omega (arith, ints, at_end, bt) }
 
-has_day : (wide range : Digits) (midnight : ℤ) → HasRange wide range → HasDay range midnight → HasDay wide midnight
+pub has_day : (wide range : Digits) (midnight : ℤ) → HasRange wide range → HasDay range midnight → HasDay wide midnight
 has_day wide range midnight a b = let af = a.from in let at_end = a.to in let bf = b.from in let bt = b.to in record { from = omega (arith, ints, af, bf); to = omega (arith, ints, at_end, bt) }
 
 none_left : (rest : List Component) → length rest ≡ 0 → overrides_in rest ≡ 0

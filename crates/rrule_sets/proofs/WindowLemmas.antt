@@ -19,7 +19,7 @@ use Rattle.cal_model.specs.declared.row.Row.{Row}
 use Rattle.cal_model.specs.declared.zone.ZoneTable.{ZoneTable}
 use Rattle.cal_model.specs.Instances.Alignment.{Aligned, at, on_day, align, kind_of, midnight_of, names_start, reading_of, value_of}
 use Rattle.cal_model.specs.Instances.Starts.{end_from, end_of_instance, own_start, own_start_of, start_or_due, starts_from, starts_of}
-use Rattle.cal_model.specs.Instances.Rows.{Numbered, dated_rows, first_of, has_id, ids_start, in_order, is_named, lies_in_window, Governor, governors, moves_later, move_of, id_of_override, master_row, master_rows, master_stamp, masters, named_by, nominal_beside, numbered, numbered_from, override_row, overrides, row_at, row_of, rows_in, starts, undated_row, undated_rows, window_at, window_seconds}
+use Rattle.cal_model.specs.Instances.Rows.{Numbered, dated_rows, first_of, has_id, ids_start, in_order, is_named, lies_in_window, Governor, are_served, governors, greatest_id, moved_digits, moves_later, move_of, id_of_override, master_row, master_rows, master_stamp, masters, named_by, nominal_beside, numbered, numbered_from, override_row, overrides, row_at, row_of, rows_in, starts, undated_row, undated_rows, window_at, window_seconds}
 use Rattle.cal_model.specs.Objects.ObjectFacts.{IsReadObject}
 use Rattle.cal_model.specs.Ranges.Cost.{day_named, days_apart, days_earlier, days_named_from, greatest, last_day, last_of_window, natural_part, number_of_day}
 use Rattle.cal_model.specs.Recurrence.RecurrenceSet.{every_moment}
@@ -27,22 +27,25 @@ use Rattle.cal_model.specs.Words.Integers.{same_int}
 use Rattle.cal_model.proofs.Instances.DayLaws.{midnight_of-holds, midnight_of-is}
 use Rattle.cal_model.proofs.Instances.EachRowLemmas.{All-greatest, All-numbered_from}
 use Rattle.cal_model.proofs.Instances.GovernedRows.{Governs, row_at-holds, moved_to, moved_row-holds}
-use Rattle.cal_model.proofs.Instances.KeptStarts.{stand_in, rows-stand_in}
+use Rattle.cal_model.proofs.Instances.KeptStarts.{stand_in, stand_in_by, rows-stand_in}
 use Rattle.cal_model.proofs.Instances.RowsInOrder.{StandsAt, IsGovernor, governors_known, GiveSameId, HasOneRow, ids_of_master, master_has, same_own_rows, ids-given, masters_stand, overrides_stand}
 use Rattle.cal_model.proofs.Ranges.MovedWindows.{moved-by_last, moved-near_window}
-use Rattle.cal_model.specs.Ranges.Nearness.{HasOffsetsBelow}
+use Rattle.cal_model.specs.Ranges.Nearness.{HasOffsetsBelow, HasShortOffsets}
+use Rattle.cal_model.specs.Words.Limits.{first_date, last_date}
 use Rattle.cal_model.specs.Words.Lists.{first_or_else}
 use Rattle.cal_model.proofs.Instances.ServedStarts.{IsStatedBy, starts-served}
 use Rattle.cal_model.proofs.Ranges.NearRanges.{window-holds}
+use Rattle.cal_model.proofs.Ranges.RowBounds.{instant-near}
 use Rattle.cal_model.proofs.Ranges.WindowLaws.{lies_in_window-one}
 use Rattle.cal_model.proofs.Words.AllLemmas.{All-each_part, All-everywhere, All-flat_map, All-left, All-option, All-right, All-slice_get}
+use Rattle.cal_model.proofs.Words.EachLemmas.{both_hold}
 use Rattle.cal_model.proofs.Words.IntegerLemmas.{same_int-self, same_int-true}
 use Rattle.override_merge.specs.Conversions.{HasRowTimes, IsRowTime}
 use Rattle.override_merge.specs.NamedStarts.{days_in, named_beside}
 use Rattle.rrule_sets.specs.declared.range.Digits.{Digits}
 use Rattle.rrule_sets.specs.AskedStarts.{IsExpandable, instance_row, instances_in}
 use Rattle.rrule_sets.specs.DigitRanges.{in_digits, starts_in}
-use Rattle.rrule_sets.specs.MasterRows.{masters_from, rows_of_master}
+use Rattle.rrule_sets.specs.MasterRows.{governed_rows, masters_from, rows_of_master, starts_within}
 use Rattle.rrule_sets.specs.NeededDigits.{EndsBy, HasDay, HasMoved, HasWindow, days_needed, days_of_start, id_days}
 use Rattle.rrule_sets.proofs.LastDayLemmas.{moved_within, named_within, window_within}
 use Rattle.rrule_sets.proofs.WindowedRows.{KeepsGoverning, KeepsNamed, KeepsNamedBy, KeepsWindow, filter_within, rows_in-kept}
@@ -298,6 +301,14 @@ module _ (object : Object) (ids : Stamp) (range : Digits) where
   moved_kept aligned one =
       ap (flat_map (stand_in object ids keeps)) (rows_of_masters aligned one) ∙ rows-stand_in every_moment object ids keeps keeps (has_kept one)
 
+  -- their ids are the starts that are kept
+  pub ids_of_rows : Some ids ≡ ids_start object → length (masters object) ≤ 1 → map (λ (r : Row). r.id) (flat_map (rows_of_master object.zones range) (masters object)) ≡ keeps
+  ids_of_rows aligned one = ap (map (λ (r : Row). r.id)) (rows_of_masters aligned one) ∙ master_ids (masters object) one
+
+  pub rows_moved : (made moved : List Row) → Some ids ≡ ids_start object → length (masters object) ≤ 1 → made ≡ flat_map (rows_of_master object.zones range) (masters object) →
+      moved ≡ flat_map (stand_in object ids (map (λ (r : Row). r.id) made)) made → moved ≡ governed_rows object ids range
+  rows_moved made moved aligned one is from = from ∙ ap₂ (λ (all : List ℤ) (rs : List Row). flat_map (stand_in object ids all) rs) (ap (map (λ (r : Row). r.id)) is ∙ ids_of_rows aligned one) is
+
 -- they start between 1599 and 2102
 pub rows_near : (object : Object) (range : Digits) → IsReadObject object → All HasRowTimes (flat_map (rows_of_master object.zones range) (masters object))
 rows_near object range is =
@@ -316,6 +327,35 @@ rows_near object range is =
         (All-filter (starts_in object.zones s range) (λ r. HasRowTimes (instance_row object.zones s n.component n.number r)) (starts_of every_moment object.zones n.component)
         (All-weaker (IsStatedBy 172800) (λ r. HasRowTimes (instance_row object.zones s n.component n.number r)) (times object.zones s n) (starts_of every_moment object.zones n.component) stated)))
         (option_to_list (own_start n.component)))
+
+-- and so do those that are moved, since their digits are those of dates that are served
+module _ (object : Object) (ids : Stamp) (all : List ℤ) (short : All HasShortOffsets object.zones) where
+  moved_time : (row : Row) (g : Governor) → HasRowTimes row → are_served (moved_digits object.zones g row.id) ≡ true → HasRowTimes (moved_to object ids row.id g)
+  moved_time row g its served =
+      let digits = moved_digits object.zones g row.id in
+      let both = both_hold (int_le first_date digits) (int_le digits last_date) served in
+      let from : first_date ≤ℤ digits = grind (arith, ints, both.0) in
+      let to : digits ≤ℤ last_date = grind (arith, ints, both.1) in
+      let near = instant-near object.zones g.start digits short in
+      record { id = its.id; start = (omega (arith, ints, from, to, near), omega (arith, ints, from, to, near)) }
+
+  by_governors : (row : Row) → HasRowTimes row → (gs : List Governor) → All HasRowTimes (stand_in_by object ids row gs)
+  by_governors row its [] = All-cons HasRowTimes row [] its (All-nil HasRowTimes)
+  by_governors row its (g ∷ gs) =
+      moved_row-holds (All HasRowTimes) object ids row.id (greatest_id g gs) (All-nil HasRowTimes)
+      (λ served. All-cons HasRowTimes (moved_to object ids row.id (greatest_id g gs)) [] (moved_time row (greatest_id g gs) its served) (All-nil HasRowTimes))
+
+  stands_near : (row : Row) → HasRowTimes row → All HasRowTimes (stand_in object ids all row)
+  stands_near row its = elim (cases_Bool (is_named object ids row.id)) [
+    | inl w ↦ rw w (All-cons HasRowTimes row [] its (All-nil HasRowTimes))
+    | inr w ↦ rw w (by_governors row its (filter (λ (g : Governor). int_lt g.id row.id) (governors object ids all)))
+  ]
+
+pub governed_near : (object : Object) (ids : Stamp) (range : Digits) → IsReadObject object → All HasShortOffsets object.zones → All HasRowTimes (governed_rows object ids range)
+governed_near object ids range is short =
+    All-flat_map HasRowTimes (stand_in object ids (starts_within object ids range)) (flat_map (rows_of_master object.zones range) (masters object))
+    (All-weaker HasRowTimes (λ row. All HasRowTimes (stand_in object ids (starts_within object ids range) row)) (stands_near object ids (starts_within object ids range) short)
+    (flat_map (rows_of_master object.zones range) (masters object)) (rows_near object range is))
 
 -- The end of the range.
 
@@ -374,24 +414,17 @@ module _ (last : ℕ) where
       (midnight_by m last (All-head IsMidnight m (days_in names) midnights) (All-head IsCounted (number_of_day (int_div_euclid m (pos 86400))) (filter_map day_named names) numbers))
       (names_by names (All-tail IsMidnight m (days_in names) midnights) (All-tail IsCounted (number_of_day (int_div_euclid m (pos 86400))) (filter_map day_named names) numbers))
 
-  module _ (zones : List ZoneTable) (ids : Stamp) (window : ℤ) where
+  module _ (zones : List ZoneTable) (ids : Stamp) where
     abbrev names_of : Component → List Aligned
     names_of c = map (λ x. align zones x ids) (option_to_list c.recurrence_id)
 
-    needed_by : (c : Component) → All EndsBefore (id_days zones ids c) → All EndsBefore (days_needed zones ids window c)
-    needed_by c days = All-flat_map EndsBefore (days_of_start zones ids window c) (option_to_list (own_start c)) (All-everywhere (λ s. All EndsBefore (days_of_start zones ids window c s)) (λ s. if_there (same_int (window_at ((reading_of zones s).local (value_of zones s))) window)) (option_to_list (own_start c)))
-      where
-        if_there : (b : Bool) → All EndsBefore (if b then id_days zones ids c else [])
-        if_there true = days
-        if_there false = All-nil EndsBefore
-
-    all_needed : (cs : List Component) → All IsCounted (filter_map day_named (named_beside zones ids cs)) → All EndsBefore (flat_map (days_needed zones ids window) cs)
-    all_needed [] all = All-nil EndsBefore
-    all_needed (c ∷ cs) all =
+    all_named : (cs : List Component) → All IsCounted (filter_map day_named (named_beside zones ids cs)) → All EndsBefore (flat_map (id_days zones ids) cs)
+    all_named [] all = All-nil EndsBefore
+    all_named (c ∷ cs) all =
         let parts = subst (All IsCounted) (filter_map-append day_named (names_of c) (named_beside zones ids cs)) all in
         let here = names_by (names_of c) (midnights_of zones ids c.recurrence_id) (All-left IsCounted (filter_map day_named (names_of c)) (filter_map day_named (named_beside zones ids cs)) parts) in
-        All-append EndsBefore (days_needed zones ids window c) (flat_map (days_needed zones ids window) cs) (needed_by c here)
-        (all_needed cs (All-right IsCounted (filter_map day_named (names_of c)) (filter_map day_named (named_beside zones ids cs)) parts))
+        All-append EndsBefore (id_days zones ids c) (flat_map (id_days zones ids) cs) here
+        (all_named cs (All-right IsCounted (filter_map day_named (names_of c)) (filter_map day_named (named_beside zones ids cs)) parts))
 
 -- the names of the overrides are those of the components
 named_one : (zones : List ZoneTable) (ids : Stamp) (number : ℕ) (c : Component) (cs : List Component) (id : Option Stamp) → c.recurrence_id ≡ id →
@@ -408,7 +441,7 @@ greatest_below ns last le = All-weaker (λ k. k ≤ greatest ns) (λ k. k ≤ la
 
 -- what is needed of a window ends by the last day that it may cost
 pub ends_by_last : (object : Object) (ids : Stamp) (window : ℤ) (range : Digits) → Some ids ≡ ids_start object →
-    ((z : ℤ) → ((window +ℤ pos 1) *ℤ window_seconds) ≤ℤ z → All (λ midnight. (midnight +ℤ pos 86400) ≤ℤ z) (flat_map (days_needed object.zones ids window) object.components) →
+    ((z : ℤ) → ((window +ℤ pos 1) *ℤ window_seconds) ≤ℤ z → All (λ midnight. (midnight +ℤ pos 86400) ≤ℤ z) (flat_map (id_days object.zones ids) object.components) →
     All (λ g. (((window +ℤ pos 1) *ℤ window_seconds +ℤ pos (86400 * days_apart object)) -ℤ move_of object.zones g) ≤ℤ z) (governors object ids (starts every_moment object)) → range.high ≤ℤ z) →
     EndsBy range (last_day every_moment object window)
 ends_by_last object ids window range aligned least =
@@ -419,7 +452,7 @@ ends_by_last object ids window range aligned least =
     let counted : greatest days ≤ last = omega (arith, same, within) in
     let named : All (λ k. k ≤ last) (filter_map day_named (named_beside object.zones ids object.components)) =
     subst (λ (names : List Aligned). All (λ k. k ≤ last) (filter_map day_named names)) (named_all object.zones ids 0 object.components) (greatest_below days last counted) in
-    least (seconds_since_1970 (86400 * (last + 1))) (window_by window last (window_within object window)) (all_needed last object.zones ids window object.components named)
+    least (seconds_since_1970 (86400 * (last + 1))) (window_by window last (window_within object window)) (all_named last object.zones ids object.components named)
     (All-weaker (λ g. last_of_window window + (days_apart object + days_earlier (move_of object.zones g)) ≤ last) (λ g. (((window +ℤ pos 1) *ℤ window_seconds +ℤ pos (86400 * days_apart object)) -ℤ move_of object.zones g) ≤ℤ seconds_since_1970 (86400 * (last + 1)))
     (λ g le. let by = moved-by_last (21600 * days_apart object) (days_apart object) (move_of object.zones g) window last (omega arith) le in omega (arith, ints, by)) (governors object ids (starts every_moment object)) (moved_within object ids window aligned))
 

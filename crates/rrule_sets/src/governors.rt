@@ -1,12 +1,12 @@
 //! Overrides that move all later instances, and the rows of the starts that they govern (RFC 5545,
 //! 3.2.13 and 3.8.4.4).
-ghost use Rattle.std.specs.Prelude.{◌≡◌, ◌<◌, ◌^◌, ◌∷◌, ◌++◌, [], length, map, flat_map, option_to_list, All, AllPairs, IfOk, IfSome, OnOk, MatchOption, ℤ, pos, neg_ℤ};
+ghost use Rattle.std.specs.Prelude.{◌≡◌, ℕ, ◌<◌, ◌^◌, ◌∷◌, ◌++◌, [], length, map, flat_map, option_to_list, All, AllPairs, IfOk, IfSome, OnOk, MatchOption, ℤ, pos, neg_ℤ};
 ghost use Rattle.std.specs.List.{list_any};
 ghost use Rattle.cal_moment.specs.Calendar.{IsBetween};
 ghost use Rattle.cal_model.specs.declared.object.Component.{Component};
 ghost use Rattle.cal_model.specs.declared.row.Row.{Row};
 ghost use Rattle.cal_model.specs.Instances.Alignment as alignment;
-ghost use Rattle.cal_model.specs.Instances.Rows as rows;
+ghost use Rattle.cal_model.specs.Instances.Rows as defined;
 ghost use Rattle.cal_model.proofs.Instances.KeptStarts.{stand_in};
 ghost use Rattle.cal_model.proofs.Instances.RisingLists.{IsBelow};
 ghost use Rattle.override_merge.specs.AlignedStamps.{aligned_by, HasDigits};
@@ -119,6 +119,16 @@ fn governor_of(
     Some(governor_at(zones, component, number, stamp, id))
 }
 
+/// Puts an override, where there is one, behind others.
+fn put_governor(governor: Option<Governor>, out: &mut List<Governor>) -> Result<(), NoMemory>
+    ensures { OnOk result (out.new ≡ out.old ++ option_to_list governor) }
+{
+    match governor {
+        Some(governor) => out.push(governor),
+        None => Ok(()),
+    }
+}
+
 /// Puts the overrides that move later instances behind others, as they stand.
 fn put_governors(
     zones: &[LocalTimes<'_>],
@@ -139,9 +149,7 @@ fn put_governors(
     let mut rest = components;
     let mut number = 0u32;
     'overrides: while let Some((component, behind)) = rest.split_first() {
-        if let Some(governor) = governor_of(zones, ids, days, component, number) {
-            out.push(governor)?;
-        }
+        put_governor(governor_of(zones, ids, days, component, number), out)?;
         if !behind.is_empty() {
             number += 1;
         }
@@ -154,6 +162,7 @@ fn put_governors(
 fn put_by_id(governors: List<Governor>) -> Result<List<Governor>, NoMemory>
     ensures rising { IfOk result (λ sorted. AllPairs HasNoGreaterId sorted) }
     ensures kept { IfOk result (λ sorted. (id : ℤ) → spec.with_id id sorted ≡ spec.with_id id governors) }
+    ensures movable { IfOk result (λ sorted. (zones : ℕ) → All (IsMovable zones) governors → All (IsMovable zones) sorted) }
 {
     let mut items = governors.into_vec();
     match items.sort_by_key(|governor| governor.id) {
@@ -208,7 +217,7 @@ pub fn moved_digits(zones: &[LocalTimes<'_>], governor: Governor, start: i64) ->
 
 /// Whether digits are those of dates that are served.
 pub fn are_served(digits: i64) -> bool
-    ensures { result ≡ rows.are_served digits }
+    ensures { result ≡ defined.are_served digits }
 {
     FIRST_DATE <= digits && digits <= LAST_DATE
 }
@@ -282,6 +291,16 @@ fn governed(
     }
 }
 
+/// Puts a row, where there is one, behind others.
+fn put_row(row: Option<Row>, out: &mut List<Row>) -> Result<(), NoMemory>
+    ensures { OnOk result (out.new ≡ out.old ++ option_to_list row) }
+{
+    match row {
+        Some(row) => out.push(row),
+        None => Ok(()),
+    }
+}
+
 /// Puts what stands for the rows of a master behind other rows.
 fn put_governed(
     zones: &[LocalTimes<'_>],
@@ -301,9 +320,7 @@ fn put_governed(
 {
     let mut rest = rows;
     'rows: while let Some((row, behind)) = rest.split_first() {
-        if let Some(row) = governed(zones, ids, names, governors, row) {
-            out.push(row)?;
-        }
+        put_row(governed(zones, ids, names, governors, row), out)?;
         rest = behind;
     }
     Ok(())
@@ -321,7 +338,7 @@ fn governors_beside(
     requires zones { tables_of zones.now ≡ object.now.zones }
     requires ids { HasZone (length zones.now) ids }
     requires near { All HasRowTimes rows.now }
-    ensures held { IfOk result (HoldsGovernors object.now.zones (rows.governors object.now ids (map (λ (r : Row). r.id) rows.now))) }
+    ensures held { IfOk result (HoldsGovernors object.now.zones (defined.governors object.now ids (map (λ (r : Row). r.id) rows.now))) }
     ensures movable { IfOk result (λ governors. All (IsMovable (length zones.now)) governors) }
 {
     let days = day_starts(alloc, zones, ids, rows)?;

@@ -6,7 +6,7 @@ ghost use Rattle.cal_model.specs.Ranges.Cost.{cost};
 ghost use Rattle.override_merge.specs.Conversions.{tables_of};
 ghost use Rattle.rrule_sets.specs.AskedStarts.{IsExpandable};
 ghost use Rattle.rrule_sets.specs.ExpandableObjects.{HasRowsToFind};
-ghost use Rattle.rrule_sets.specs.MasterRows.{masters_from, rows_of_master, masters_cost};
+ghost use Rattle.rrule_sets.specs.MasterRows.{governed_rows, masters_cost, masters_from, rows_of_master};
 ghost use Rattle.rrule_sets.specs.NeededDigits.{EndsBy};
 
 use crate::governors::moved_rows;
@@ -68,6 +68,27 @@ pub fn master_rows<R: Rules, L: Ledger>(
     instances(alloc, body, zones, stamp, component, number, range, steps)
 }
 
+/// The rows of the master that start in a range, with those moved that overrides govern. The range has to
+/// hold each local day that an override names which moves later instances.
+pub fn governed_rows<L: Ledger>(
+    alloc: Global,
+    zones: &[LocalTimes<'_>],
+    ids: Stamp,
+    object: &Object,
+    range: Digits,
+    steps: &mut Steps<L>,
+) -> Result<List<Row>, NoMemory>
+    requires object { HasRowsToFind object.now }
+    requires zones { tables_of zones.now ≡ object.now.zones }
+    requires ids { Some ids ≡ spec.ids_start object.now }
+    ensures steps { (day : ℕ) → EndsBy range day → steps.new ≤ steps.old + masters_cost day (masters_from 0 object.now.components) }
+    ensures rows { IfOk result (λ rows. rows ≡ governed_rows object.now ids range) }
+{
+    let components = object.components.as_slice();
+    let rows = master_rows(alloc, &PeriodStep, zones, components, range, steps)?;
+    moved_rows(alloc, zones, ids, object, rows)
+}
+
 /// The rows of a window of an object that may have overrides.
 fn rows_with_overrides<L: Ledger>(
     alloc: Global,
@@ -85,8 +106,7 @@ fn rows_with_overrides<L: Ledger>(
 {
     let components = object.components.as_slice();
     let range = needed(zones, ids, components, window, steps);
-    let rows = master_rows(alloc, &PeriodStep, zones, components, range, steps)?;
-    let rows = moved_rows(alloc, zones, ids, object, rows)?;
+    let rows = governed_rows(alloc, zones, ids, object, range, steps)?;
     merged_rows(
         alloc,
         zones,

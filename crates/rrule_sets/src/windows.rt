@@ -6,17 +6,16 @@ ghost use Rattle.cal_model.specs.Objects.ObjectFacts.{IsRead};
 ghost use Rattle.cal_model.specs.Ranges.Cost.{cost};
 ghost use Rattle.override_merge.specs.Conversions.{tables_of, HasZone, HasConvertibleRow, HasConvertibleRows, HasRowTimes};
 ghost use Rattle.rrule_sets.specs.ExpandableObjects.{HasRowsToFind};
-ghost use Rattle.rrule_sets.specs.MasterRows.{rows_of_master};
+ghost use Rattle.rrule_sets.specs.MasterRows.{governed_rows};
 ghost use Rattle.rrule_sets.specs.NearRows.{HasLesserId, LiesWhereInner};
 ghost use Rattle.rrule_sets.specs.NeededDigits.{HasRange};
 ghost use Rattle.rrule_sets.specs.SeveralWindows.{HasNeeded, looks_of};
 
-use crate::governors::moved_rows;
 use crate::near::{near_rows, rows_before, rows_from};
 use crate::needed::{joined, needed};
 use crate::once::{only_row, row_in_windows};
 use crate::range::Digits;
-use crate::window::{master_rows, rows_beside};
+use crate::window::{governed_rows, rows_beside};
 use cal_base::{List, NoMemory, Steps};
 use cal_model::{Component, LocalTimes, Object, Row};
 use cal_moment::Stamp;
@@ -24,7 +23,6 @@ use override_merge::rows::Part;
 use override_merge::starts::ids_start;
 use override_merge::zones::local_times;
 use override_merge::{has_overrides, merged_rows, put_asked_rows};
-use rrule_step::PeriodStep;
 use std::alloc::Global;
 use std::sync::ledger::Ledger;
 
@@ -82,7 +80,7 @@ fn joined_with(first: Digits, each: &[Needed]) -> Digits
 }
 
 /// Puts the rows of a window of an object that may have overrides behind others, given the rows of the
-/// master in a range that has what the window needs.
+/// master, with those moved that overrides govern, in a range that has what the window needs.
 fn put_with_overrides(
     alloc: Global,
     zones: &[LocalTimes<'_>],
@@ -96,7 +94,7 @@ fn put_with_overrides(
     requires object { HasRowsToFind object.now }
     requires zones { tables_of zones.now ≡ object.now.zones }
     requires ids { Some ids ≡ spec.ids_start object.now }
-    requires rows { rows.now ≡ flat_map (rows_of_master object.now.zones range) (spec.masters object.now) }
+    requires rows { rows.now ≡ governed_rows object.now ids range }
     requires range { HasRange range needed.now.range }
     requires needed { HasNeeded object.now.zones ids object.now.components needed.now }
     ensures { OnOk result (out.new ≡ out.old ++ spec.rows_in object.now needed.now.window) }
@@ -148,8 +146,8 @@ fn put_near(
     put_asked_rows(zones, object, last, Part::Window(window), out)
 }
 
-/// Puts the rows of a window behind others, given the rows of the master in a range that has what the
-/// window needs. Without overrides they are those of the master that lie in it, as they stand.
+/// Puts the rows of a window behind others, given the rows of the master, with those moved that overrides
+/// govern, in a range that has what the window needs. Without overrides they are those of the master that lie in it, as they stand.
 fn put_window(
     alloc: Global,
     zones: &[LocalTimes<'_>],
@@ -163,7 +161,7 @@ fn put_window(
     requires object { HasRowsToFind object.now }
     requires zones { tables_of zones.now ≡ object.now.zones }
     requires ids { Some ids ≡ spec.ids_start object.now }
-    requires rows { rows.now ≡ flat_map (rows_of_master object.now.zones range) (spec.masters object.now) }
+    requires rows { rows.now ≡ governed_rows object.now ids range }
     requires range { HasRange range needed.now.range }
     requires needed { HasNeeded object.now.zones ids object.now.components needed.now }
     ensures { OnOk result (out.new ≡ out.old ++ spec.rows_in object.now needed.now.window) }
@@ -176,8 +174,8 @@ fn put_window(
     put_near(zones, object, needed.window, near, out)
 }
 
-/// The rows of several windows, given the rows of the master in a range that has what each of them
-/// needs.
+/// The rows of several windows, given the rows of the master, with those moved that overrides govern, in
+/// a range that has what each of them needs.
 fn rows_in_range(
     alloc: Global,
     zones: &[LocalTimes<'_>],
@@ -190,7 +188,7 @@ fn rows_in_range(
     requires object { HasRowsToFind object.now }
     requires zones { tables_of zones.now ≡ object.now.zones }
     requires ids { Some ids ≡ spec.ids_start object.now }
-    requires rows { rows.now ≡ flat_map (rows_of_master object.now.zones range) (spec.masters object.now) }
+    requires rows { rows.now ≡ governed_rows object.now ids range }
     requires range { All (λ (n : Needed). HasRange range n.range) each.now }
     requires needed { All (HasNeeded object.now.zones ids object.now.components) each.now }
     ensures { IfOk result (λ rows. rows ≡ flat_map (spec.rows_in object.now) (map (λ (n : Needed). n.window) each.now)) }
@@ -223,10 +221,8 @@ fn rows_of_needed<L: Ledger>(
     let Some((first, others)) = each.split_first() else {
         return Ok(List::new(alloc));
     };
-    let components = object.components.as_slice();
     let range = joined_with(first.range, others);
-    let rows = master_rows(alloc, &PeriodStep, zones, components, range, steps)?;
-    let rows = moved_rows(alloc, zones, ids, object, rows)?;
+    let rows = governed_rows(alloc, zones, ids, object, range, steps)?;
     rows_in_range(alloc, zones, ids, object, range, rows.as_slice(), each)
 }
 

@@ -3,7 +3,7 @@ use Rattle.std.proofs.lemmas.List.Elements.{All-head, All-tail}
 use Rattle.override_merge.specs.Conversions.{tables_of, HasConvertibleRow}
 use Rattle.rrule_sets.proofs.NeededLemmas.{needed_first, needed_more, needed_days, needed_steps}
 use Rattle.rrule_sets.specs.NeededDigits.{overrides_in}
-use Rattle.rrule_sets.proofs.needed.needed.Goals as goal
+use Rattle.rrule_sets.proofs.needed.with_own_days.Goals as goal
 
 pub overrides-init : goal.overrides-init
 overrides-init g c =

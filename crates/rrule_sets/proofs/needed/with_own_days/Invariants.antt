@@ -3,7 +3,7 @@ use Rattle.std.specs.Prelude.{All}
 use Rattle.override_merge.specs.Conversions.{tables_of, HasConvertibleRow}
 use Rattle.rrule_sets.specs.NeededDigits.{overrides_in}
 use Rattle.rrule_sets.proofs.NeededLemmas.{IsNeededSoFar}
-use Rattle.rrule_sets.proofs.needed.needed.Given as goal
+use Rattle.rrule_sets.proofs.needed.with_own_days.Given as goal
 
 -- what the range has so far, and the overrides among the components that are left
 abbrev pub invariant-overrides : goal.invariant-overrides

@@ -1,11 +1,13 @@
 use Rattle.std.proofs.Common.{◌≡◌, ◌∙◌, refl, sym, subst, rules, List, FitsSigned, w32, to_z-of_z}
-use Rattle.std.specs.Prelude.{IfOk, flat_map}
+use Rattle.std.specs.Prelude.{All, IfOk, flat_map}
 use Rattle.cal_model.specs.declared.row.Row.{Row}
 use Rattle.cal_model.specs.Instances.Rows.{masters}
 use Rattle.cal_model.specs.Ranges.Cost.{last_day}
+use Rattle.cal_model.specs.Ranges.Nearness.{HasShortOffsets}
 use Rattle.override_merge.proofs.MergeLemmas.{zones_count}
 use Rattle.rrule_sets.specs.MasterRows.{rows_of_master}
 use Rattle.rrule_sets.proofs.AloneLemmas.{alone_counted, alone_ends, alone_found}
+use Rattle.rrule_sets.proofs.DateStarts.{short_tables}
 use Rattle.rrule_sets.proofs.window.rows_beside.Goals as goal
 
 pub master_rows-requires-clause-components : goal.master_rows-requires-clause-components
@@ -39,5 +41,6 @@ returns-else-has_overrides-clause-rows g c =
     let high = simp to_z-of_z at c.window_digits-range.ensures.high in
     let alone = rw c.as_slice-components.ensures at (sym c.has_overrides.ensures ∙ c.if-has_overrides.false) in
     let made = rw (c.requires.zones, c.as_slice-components.ensures) at c.master_rows.ensures.rows in
-    let found = alone_found object c.args.ids c.args.window range c.requires.ids low high (flat_map (rows_of_master object.zones range) (masters object)) c.requires.object.read.one_master alone refl in
+    let short = subst (All HasShortOffsets) c.requires.zones (short_tables c.args.zones.now) in
+    let found = alone_found object c.args.ids c.args.window range c.requires.ids low high (flat_map (rows_of_master object.zones range) (masters object)) short c.requires.object.read.one_master alone refl in
     subst (λ (xs : List Row). IfOk c.master_rows.result (λ rows. rows ≡ xs)) found made

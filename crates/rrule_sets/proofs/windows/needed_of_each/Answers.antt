@@ -2,7 +2,7 @@ use Rattle.std.proofs.Common.{◌∙◌, [], ◌∷◌, map, rules, arith, FitsS
 use Rattle.std.proofs.lemmas.List.Elements.{All-append, All-cons, All-nil}
 use Rattle.override_merge.specs.Conversions.{tables_of}
 use Rattle.rrule_sets.specs.declared.windows.Needed.{Needed}
-use Rattle.rrule_sets.specs.SeveralWindows.{IsNeeded, looks_of}
+use Rattle.rrule_sets.specs.SeveralWindows.{HasNeeded, looks_of}
 use Rattle.rrule_sets.proofs.AskedLemmas.{counted_more}
 use Rattle.rrule_sets.proofs.SeveralLemmas.{map_pushed}
 use Rattle.rrule_sets.proofs.windows.needed_of_each.Goals as goal
@@ -17,12 +17,9 @@ windows-preserved g c =
     let counted = rw first at c.windows.invariant.counted in
     let step = c.tick.ensures in
     let looked = c.needed-range.ensures.steps in
-    let has = simp to_z-of_z at c.needed-range.ensures.window in
-    let days = simp to_z-of_z at c.needed-range.ensures.days in
-    let least = simp to_z-of_z at c.needed-range.ensures.least in
-    let is : IsNeeded (tables_of c.args.zones.now) c.args.ids c.args.components.now one = record { window = has; days = days; least = least } in
+    let is : HasNeeded (tables_of c.args.zones.now) c.args.ids c.args.components.now one = simp to_z-of_z at c.needed-range.ensures.needed in
     record {
       done = rw pushed (map_pushed (λ (n : Needed). n.window) c.windows.each one c.in-Some.behind.now ∙ (rw first at c.windows.invariant.done));
-      needed = rw pushed (All-append (IsNeeded (tables_of c.args.zones.now) c.args.ids c.args.components.now) c.windows.each (one ∷ []) c.windows.invariant.needed (All-cons (IsNeeded (tables_of c.args.zones.now) c.args.ids c.args.components.now) one [] is (All-nil _)));
+      needed = rw pushed (All-append (HasNeeded (tables_of c.args.zones.now) c.args.ids c.args.components.now) c.windows.each (one ∷ []) c.windows.invariant.needed (All-cons (HasNeeded (tables_of c.args.zones.now) c.args.ids c.args.components.now) one [] is (All-nil _)));
       counted = counted_more c.windows.steps c.needed-range.new.steps (looks_of c.args.components.now window) (map (looks_of c.args.components.now) c.in-Some.behind.now) _ (omega (arith, step, looked)) counted;
     }

@@ -2,14 +2,14 @@ use Rattle.std.proofs.lemmas.List.Elements.{All-head, All-tail}
 use Rattle.cal_model.specs.Instances.Rows.{rows_in}
 use Rattle.rrule_sets.specs.declared.windows.Needed.{Needed}
 use Rattle.rrule_sets.specs.NeededDigits.{HasRange}
-use Rattle.rrule_sets.specs.SeveralWindows.{IsNeeded}
+use Rattle.rrule_sets.specs.SeveralWindows.{HasNeeded}
 use Rattle.rrule_sets.proofs.AskedLemmas.{more}
 use Rattle.rrule_sets.proofs.windows.rows_in_range.Goals as goal
 
 pub put_window-requires-clause-needed : goal.put_window-requires-clause-needed
 put_window-requires-clause-needed c =
     let object = c.args.object.now in
-    All-head (IsNeeded object.zones c.args.ids object.components) c.in-Some.needed.now c.in-Some.behind.now (rw c.in-Some.ensures.cases.0 at c.windows.invariant.needed)
+    All-head (HasNeeded object.zones c.args.ids object.components) c.in-Some.needed.now c.in-Some.behind.now (rw c.in-Some.ensures.cases.0 at c.windows.invariant.needed)
 
 pub windows-preserved : goal.windows-preserved
 windows-preserved c =
@@ -20,5 +20,5 @@ windows-preserved c =
     record {
       made = rw put (more c.windows.out (rows_in object needed.window) _ _ (rw first at c.windows.invariant.made));
       range = All-tail (λ (n : Needed). HasRange c.args.range n.range) needed c.in-Some.behind.now (rw first at c.windows.invariant.range);
-      needed = All-tail (IsNeeded object.zones c.args.ids object.components) needed c.in-Some.behind.now (rw first at c.windows.invariant.needed);
+      needed = All-tail (HasNeeded object.zones c.args.ids object.components) needed c.in-Some.behind.now (rw first at c.windows.invariant.needed);
     }

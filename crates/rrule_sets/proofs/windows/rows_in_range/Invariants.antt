@@ -3,7 +3,7 @@ use Rattle.std.specs.Prelude.{All, flat_map}
 use Rattle.cal_model.specs.Instances.Rows.{rows_in}
 use Rattle.rrule_sets.specs.declared.windows.Needed.{Needed}
 use Rattle.rrule_sets.specs.NeededDigits.{HasRange}
-use Rattle.rrule_sets.specs.SeveralWindows.{IsNeeded}
+use Rattle.rrule_sets.specs.SeveralWindows.{HasNeeded}
 use Rattle.rrule_sets.proofs.windows.rows_in_range.Given as goal
 
 -- the rows so far, and those of the windows that are left
@@ -11,7 +11,7 @@ abbrev pub invariant-windows : goal.invariant-windows
 invariant-windows l = record {
   made : l.out ++ flat_map (rows_in l.object) (map (λ (n : Needed). n.window) l.rest) ≡ flat_map (rows_in l.object) (map (λ (n : Needed). n.window) l.each);
   range : All (λ (n : Needed). HasRange l.range n.range) l.rest;
-  needed : All (IsNeeded l.object.zones l.ids l.object.components) l.rest;
+  needed : All (HasNeeded l.object.zones l.ids l.object.components) l.rest;
 }
 
 abbrev pub decreases-windows : goal.decreases-windows

@@ -1,24 +1,18 @@
-use Rattle.std.proofs.Common.{◌∙◌, map, arith}
-use Rattle.std.proofs.lemmas.List.Elements.{All-cons}
-use Rattle.override_merge.proofs.MergeLemmas.{zones_count}
+use Rattle.std.proofs.Common.{◌∙◌, map, subst, arith}
+use Rattle.std.specs.Prelude.{All}
+use Rattle.std.proofs.lemmas.List.Elements.{All-cons, All-weaker}
+use Rattle.cal_model.specs.Ranges.Nearness.{HasShortOffsets}
 use Rattle.rrule_sets.specs.declared.windows.Needed.{Needed}
+use Rattle.rrule_sets.specs.MovedStarts.{offset_bound}
 use Rattle.rrule_sets.specs.NeededDigits.{HasRange}
+use Rattle.rrule_sets.specs.SeveralWindows.{HasNeeded, IsNeededFor}
+use Rattle.rrule_sets.proofs.DateStarts.{short_tables}
+use Rattle.rrule_sets.proofs.MovedLemmas.{needed-for}
 use Rattle.rrule_sets.proofs.SeveralLemmas.{looks_cost, one_walk_cost}
 use Rattle.rrule_sets.proofs.windows.rows_of_needed.Goals as goal
 
-pub master_rows-requires-clause-components : goal.master_rows-requires-clause-components
-master_rows-requires-clause-components g c =
-    let count = zones_count c.args.zones.now c.args.object.now.zones c.requires.zones in
-    rw (c.as_slice-components.ensures, count) c.requires.object.components
-
-pub master_rows-requires-clause-few : goal.master_rows-requires-clause-few
-master_rows-requires-clause-few g c = rw c.as_slice-components.ensures c.requires.object.rows.numbers
-
-pub master_rows-requires-clause-one : goal.master_rows-requires-clause-one
-master_rows-requires-clause-one g c = rw c.as_slice-components.ensures c.requires.object.read.one_master
-
 pub rows_in_range-requires-clause-rows : goal.rows_in_range-requires-clause-rows
-rows_in_range-requires-clause-rows g c = c.as_slice.ensures ∙ (rw (c.requires.zones, c.as_slice-components.ensures) at c.in_ok-rows.ensures.rows)
+rows_in_range-requires-clause-rows g c = c.as_slice.ensures ∙ c.in_ok-rows.ensures.rows
 
 pub rows_in_range-requires-clause-range : goal.rows_in_range-requires-clause-range
 rows_in_range-requires-clause-range g c =
@@ -31,9 +25,13 @@ returns-in_default-clause-steps g c = λ before looks. let less = looks_cost c.a
 pub returns-in_err-rows-clause-steps : goal.returns-in_err-rows-clause-steps
 returns-in_err-rows-clause-steps g c = λ before looks.
     let object = c.args.object.now in
-    one_walk_cost object c.args.ids c.args.each.now c.in-Some.first.now c.in-Some.others.now c.joined_with-range.result before c.args.steps.now c.master_rows.new.steps c.requires.ids c.in-Some.ensures.cases.0 c.requires.needed c.joined_with-range.ensures.least looks (rw c.as_slice-components.ensures at c.master_rows.ensures.steps)
+    let short = subst (All HasShortOffsets) c.requires.zones (short_tables c.args.zones.now) in
+    let needed = All-weaker (HasNeeded object.zones c.args.ids object.components) (IsNeededFor object c.args.ids (offset_bound object.zones)) (λ n is. needed-for object c.args.ids n c.requires.ids short is) c.args.each.now c.requires.needed in
+    one_walk_cost (offset_bound object.zones) object c.args.ids c.args.each.now c.in-Some.first.now c.in-Some.others.now c.joined_with-range.result before c.args.steps.now c.governed_rows.new.steps c.requires.ids c.in-Some.ensures.cases.0 needed c.joined_with-range.ensures.least looks c.governed_rows.ensures.steps
 
 pub returns-clause-steps : goal.returns-clause-steps
 returns-clause-steps g c = λ before looks.
     let object = c.args.object.now in
-    one_walk_cost object c.args.ids c.args.each.now c.in-Some.first.now c.in-Some.others.now c.joined_with-range.result before c.args.steps.now c.master_rows.new.steps c.requires.ids c.in-Some.ensures.cases.0 c.requires.needed c.joined_with-range.ensures.least looks (rw c.as_slice-components.ensures at c.master_rows.ensures.steps)
+    let short = subst (All HasShortOffsets) c.requires.zones (short_tables c.args.zones.now) in
+    let needed = All-weaker (HasNeeded object.zones c.args.ids object.components) (IsNeededFor object c.args.ids (offset_bound object.zones)) (λ n is. needed-for object c.args.ids n c.requires.ids short is) c.args.each.now c.requires.needed in
+    one_walk_cost (offset_bound object.zones) object c.args.ids c.args.each.now c.in-Some.first.now c.in-Some.others.now c.joined_with-range.result before c.args.steps.now c.governed_rows.new.steps c.requires.ids c.in-Some.ensures.cases.0 needed c.joined_with-range.ensures.least looks c.governed_rows.ensures.steps
