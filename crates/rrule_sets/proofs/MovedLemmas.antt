@@ -36,6 +36,7 @@ use Rattle.rrule_sets.specs.MovedStarts.{AreEnoughDays, EndsByMoved, EndsMovedBy
 use Rattle.rrule_sets.specs.NeededDigits.{HasDay, HasMoved, HasRange, HasWindow, days_needed, days_of_start, id_days}
 use Rattle.rrule_sets.specs.NeededRanges.{HasMovedOfAll, IsBehind, IsNeeded}
 use Rattle.rrule_sets.specs.SeveralWindows.{HasNeeded, IsNeededFor}
+use Rattle.rrule_sets.proofs.DateStarts.{near_instant, value_near}
 use Rattle.rrule_sets.proofs.GovernorLemmas.{governors_from-is}
 use Rattle.rrule_sets.proofs.HullLemmas.{beside-midnight, beside-on_day}
 use Rattle.rrule_sets.proofs.NeededLemmas.{EndsBefore, has_day, has_range}
@@ -105,8 +106,28 @@ offsets-below zones short = elim (cases_Bool (list_all has_common_offsets zones)
 pub some_offset : (zones : List ZoneTable) → 0 < offset_bound zones
 some_offset zones = elim (cases_Bool (list_all has_common_offsets zones)) [ inl w ↦ rw w (omega arith) | inr w ↦ rw w (omega arith) ]
 
-bound_at_most : (zones : List ZoneTable) → offset_bound zones ≤ 86400
+pub bound_at_most : (zones : List ZoneTable) → offset_bound zones ≤ 86400
 bound_at_most zones = elim (cases_Bool (list_all has_common_offsets zones)) [ inl w ↦ rw w (omega arith) | inr w ↦ rw w (omega arith) ]
+
+-- what a stamp says that can be converted can be moved
+module _ (zones : List ZoneTable) (short : All HasShortOffsets zones) where
+  of_time : (z : ℤ) → IsRowTime z → IsNearName (at z)
+  of_time z time = (omega (arith, ints, time), omega (arith, ints, time))
+
+  pub near_name : (x ids : Stamp) → IsRowTime (written_value x) → IsNearName (align zones x ids)
+  near_name x (Date d) time = let day = midnight_of-holds (written_value x) in (omega (arith, ints, day, time), omega (arith, ints, day, time))
+  near_name (Date d) (Floating l) time = time
+  near_name (Floating k) (Floating l) time = of_time (written_value (Floating k)) time
+  near_name (Zoned k n) (Floating l) time = of_time (written_value (Zoned k n)) time
+  near_name (Utc u) (Floating l) time = of_time u.0 time
+  near_name (Date d) (Zoned l n) time = time
+  near_name (Floating k) (Zoned l n) time = near_instant zones (Zoned l n) (written_value (Floating k)) short (omega (arith, ints, time), omega (arith, ints, time))
+  near_name (Zoned k m) (Zoned l n) time = value_near zones (Zoned k m) short time
+  near_name (Utc u) (Zoned l n) time = of_time u.0 time
+  near_name (Date d) (Utc v) time = time
+  near_name (Floating k) (Utc v) time = of_time (written_value (Floating k)) time
+  near_name (Zoned k m) (Utc v) time = value_near zones (Zoned k m) short time
+  near_name (Utc u) (Utc v) time = of_time u.0 time
 
 -- Days that are enough.
 
@@ -129,7 +150,7 @@ moments_one : (zones : List ZoneTable) (ids : Stamp) (number : ℕ) (c : Compone
 moments_one zones ids number c cs None later e f w = (λ future. rw e refl, rw e at w)
 moments_one zones ids number c cs (Some x) false e f w = (λ future. absurd cc, rw (e, f) at w)
 moments_one zones ids number c cs (Some x) true e f w =
-    let both = all_moments (align zones x ids ∷ []) (flat_map (named_by zones ids) (filter moves_later (filter has_id (numbered_from (number + 1) cs)))) (rw (e, f, e) at w) in
+    let both = all_moments (align zones x ids ∷ []) (flat_map (named_by zones ids) (filter moves_later (filter has_id (numbered_from (number + 1) cs)))) (rw (e, f) at w) in
     (λ future. rw e (named_moments (align zones x ids ∷ []) both.0), both.1)
 
 moments_from : (zones : List ZoneTable) (ids : Stamp) (number : ℕ) (cs : List Component) → list_all is_moment (flat_map (named_by zones ids) (filter moves_later (filter has_id (numbered_from number cs)))) ≡ true → All (NamesNoDay zones ids) cs

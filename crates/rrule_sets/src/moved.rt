@@ -1,6 +1,9 @@
 //! The digits whose starts an override may move into a window.
 ghost use Rattle.std.specs.Prelude.{◌≡◌, ◌*◌, length, option_to_list, pos, neg_ℤ, ◌+ℤ◌, ◌-ℤ◌, ◌*ℤ◌};
+ghost use Rattle.std.specs.List.{list_all};
 ghost use Rattle.cal_moment.specs.Calendar.{IsBetween};
+ghost use Rattle.cal_model.specs.declared.local_times.LocalTimes.{LocalTimes};
+ghost use Rattle.cal_model.specs.declared.zone.Onset.{Onset};
 ghost use Rattle.cal_model.specs.Instances.Alignment as alignment;
 ghost use Rattle.cal_model.specs.Instances.Rows.{window_seconds};
 ghost use Rattle.cal_model.specs.Ranges.Cost as cost;
@@ -8,15 +11,12 @@ ghost use Rattle.override_merge.specs.AlignedStamps.{aligned_by};
 ghost use Rattle.override_merge.specs.Conversions.{tables_of, HasConvertibleRow, HasZone, IsConvertible, IsRowTime};
 ghost use Rattle.rrule_sets.specs.MovedStarts.{EndsByMoved, HasMovedOf, IsMovedFrom, IsNearName, offset_bound};
 
-use crate::range::Digits;
-use cal_model::{Component, LocalTimes, ZoneTable};
+use crate::range::{Digits, window_digits};
+use cal_model::{Component, LocalTimes, Onset, ZoneTable};
 use cal_moment::Stamp;
 use override_merge::stamps::{Aligned, align, written_value};
 use override_merge::starts::own_start;
 use override_merge::zones::local_beside;
-
-/// 64 days, in seconds.
-const WINDOW: i64 = 5_529_600;
 
 const DAY: i64 = 86_400;
 
@@ -27,16 +27,25 @@ fn is_common(offset: i32) -> bool
     -64_800 < offset && offset < 64_800
 }
 
+/// Whether all offsets that begin at onsets are.
+fn are_common(onsets: &[Onset]) -> bool
+    ensures { result ≡ list_all (λ (onset : Onset). cost.is_common onset.offset) onsets.now }
+{
+    onsets.iter().all(|onset| is_common(onset.offset))
+}
+
 /// Whether the offsets of a zone are below 18 hours, as all places of the world have them.
 fn has_common_offsets(zone: &ZoneTable) -> bool
     ensures { result ≡ cost.has_common_offsets zone.now }
 {
-    is_common(zone.before)
-        && zone
-            .onsets
-            .as_slice()
-            .iter()
-            .all(|onset| is_common(onset.offset))
+    is_common(zone.before) && are_common(zone.onsets.as_slice())
+}
+
+/// Whether those of all zones are.
+fn have_common_offsets(zones: &[LocalTimes<'_>]) -> bool
+    ensures { result ≡ list_all (λ (times : LocalTimes). cost.has_common_offsets times.table.now) zones.now }
+{
+    zones.iter().all(|times| has_common_offsets(times.table))
 }
 
 /// How many seconds a start that a moment names can lie beside the window that its row is moved to:
@@ -44,7 +53,7 @@ fn has_common_offsets(zone: &ZoneTable) -> bool
 fn seconds_apart(zones: &[LocalTimes<'_>]) -> i64
     ensures { result ≡ pos (4 * offset_bound (tables_of zones.now)) }
 {
-    if zones.iter().all(|times| has_common_offsets(times.table)) {
+    if have_common_offsets(zones) {
         3 * DAY
     } else {
         4 * DAY
@@ -59,9 +68,10 @@ fn moved_back(window: i32, moved: i64, before: i64, behind: i64) -> Digits
     ensures low { result.low ≡ (window *ℤ window_seconds -ℤ before) -ℤ moved }
     ensures high { result.high ≡ ((window +ℤ pos 1) *ℤ window_seconds +ℤ behind) -ℤ moved }
 {
+    let range = window_digits(window);
     Digits {
-        low: window as i64 * WINDOW - before - moved,
-        high: (window as i64 + 1) * WINDOW + behind - moved,
+        low: range.low - before - moved,
+        high: range.high + behind - moved,
     }
 }
 

@@ -11,7 +11,7 @@ ghost use Rattle.rrule_sets.specs.NeededRanges.{HasMovedOfAll, IsBehind, IsNeede
 
 use crate::governors::{day_of, day_of_mover, has_future};
 use crate::moved::moved_digits_of;
-use crate::range::Digits;
+use crate::range::{Digits, window_digits};
 use cal_base::Steps;
 use cal_model::{Component, LocalTimes};
 use cal_moment::Stamp;
@@ -24,17 +24,6 @@ use std::sync::ledger::Ledger;
 const WINDOW: i64 = 5_529_600;
 
 const DAY: i64 = 86_400;
-
-/// The digits of a window of 64 days, counted from 1970.
-pub fn window_digits(window: i32) -> Digits
-    ensures low { result.low ≡ window *ℤ window_seconds }
-    ensures high { result.high ≡ (window +ℤ pos 1) *ℤ window_seconds }
-{
-    Digits {
-        low: window as i64 * WINDOW,
-        high: (window as i64 + 1) * WINDOW,
-    }
-}
 
 /// Whether a component that starts at a stamp starts in a window.
 fn starts_in_window(zones: &[LocalTimes<'_>], stamp: Stamp, window: i32) -> bool

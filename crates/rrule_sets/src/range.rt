@@ -1,5 +1,6 @@
 //! Ranges of local digits.
-ghost use Rattle.std.specs.Prelude.{◌≡◌, ℕ, ◌*◌, ◌<◌, ◌≤◌, ◌<ℤ◌, ◌≤ℤ◌, pos, neg_ℤ, nat_le, nat_lt, int_le, int_lt};
+ghost use Rattle.std.specs.Prelude.{◌≡◌, ℕ, ◌*◌, ◌<◌, ◌≤◌, ◌<ℤ◌, ◌≤ℤ◌, pos, neg_ℤ, ◌+ℤ◌, ◌*ℤ◌, nat_le, nat_lt, int_le, int_lt};
+ghost use Rattle.cal_model.specs.Instances.Rows.{window_seconds};
 ghost use Rattle.cal_moment.specs.Calendar.{seconds_since_1970};
 ghost use Rattle.cal_model.specs.Recurrence.NextPassing.{IsWritten, end_day};
 ghost use Rattle.cal_model.specs.Recurrence.RecurrenceSet.{first_moment};
@@ -15,11 +16,25 @@ pub const FIRST_DIGITS: i64 = -62_135_596_800;
 
 const END_DIGITS: i64 = 4_165_516_800;
 
+/// 64 days, in seconds.
+const WINDOW: i64 = 5_529_600;
+
 /// Digits from `low` on and before `high`, in seconds since 1970.
 #[derive(Clone, Copy)]
 pub struct Digits {
     pub low: i64,
     pub high: i64,
+}
+
+/// The digits of a window of 64 days, counted from 1970.
+pub fn window_digits(window: i32) -> Digits
+    ensures low { result.low ≡ window *ℤ window_seconds }
+    ensures high { result.high ≡ (window +ℤ pos 1) *ℤ window_seconds }
+{
+    Digits {
+        low: window as i64 * WINDOW,
+        high: (window as i64 + 1) * WINDOW,
+    }
 }
 
 /// Whether digits lie in a range.

@@ -11,9 +11,9 @@ ghost use Rattle.rrule_sets.specs.NeededDigits.{EndsBy};
 
 use crate::governors::moved_rows;
 use crate::instances::instances;
-use crate::needed::{needed, window_digits};
+use crate::needed::needed;
 use crate::once::{only_row, row_in_windows};
-use crate::range::Digits;
+use crate::range::{Digits, window_digits};
 use cal_base::{List, NoMemory, Steps};
 use cal_model::{Component, LocalTimes, Object, Row, Rules};
 use cal_moment::Stamp;
