@@ -1,8 +1,11 @@
 use Rattle.std.proofs.Common.{◌≡◌, sym, subst, length, List}
-use Rattle.std.specs.Prelude.{All, IfOk}
+use Rattle.std.specs.Prelude.{All}
+use Rattle.std.proofs.lemmas.Result.{IfOk-weaker}
+use Rattle.cal_model.specs.declared.row.Row.{Row}
 use Rattle.override_merge.specs.Conversions.{HasRowTimes}
 use Rattle.override_merge.proofs.MergeLemmas.{zones_count}
 use Rattle.override_merge.proofs.StampLemmas.{ids_convertible}
+use Rattle.rrule_sets.specs.MasterRows.{governed_rows}
 use Rattle.rrule_sets.proofs.WindowLemmas.{rows_moved, rows_near}
 use Rattle.rrule_sets.proofs.window.governed_rows.Goals as goal
 
@@ -29,4 +32,8 @@ moved_rows-requires-clause-near g c =
     subst (All HasRowTimes) (sym made) (rows_near c.args.object.now c.args.range c.requires.object.read)
 
 pub returns-clause-rows : goal.returns-clause-rows
-returns-clause-rows g c = ?
+returns-clause-rows g c =
+    let object = c.args.object.now in
+    let made = rw (c.requires.zones, c.as_slice-components.ensures) at c.in_ok-rows.ensures.rows in
+    IfOk-weaker c.moved_rows.result _ (λ (rows : List Row). rows ≡ governed_rows object c.args.ids c.args.range)
+    (λ rows is. rows_moved object c.args.ids c.args.range c.in_ok-rows.rows rows c.requires.ids c.requires.object.read.one_master made is) c.moved_rows.ensures

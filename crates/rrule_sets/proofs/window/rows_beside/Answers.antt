@@ -4,6 +4,7 @@ use Rattle.cal_model.specs.declared.row.Row.{Row}
 use Rattle.cal_model.specs.Instances.Rows.{masters}
 use Rattle.cal_model.specs.Ranges.Cost.{last_day}
 use Rattle.cal_model.specs.Ranges.Nearness.{HasShortOffsets}
+use Rattle.cal_model.specs.Recurrence.RecurrenceSet.{every_moment}
 use Rattle.override_merge.proofs.MergeLemmas.{zones_count}
 use Rattle.rrule_sets.specs.MasterRows.{rows_of_master}
 use Rattle.rrule_sets.proofs.AloneLemmas.{alone_counted, alone_ends, alone_found}

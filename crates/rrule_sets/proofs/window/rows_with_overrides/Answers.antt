@@ -3,6 +3,7 @@ use Rattle.std.specs.Prelude.{All, IfOk}
 use Rattle.cal_model.specs.declared.row.Row.{Row}
 use Rattle.cal_model.specs.Ranges.Cost.{last_day}
 use Rattle.cal_model.specs.Ranges.Nearness.{HasShortOffsets}
+use Rattle.cal_model.specs.Recurrence.RecurrenceSet.{every_moment}
 use Rattle.override_merge.specs.Conversions.{HasRowTimes}
 use Rattle.override_merge.proofs.MergeLemmas.{zones_count}
 use Rattle.override_merge.proofs.StampLemmas.{ids_convertible}
