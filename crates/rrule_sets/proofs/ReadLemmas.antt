@@ -3,7 +3,7 @@ use Rattle.std.proofs.Common.{◌≡◌, ℕ, ◌<◌, ◌^◌, List, [], ◌∷
 use Rattle.std.specs.Prelude.{All, filter_map, flat_map, option_to_list, Option, Some, None, option_map, unwrap_or, codes, if◌then◌else◌}
 use Rattle.std.specs.List.{AllByRecursion as Each, list_any}
 use Rattle.std.proofs.lemmas.Bool.{cases_Bool}
-use Rattle.std.proofs.lemmas.List.Elements.{All-from_recursion, All-head, All-tail, All-nil, All-cons}
+use Rattle.std.proofs.lemmas.List.Elements.{All-from_recursion, All-head, All-map, All-tail, All-nil, All-cons, All-weaker}
 use Rattle.std.proofs.lemmas.Option.{none-some}
 use Rattle.cal_base.specs.Lines.ContentLines.{placed_lines}
 use Rattle.cal_base.specs.Lines.ComponentTrees.{or_else}
@@ -17,7 +17,9 @@ use Rattle.cal_model.specs.declared.object.Component.{Component}
 use Rattle.cal_model.specs.declared.object.Object.{Object}
 use Rattle.cal_model.specs.declared.rule.Rule.{Rule}
 use Rattle.cal_model.specs.Instances.Starts.{has_fine_rule}
+use Rattle.cal_model.specs.Instances.Rows.{ids_start}
 use Rattle.cal_model.specs.Objects.ComponentLines.{all_of, lines_of}
+use Rattle.cal_model.specs.Objects.ObjectReading.{object_in, settled_component}
 use Rattle.cal_model.specs.Objects.LineValues.{is_of_periods, periods_in, periods_at}
 use Rattle.cal_model.specs.Objects.ObjectFacts.{IsRead, IsReadComponent, IsServed, HasShortEnd, stamps_of_extent}
 use Rattle.cal_model.specs.Objects.ObjectFaults.{Child, children_in, kinds_among, component_of_child, stamps_of_end, stamps_of_period}
@@ -108,8 +110,12 @@ all_untested (x ∷ xs) = (tt, all_untested xs)
 signed_periods : (object : Object) → IsRead object → All HasSignedPeriods object.components
 signed_periods object read =
     let found = read_from every_moment read.octets object read.reading in
+    let said = object_in every_moment (placed_lines read.octets) found.0 in
     let P : Object → Type 0 = λ o. All HasSignedPeriods o.components in
-    subst P (sym found.1.is) (of_children (zone_names (zones_of every_moment found.0)) (kinds_among (children_in (placed_lines read.octets) found.0)))
+    subst P (sym found.1.is)
+    (All-map HasSignedPeriods (settled_component (ids_start said)) said.components
+    (All-weaker HasSignedPeriods (λ c. HasSignedPeriods (settled_component (ids_start said) c)) (λ c has. has) said.components
+    (of_children (zone_names (zones_of every_moment found.0)) (kinds_among (children_in (placed_lines read.octets) found.0)))))
   where
     of_children : (names : List (List ℕ)) (children : List Child) → All HasSignedPeriods (filter_map (component_of_child names) children)
     of_children names children =
