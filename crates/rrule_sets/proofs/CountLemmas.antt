@@ -1,19 +1,22 @@
 -- Starts that are counted: sorted, each once, they are as many as the master's rows, and more of them are never fewer.
 use Rattle.std.proofs.Common.{◌≡◌, ℕ, ◌*◌, ◌<◌, ◌≤◌, List, [], ◌∷◌, ◌++◌, length, map, refl, sym, ap, ap₂, subst, ◌∙◌, arith, Bool, true, false, ℤ, ◌<ℤ◌, inl, inr, ◌⊎◌}
-use Rattle.std.specs.Prelude.{All, AllPairs, Contains, filter, flat_map, not, nat_le, nat_lt, ◌||◌, ◌&&◌, Option, Some, if◌then◌else◌}
+use Rattle.std.specs.Prelude.{All, AllPairs, Contains, filter, flat_map, int_lt, not, nat_le, nat_lt, option_to_list, ◌||◌, ◌&&◌, Option, Some, if◌then◌else◌}
 use Rattle.std.specs.List.{list_any}
 use Rattle.std.proofs.lemmas.Int.{ints}
 use Rattle.std.proofs.lemmas.Bool.{cases_Bool}
-use Rattle.std.proofs.lemmas.List.{append_assoc}
-use Rattle.std.proofs.lemmas.List.Elements.{All-contains, All-head, All-nil, All-tail, All-weaker, Contains-append_cases, Contains-append_left, Contains-append_right, filter-append}
+use Rattle.std.proofs.lemmas.List.{append-nil, append_assoc}
+use Rattle.std.proofs.lemmas.List.Elements.{All-contains, All-head, All-nil, All-tail, All-weaker, Contains-append_cases, Contains-append_left, Contains-append_right, filter-append, filter_agree}
 use Rattle.std.proofs.lemmas.List.Kept.{AllPairs-filter}
 use Rattle.cal_moment.specs.Calendar.{seconds_since_1970}
 use Rattle.cal_moment.specs.declared.stamp.Period.{Period}
 use Rattle.cal_moment.specs.declared.stamp.Stamp.{Stamp}
 use Rattle.cal_model.specs.declared.object.Component.{Component}
+use Rattle.cal_model.specs.declared.object.Object.{Object}
 use Rattle.cal_model.specs.declared.rule.Rule.{Rule}
 use Rattle.cal_model.specs.declared.zone.ZoneTable.{ZoneTable}
 use Rattle.cal_model.specs.Instances.Alignment.{Aligned, align, names_start, reading_of, value_of, written_moment}
+use Rattle.cal_model.specs.Instances.Rows.{Numbered, governors, masters, starts}
+use Rattle.cal_model.specs.Instances.Rows as rows
 use Rattle.cal_model.specs.Instances.Starts.{ascending, date_start, is_date, is_excepted, own_start, period_starts, plain_starts, recurring_starts, recurs, rule_starts, starts_from}
 use Rattle.cal_model.specs.Recurrence.NextPassing.{end_day}
 use Rattle.cal_model.specs.Recurrence.RecurrenceSet.{Reading, every_moment, first_moment, later_moments}
@@ -24,11 +27,15 @@ use Rattle.cal_model.proofs.Recurrence.SetStretches.{later_moments-All}
 use Rattle.override_merge.specs.NamedStarts.{IsNamesOf, days_in, has_name, named_beside, values_in}
 use Rattle.override_merge.proofs.NameLemmas.{has_name-is}
 use Rattle.rrule_sets.specs.declared.count.Taken.{Taken}
-use Rattle.rrule_sets.specs.AskedStarts.{exceptions_of}
-use Rattle.rrule_sets.specs.CountedRows.{IsSearchable, all_later, dates_in, is_left, left_starts, periods_in, rules_in, unnamed_starts}
+use Rattle.rrule_sets.specs.AskedStarts.{IsExpandable, exceptions_of}
+use Rattle.rrule_sets.specs.CountedRows.{IsMasterOf, IsSearchable, IsTakenFrom, all_later, dates_in, is_moved_out, is_named_by, is_out, is_out_by, left_starts, master_starts, moves_out, other_starts, periods_in, rules_in, starts_of_master, unnamed_starts}
+use Rattle.rrule_sets.specs.HeldGovernors.{HasNoGreaterId, IsMovable, greatest_of, held}
+use Rattle.rrule_sets.specs.MasterRows.{masters_from}
 use Rattle.rrule_sets.proofs.DigitLemmas.{IsOfRules, every_moment-of_rules}
 use Rattle.rrule_sets.proofs.InstanceLemmas.{exceptions_are}
-use Rattle.rrule_sets.proofs.StartsInRange.{SameMembers, ascending-members, same_appended, same_ascending, same_members}
+use Rattle.rrule_sets.proofs.GovernorLemmas.{governing-is}
+use Rattle.rrule_sets.proofs.WindowLemmas.{expandable_master}
+use Rattle.rrule_sets.proofs.StartsInRange.{SameMembers, ascending-members, filter-ascending, same_appended, same_ascending, same_members}
 
 -- Rising lists.
 
@@ -133,6 +140,16 @@ or_not : (a b : Bool) → not a ≡ true → not b ≡ true → not (a || b) ≡
 or_not true b h k = absurd cc
 or_not false b h k = k
 
+filter_neither : (p q : ℤ → Bool) (xs : List ℤ) → filter (λ r. not (p r || q r)) xs ≡ filter (λ r. not (q r)) (filter (λ r. not (p r)) xs)
+filter_neither p q [] = refl
+filter_neither p q (x ∷ xs) = elim (cases_Bool (p x)) [
+  | inl w ↦ rw w (filter_neither p q xs)
+  | inr w ↦ elim (cases_Bool (q x)) [
+    | inl v ↦ rw (w, v) (filter_neither p q xs)
+    | inr v ↦ rw (w, v) (ap (λ rest. x ∷ rest) (filter_neither p q xs))
+  ]
+]
+
 module _ (zones : List ZoneTable) (s : Stamp) (c : Component) (value : recurs c ≡ true → value_of zones s ≡ (reading_of zones s).instant (seconds_since_1970 (written_moment s))) where
   abbrev all_plain : List Rule → List ℤ
   all_plain rules = flat_map (rule_starts every_moment zones s) rules
@@ -210,7 +227,11 @@ module _ (zones : List ZoneTable) (s : Stamp) (c : Component) (value : recurs c 
 
   module _ (components : List Component) (taken : Taken) (excepted_are : IsNamesOf (map (λ (x : Stamp). align zones x s) (exceptions_of c)) taken.excepted) (named_are : IsNamesOf (named_beside zones s components) taken.named) where
     abbrev left : ℤ → Bool
-    left r = is_left (reading_of zones s) taken r
+    left r = not (is_named_by zones s taken r)
+
+    -- those that no EXDATE and no override names, in order
+    abbrev unnamed_left : List ℤ
+    unnamed_left = ascending (filter left (other_starts zones s c) ++ filter left (flat_map (all_later zones s) (rules_in c)))
 
     abbrev is_kept : ℤ → Bool
     is_kept r = not (list_any (names_start (reading_of zones s) r) (named_beside zones s components))
@@ -250,22 +271,68 @@ module _ (zones : List ZoneTable) (s : Stamp) (c : Component) (value : recurs c 
         of_test true = refl
         of_test false = refl
 
-    -- what is left, in order, is what no override names
-    pub left_are : own_start c ≡ Some s → left_starts zones s c taken ≡ unnamed_starts zones s c components
-    left_are own = elim (cases_Bool (recurs c)) [
+    unnamed_are : own_start c ≡ Some s → unnamed_left ≡ unnamed_starts zones s c components
+    unnamed_are own = elim (cases_Bool (recurs c)) [
       | inl does ↦ (
-          let first : left_starts zones s c taken ≡ ascending (filter left others ++ filter left (all_rest c.rules)) =
+          let first : unnamed_left ≡ ascending (filter left others ++ filter left (all_rest c.rules)) =
           ap (λ (b : Bool). ascending (filter left (value_of zones s ∷ map (date_start zones s) (if b then c.dates else []) ++ map (λ (p : Period). date_start zones s p.start) (if b then c.periods else [])) ++ filter left (all_rest (if b then c.rules else [])))) does in
           let last : unnamed_starts zones s c components ≡ filter is_kept (recurring_starts every_moment zones s c) =
           ap (λ (start : Option Stamp). filter is_kept (starts_from every_moment zones c start)) own ∙ ap (λ (b : Bool). filter is_kept (if b then recurring_starts every_moment zones s c else value_of zones s ∷ [])) does in
           first ∙ (sym (left_recurring does) ∙ sym last))
       | inr does_not ↦ (
-          let first : left_starts zones s c taken ≡ ascending (filter left (value_of zones s ∷ []) ++ []) =
+          let first : unnamed_left ≡ ascending (filter left (value_of zones s ∷ []) ++ []) =
           ap (λ (b : Bool). ascending (filter left (value_of zones s ∷ map (date_start zones s) (if b then c.dates else []) ++ map (λ (p : Period). date_start zones s p.start) (if b then c.periods else [])) ++ filter left (all_rest (if b then c.rules else [])))) does_not in
           let last : unnamed_starts zones s c components ≡ filter is_kept (value_of zones s ∷ []) =
           ap (λ (start : Option Stamp). filter is_kept (starts_from every_moment zones c start)) own ∙ ap (λ (b : Bool). filter is_kept (if b then recurring_starts every_moment zones s c else value_of zones s ∷ [])) does_not in
           first ∙ (sym (one_left (value_of zones s) (left (value_of zones s)) does_not refl) ∙ sym last))
     ]
+
+    -- what is left, in order, is what no override names and none moves out
+    pub left_are : own_start c ≡ Some s → left_starts zones s c taken ≡ filter (λ r. not (is_out zones taken.governors r)) (unnamed_starts zones s c components)
+    left_are own =
+        let stays : ℤ → Bool = λ r. not (is_out zones taken.governors r) in
+        let xs = other_starts zones s c in
+        let ys = flat_map (all_later zones s) (rules_in c) in
+        let both = λ (zs : List ℤ). filter_neither (is_named_by zones s taken) (is_out zones taken.governors) zs in
+        ap₂ (λ (us vs : List ℤ). ascending (us ++ vs)) (both xs) (both ys)
+        ∙ (ap ascending (sym (filter-append stays (filter left xs) (filter left ys)))
+        ∙ (sym (filter-ascending stays (filter left xs ++ filter left ys))
+        ∙ ap (filter stays) (unnamed_are own)))
+
+-- Starts that are moved out, as a program finds them.
+
+moves_out_by : (object : Object) (r : ℤ) (gs : List rows.Governor) → is_out_by object.zones r (map (held object.zones) (greatest_of gs)) ≡ moves_out object r gs
+moves_out_by object r [] = refl
+moves_out_by object r (g ∷ gs) = refl
+
+-- the first component that is no override is the only one
+pub only_master : (object : Object) (c : Component) (number : ℕ) (rest : List Numbered) → length (masters object) ≤ 1 → masters_from 0 object.components ≡ record { number = number; component = c } ∷ rest → IsMasterOf object c
+only_master object c number [] one first = (number, first)
+only_master object c number (m ∷ ms) one first = absurd (let size = ap length first in omega (arith, one, size))
+
+-- the master of an object has what each component has
+pub master_expandable : (object : Object) (c : Component) → All (IsExpandable (length object.zones)) object.components → IsMasterOf object c → IsExpandable (length object.zones) c
+master_expandable object c all master = expandable_master (length object.zones) object.components (record { number = master.0; component = c }) [] all master.1
+
+-- what is left is counted
+pub left_counted : (object : Object) (s : Stamp) (c : Component) (taken : Taken) → IsMasterOf object c → own_start c ≡ Some s →
+    (recurs c ≡ true → value_of object.zones s ≡ (reading_of object.zones s).instant (seconds_since_1970 (written_moment s))) →
+    IsTakenFrom object s c taken → left_starts object.zones s c taken ≡ master_starts object
+left_counted object s c taken master own value is =
+    let zones = object.zones in
+    let unnamed = unnamed_starts zones s c object.components in
+    let counted = filter (λ r. not (is_moved_out object s r)) unnamed in
+    let out : (r : ℤ) → is_out zones taken.governors r ≡ is_moved_out object s r =
+    λ r. ap (is_out_by zones r) (governing-is zones (governors object s (starts every_moment object)) taken.governors is.held r)
+    ∙ moves_out_by object r (filter (λ (g : rows.Governor). int_lt g.id r) (governors object s (starts every_moment object))) in
+    let whole : master_starts object ≡ counted =
+    ap (flat_map (starts_of_master object)) master.1
+    ∙ (append-nil (starts_of_master object (record { number = master.0; component = c }))
+    ∙ (ap (λ (start : Option Stamp). flat_map (λ t. filter (λ r. not (is_moved_out object t r)) (unnamed_starts zones t c object.components)) (option_to_list start)) own
+    ∙ append-nil counted)) in
+    left_are zones s c value object.components taken is.excepted is.named own
+    ∙ (filter_agree (λ r. not (is_out zones taken.governors r)) (λ r. not (is_moved_out object s r)) (λ r. ap not (out r)) unnamed
+    ∙ sym whole)
 
 -- what a walk through all moments gives
 pub later_given : (zones : List ZoneTable) (s : Stamp) (rule : Rule) (start : ℕ) (reading : Reading) (ms : List ℕ) → start ≡ written_moment s → reading ≡ reading_of zones s →
@@ -308,13 +375,15 @@ periods_kept P c all = of_test (recurs c)
     of_test true = all
     of_test false = All-nil P
 
--- What searches ask of the names that take starts away.
-pub searchable : (taken : Taken) (xs ys : List Aligned) → IsNamesOf xs taken.excepted → IsNamesOf ys taken.named → IsSearchable taken
-searchable taken xs ys excepted named = record {
+-- What searches ask of what takes starts away.
+pub searchable : (zones : ℕ) (taken : Taken) (xs ys : List Aligned) → IsNamesOf xs taken.excepted → IsNamesOf ys taken.named → AllPairs HasNoGreaterId taken.governors → All (IsMovable zones) taken.governors → IsSearchable zones taken
+searchable zones taken xs ys excepted named rising movable = record {
   excepted_values = subst (AllPairs IsBelow) (sym excepted.values) (ascending-rising (values_in xs));
   excepted_days = subst (AllPairs IsBelow) (sym excepted.days) (ascending-rising (days_in xs));
   named_values = subst (AllPairs IsBelow) (sym named.values) (ascending-rising (values_in ys));
   named_days = subst (AllPairs IsBelow) (sym named.days) (ascending-rising (days_in ys));
+  rising = rising;
+  movable = movable;
 }
 
 -- the start itself, the dates and the periods, one after the other

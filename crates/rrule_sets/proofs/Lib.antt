@@ -4,6 +4,7 @@ pub mod DateStarts
 pub mod DigitLemmas
 pub mod EndLemmas
 pub mod InstanceLemmas
+pub mod NamedDays
 pub mod NearLemmas
 pub mod NearRowLemmas
 pub mod NeededLemmas

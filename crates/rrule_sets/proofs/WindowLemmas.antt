@@ -370,7 +370,7 @@ number_from day last le = let from = natural_from (day +ℤ pos epoch_day) in om
 window_by : (window : ℤ) (last : ℕ) → last_of_window window ≤ last → ((window +ℤ pos 1) *ℤ window_seconds) ≤ℤ seconds_since_1970 (86400 * (last + 1))
 window_by window last le = let by = number_from (window *ℤ pos 64 +ℤ pos 63) last le in omega (arith, ints, by)
 
-abbrev IsMidnight : ℤ → Type 0
+abbrev pub IsMidnight : ℤ → Type 0
 IsMidnight m = midnight_of m ≡ m
 
 midnight_by : (m : ℤ) (last : ℕ) → IsMidnight m → number_of_day (int_div_euclid m (pos 86400)) ≤ last → (m +ℤ pos 86400) ≤ℤ seconds_since_1970 (86400 * (last + 1))
@@ -394,7 +394,7 @@ aligned_midnight zones (Floating k) (Utc v) = All-nil IsMidnight
 aligned_midnight zones (Zoned k n) (Utc v) = All-nil IsMidnight
 aligned_midnight zones (Utc u) (Utc v) = All-nil IsMidnight
 
-midnights_of : (zones : List ZoneTable) (ids : Stamp) (id : Option Stamp) → All IsMidnight (days_in (map (λ x. align zones x ids) (option_to_list id)))
+pub midnights_of : (zones : List ZoneTable) (ids : Stamp) (id : Option Stamp) → All IsMidnight (days_in (map (λ x. align zones x ids) (option_to_list id)))
 midnights_of zones ids None = All-nil IsMidnight
 midnights_of zones ids (Some x) = aligned_midnight zones x ids
 

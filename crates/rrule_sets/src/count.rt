@@ -1,5 +1,5 @@
 //! The number of an object's rows.
-ghost use Rattle.std.specs.Prelude.{◌≡◌, ℕ, ◌+◌, ◌≤◌, ◌<◌, ◌^◌, ◌++◌, ◌∷◌, ◌||◌, Bool, List, [], length, count_by, false, All, AllPairs, IfOk, OnOk, MatchOption, Some, filter, flat_map, map, pos, neg_ℤ, ℤ};
+ghost use Rattle.std.specs.Prelude.{◌≡◌, ℕ, ◌+◌, ◌≤◌, ◌<◌, ◌^◌, ◌++◌, ◌∷◌, Bool, List, [], length, count_by, false, All, AllPairs, IfOk, OnOk, MatchOption, Some, filter, flat_map, map, take, pos, neg_ℤ, ℤ};
 ghost use Rattle.cal_moment.specs.Calendar.{IsBetween};
 ghost use Rattle.cal_moment.specs.declared.stamp.Period.{Period};
 ghost use Rattle.cal_moment.specs.declared.stamp.Stamp.{Stamp};
@@ -9,34 +9,38 @@ ghost use Rattle.cal_model.specs.Instances.Starts as spec;
 ghost use Rattle.cal_model.specs.Instances.Rows as rows;
 ghost use Rattle.cal_model.specs.Objects.ObjectFacts.{IsRead, IsServed};
 ghost use Rattle.cal_model.specs.Recurrence.NextPassing.{IsUsable, is_fine};
+ghost use Rattle.cal_model.specs.Recurrence.RecurrenceSet.{every_moment};
 ghost use Rattle.cal_model.specs.Walks.PickedRest.{IsPicks};
-ghost use Rattle.override_merge.specs.Conversions.{tables_of, HasConvertibleRow, HasZone, IsConvertible};
-ghost use Rattle.override_merge.specs.NamedStarts.{IsNamesOf, has_name, named_beside};
-ghost use Rattle.rrule_sets.specs.AskedStarts.{IsExpandable, exceptions_of};
-ghost use Rattle.rrule_sets.specs.CountedRows.{IsCountOf, IsSearchable, IsTrimmed, all_later, dates_in, has_own_row, is_left, left_starts, master_starts, other_starts, periods_in, rules_in, starts_of_walk, unnamed_starts};
+ghost use Rattle.override_merge.specs.Conversions.{tables_of, HasConvertibleRow, HasZone, IsConvertible, IsRowTime};
+ghost use Rattle.rrule_sets.specs.AskedStarts.{IsExpandable};
+ghost use Rattle.rrule_sets.specs.CountedRows.{IsCountOf, IsMasterOf, IsSearchable, IsTakenFrom, IsTrimmed, all_later, dates_in, first_row, has_own_row, is_left, is_out, is_taken, left_starts, master_starts, other_starts, periods_in, rules_in, starts_of_walk};
 ghost use Rattle.rrule_sets.specs.ExpandableObjects.{HasRowsToFind};
-ghost use Rattle.rrule_sets.specs.MasterRows.{masters_from};
+ghost use Rattle.rrule_sets.specs.HeldGovernors.{HasNoGreaterId, HoldsGovernors, IsMovable, days_of_movers};
 ghost use Rattle.rrule_sets.specs.PeriodSpans.{IsConvertiblePeriod};
 
 use crate::asked::date_start;
 use crate::ends::recurs;
-use crate::governors::{Governor, are_served, governing, governors, moved_digits, named_range};
+use crate::governors::{
+    Governor, are_served, day_of_mover, governing, governors_beside, has_future, moved_digits,
+};
 use crate::instances::{component_exceptions, instances};
 use crate::later::{clock_beside, start_moment};
+use crate::range::Digits;
 use crate::window::master_of;
 use cal_base::{List, NoMemory, Steps};
 use cal_model::walk::rule_walk::{END, FIRST, RuleWalk, begin_walk, next_moment};
-use cal_model::{Component, LocalTimes, Object, Rule};
+use cal_model::{Component, LocalTimes, Object, Row, Rule};
 use cal_moment::{Period, Stamp};
-use override_merge::days::{DayStart, day_starts};
 use override_merge::names::{Names, is_named, names_of_overrides, rising};
 use override_merge::stamps::value_of;
-use override_merge::starts::{ids_start, own_start};
+use override_merge::starts::own_start;
 use override_merge::zones::local_times;
 use rrule_step::PeriodStep;
 use std::alloc::Global;
 use std::marker::Brand;
 use std::sync::ledger::{Blank, Ledger};
+
+const DAY: i64 = 86_400;
 
 /// How many rows an object has, as far as a limit.
 pub enum Counted {
@@ -47,51 +51,40 @@ pub enum Counted {
     NoMemory,
 }
 
-/// What takes starts away from a master: its EXDATEs and the RECURRENCE-IDs of the overrides.
+/// What takes starts away from a master: its EXDATEs, the RECURRENCE-IDs of the overrides, and moves
+/// out of the dates that are served.
 #[derive(Drop)]
 struct Taken {
     excepted: Names,
     named: Names,
-    /// The overrides that move later instances: a start that one moves out of the dates that are
-    /// served has no row.
+    /// The overrides that move later instances, in the order of their ids.
     governors: List<Governor>,
 }
 
-/// Whether an EXDATE or an override names a start.
-fn is_taken(zones: &[LocalTimes<'_>], stamp: Stamp, taken: &Taken, start: i64) -> bool
-    requires stamp { HasZone (length zones.now) stamp }
-    requires taken { IsSearchable taken.now }
-    requires near { IsBetween (neg_ℤ (pos 180_000_000_000_000)) (pos 180_000_000_000_000) start }
-    ensures { result ≡ (has_name (alignment.reading_of (tables_of zones.now) stamp) start taken.now.excepted || has_name (alignment.reading_of (tables_of zones.now) stamp) start taken.now.named) }
+/// Whether an override that is held moves a start out of the dates that are served.
+fn is_moved_out(zones: &[LocalTimes<'_>], governors: &[Governor], start: i64) -> bool
+    requires rising { AllPairs HasNoGreaterId governors.now }
+    requires movable { All (IsMovable (length zones.now)) governors.now }
+    requires near { IsBetween (neg_ℤ (pos 1_200_000_000_000)) (pos 1_200_000_000_000) start }
+    ensures { result ≡ is_out (tables_of zones.now) governors.now start }
 {
-    is_named(zones, stamp, &taken.excepted, start)
-        || is_named(zones, stamp, &taken.named, start)
-        || is_moved_out(zones, taken.governors.as_slice(), start)
-}
-
-/// Whether an override moves a start out of the dates that are served.
-fn is_moved_out(zones: &[LocalTimes<'_>], governors: &[Governor], start: i64) -> bool {
     match governing(governors, start) {
         Some(governor) => !are_served(moved_digits(zones, governor, start)),
         None => false,
     }
 }
 
-/// The starts of the master, with their local days, on the days that overrides name which move later
-/// instances.
-fn days_named<L: Ledger>(
-    alloc: Global,
-    zones: &[LocalTimes<'_>],
-    stamp: Stamp,
-    component: &Component,
-    components: &[Component],
-    steps: &mut Steps<L>,
-) -> Result<List<DayStart>, NoMemory> {
-    let Some(range) = named_range(zones, stamp, components) else {
-        return Ok(List::new(alloc));
-    };
-    let rows = instances(alloc, &PeriodStep, zones, stamp, component, 0, range, steps)?;
-    day_starts(alloc, zones, stamp, rows.as_slice())
+/// Whether an EXDATE or an override names a start, or an override moves it out of the dates that are
+/// served.
+fn is_taken(zones: &[LocalTimes<'_>], stamp: Stamp, taken: &Taken, start: i64) -> bool
+    requires stamp { HasZone (length zones.now) stamp }
+    requires taken { IsSearchable (length zones.now) taken.now }
+    requires near { IsBetween (neg_ℤ (pos 1_200_000_000_000)) (pos 1_200_000_000_000) start }
+    ensures { result ≡ is_taken (tables_of zones.now) stamp taken.now start }
+{
+    is_named(zones, stamp, &taken.excepted, start)
+        || is_named(zones, stamp, &taken.named, start)
+        || is_moved_out(zones, taken.governors.as_slice(), start)
 }
 
 /// Puts a start behind the others, if nothing takes it away.
@@ -103,9 +96,9 @@ fn put_left(
     out: &mut List<i64>,
 ) -> Result<(), NoMemory>
     requires stamp { HasZone (length zones.now) stamp }
-    requires taken { IsSearchable taken.now }
+    requires taken { IsSearchable (length zones.now) taken.now }
     requires near { IsBetween (neg_ℤ (pos 1_200_000_000_000)) (pos 1_200_000_000_000) start }
-    ensures { OnOk result (out.new ≡ out.old ++ filter (is_left (alignment.reading_of (tables_of zones.now) stamp) taken.now) (start ∷ [])) }
+    ensures { OnOk result (out.new ≡ out.old ++ filter (is_left (tables_of zones.now) stamp taken.now) (start ∷ [])) }
 {
     if !is_taken(zones, stamp, taken, start) {
         out.push(start)?;
@@ -143,11 +136,11 @@ fn with_moments<L: Ledger>(
 ) -> Result<Option<List<i64>>, NoMemory>
     requires stamp { HasZone (length zones.now) stamp }
     requires served { IsServed stamp }
-    requires taken { IsSearchable taken.now }
+    requires taken { IsSearchable (length zones.now) taken.now }
     requires usable { IsUsable rule.now }
     requires coarse { is_fine rule.now.freq ≡ false }
     requires walk { (dated : Bool) → IsPicks rule.now (alignment.written_moment stamp) dated walk.old.picks }
-    ensures { IfOk result (IsTrimmed room (starts ++ filter (is_left (alignment.reading_of (tables_of zones.now) stamp) taken.now) (starts_of_walk (tables_of zones.now) stamp rule.now walk.old))) }
+    ensures { IfOk result (IsTrimmed room (starts ++ filter (is_left (tables_of zones.now) stamp taken.now) (starts_of_walk (tables_of zones.now) stamp rule.now walk.old))) }
 {
     let clock = clock_beside(zones, stamp);
     let start = start_moment(stamp);
@@ -178,10 +171,10 @@ fn with_rule<L: Ledger>(
 ) -> Result<Option<List<i64>>, NoMemory>
     requires stamp { HasZone (length zones.now) stamp }
     requires served { IsServed stamp }
-    requires taken { IsSearchable taken.now }
+    requires taken { IsSearchable (length zones.now) taken.now }
     requires usable { IsUsable rule.now }
     requires coarse { is_fine rule.now.freq ≡ false }
-    ensures { IfOk result (IsTrimmed room (starts ++ filter (is_left (alignment.reading_of (tables_of zones.now) stamp) taken.now) (all_later (tables_of zones.now) stamp rule.now))) }
+    ensures { IfOk result (IsTrimmed room (starts ++ filter (is_left (tables_of zones.now) stamp taken.now) (all_later (tables_of zones.now) stamp rule.now))) }
 {
     let mut walk = begin_walk(alloc, rule, start_moment(stamp), FIRST);
     with_moments(zones, stamp, taken, rule, room, starts, &mut walk, steps)
@@ -200,10 +193,10 @@ fn with_rules<L: Ledger>(
 ) -> Result<Option<List<i64>>, NoMemory>
     requires stamp { HasZone (length zones.now) stamp }
     requires served { All (λ (rule : Rule). IsServed stamp) rules.now }
-    requires taken { IsSearchable taken.now }
+    requires taken { IsSearchable (length zones.now) taken.now }
     requires usable { All IsUsable rules.now }
     requires coarse { All (λ (rule : Rule). is_fine rule.freq ≡ false) rules.now }
-    ensures { IfOk result (IsTrimmed room (starts ++ filter (is_left (alignment.reading_of (tables_of zones.now) stamp) taken.now) (flat_map (all_later (tables_of zones.now) stamp) rules.now))) }
+    ensures { IfOk result (IsTrimmed room (starts ++ filter (is_left (tables_of zones.now) stamp taken.now) (flat_map (all_later (tables_of zones.now) stamp) rules.now))) }
 {
     let mut starts = starts;
     let mut rest = rules;
@@ -226,9 +219,9 @@ fn put_left_dates(
     out: &mut List<i64>,
 ) -> Result<(), NoMemory>
     requires stamp { IsConvertible (length zones.now) stamp }
-    requires taken { IsSearchable taken.now }
+    requires taken { IsSearchable (length zones.now) taken.now }
     requires dates { All (IsConvertible (length zones.now)) dates.now }
-    ensures { OnOk result (out.new ≡ out.old ++ filter (is_left (alignment.reading_of (tables_of zones.now) stamp) taken.now) (map (spec.date_start (tables_of zones.now) stamp) dates.now)) }
+    ensures { OnOk result (out.new ≡ out.old ++ filter (is_left (tables_of zones.now) stamp taken.now) (map (spec.date_start (tables_of zones.now) stamp) dates.now)) }
 {
     let mut rest = dates;
     'dates: while let Some((date, behind)) = rest.split_first() {
@@ -247,9 +240,9 @@ fn put_left_periods(
     out: &mut List<i64>,
 ) -> Result<(), NoMemory>
     requires stamp { IsConvertible (length zones.now) stamp }
-    requires taken { IsSearchable taken.now }
+    requires taken { IsSearchable (length zones.now) taken.now }
     requires periods { All (IsConvertiblePeriod (length zones.now)) periods.now }
-    ensures { OnOk result (out.new ≡ out.old ++ filter (is_left (alignment.reading_of (tables_of zones.now) stamp) taken.now) (map (λ (period : Period). spec.date_start (tables_of zones.now) stamp period.start) periods.now)) }
+    ensures { OnOk result (out.new ≡ out.old ++ filter (is_left (tables_of zones.now) stamp taken.now) (map (λ (period : Period). spec.date_start (tables_of zones.now) stamp period.start) periods.now)) }
 {
     let mut rest = periods;
     'periods: while let Some((period, behind)) = rest.split_first() {
@@ -308,8 +301,8 @@ fn other_starts(
 ) -> Result<List<i64>, NoMemory>
     requires component { IsExpandable (length zones.now) component.now }
     requires stamp { IsConvertible (length zones.now) stamp }
-    requires taken { IsSearchable taken.now }
-    ensures { IfOk result (λ starts. starts ≡ filter (is_left (alignment.reading_of (tables_of zones.now) stamp) taken.now) (other_starts (tables_of zones.now) stamp component.now)) }
+    requires taken { IsSearchable (length zones.now) taken.now }
+    ensures { IfOk result (λ starts. starts ≡ filter (is_left (tables_of zones.now) stamp taken.now) (other_starts (tables_of zones.now) stamp component.now)) }
 {
     let mut starts = List::new(alloc);
     put_left(zones, stamp, taken, value_of(zones, stamp), &mut starts)?;
@@ -343,7 +336,7 @@ fn count_left<L: Ledger>(
 ) -> Result<Option<u32>, NoMemory>
     requires component { IsExpandable (length zones.now) component.now }
     requires own { spec.own_start component.now ≡ Some stamp }
-    requires taken { IsSearchable taken.now }
+    requires taken { IsSearchable (length zones.now) taken.now }
     ensures { IfOk result (λ r. MatchOption r (room < length (left_starts (tables_of zones.now) stamp component.now taken.now)) (λ n. (n ≡ length (left_starts (tables_of zones.now) stamp component.now taken.now)) × (n ≤ room))) }
 {
     let starts = other_starts(alloc, zones, stamp, component, taken)?;
@@ -377,25 +370,118 @@ fn own_rows(components: &[Component]) -> u32
     count
 }
 
-/// What takes starts away from the master of an object.
-fn taken_of<L: Ledger>(
+/// Puts the first row behind others, if there is one.
+fn put_first(rows: &[Row], out: &mut List<Row>) -> Result<(), NoMemory>
+    ensures { OnOk result (out.new ≡ out.old ++ take 1 rows.now) }
+{
+    match rows.first() {
+        Some(row) => out.push(*row),
+        None => Ok(()),
+    }
+}
+
+/// Puts the row of the first start of a component on a local day behind others, if there is one.
+fn put_first_on<L: Ledger>(
+    alloc: Global,
+    zones: &[LocalTimes<'_>],
+    stamp: Stamp,
+    component: &Component,
+    midnight: i64,
+    out: &mut List<Row>,
+    steps: &mut Steps<L>,
+) -> Result<(), NoMemory>
+    requires component { IsExpandable (length zones.now) component.now }
+    requires own { spec.own_start component.now ≡ Some stamp }
+    requires near { IsRowTime midnight }
+    ensures { OnOk result (out.new ≡ out.old ++ first_row (tables_of zones.now) stamp component.now midnight) }
+{
+    let range = Digits {
+        low: midnight,
+        high: midnight + DAY,
+    };
+    let rows = instances(
+        alloc,
+        &PeriodStep,
+        zones,
+        stamp,
+        component,
+        0,
+        range,
+        steps,
+    )?;
+    put_first(rows.as_slice(), out)
+}
+
+/// The row of the first start of a master on each local day that components name which move later
+/// instances. One day is walked after the other, so that no more than the rows of a day are kept.
+fn first_rows<L: Ledger>(
     alloc: Global,
     zones: &[LocalTimes<'_>],
     stamp: Stamp,
     component: &Component,
     components: &[Component],
     steps: &mut Steps<L>,
-) -> Result<Taken, NoMemory>
+) -> Result<List<Row>, NoMemory>
+    requires component { IsExpandable (length zones.now) component.now }
+    requires own { spec.own_start component.now ≡ Some stamp }
     requires stamp { HasZone (length zones.now) stamp }
-    requires except { All (IsConvertible (length zones.now)) component.now.except }
     requires components { All (HasConvertibleRow (length zones.now)) components.now }
-    ensures excepted { IfOk result (λ taken. IsNamesOf (map (λ (x : Stamp). alignment.align (tables_of zones.now) x stamp) (exceptions_of component.now)) taken.excepted) }
-    ensures named { IfOk result (λ taken. IsNamesOf (named_beside (tables_of zones.now) stamp components.now) taken.named) }
+    ensures { IfOk result (λ rows. rows ≡ flat_map (first_row (tables_of zones.now) stamp component.now) (days_of_movers (tables_of zones.now) stamp components.now)) }
 {
+    let mut firsts = List::new(alloc);
+    let mut rest = components;
+    'movers: while let Some((mover, behind)) = rest.split_first() {
+        if let Some(midnight) = day_of_mover(zones, stamp, mover) {
+            put_first_on(alloc, zones, stamp, component, midnight, &mut firsts, steps)?;
+        }
+        rest = behind;
+    }
+    Ok(firsts)
+}
+
+/// The overrides of an object that move later instances, beside all starts of its master.
+fn governors_of<L: Ledger>(
+    alloc: Global,
+    zones: &[LocalTimes<'_>],
+    stamp: Stamp,
+    component: &Component,
+    object: &Object,
+    steps: &mut Steps<L>,
+) -> Result<List<Governor>, NoMemory>
+    requires object { HasRowsToFind object.now }
+    requires zones { tables_of zones.now ≡ object.now.zones }
+    requires master { IsMasterOf object.now component.now }
+    requires own { spec.own_start component.now ≡ Some stamp }
+    ensures held { IfOk result (HoldsGovernors object.now.zones (rows.governors object.now stamp (rows.starts every_moment object.now))) }
+    ensures movable { IfOk result (All (IsMovable (length zones.now))) }
+{
+    let components = object.components.as_slice();
+    if !has_future(components) {
+        return Ok(List::new(alloc));
+    }
+    let firsts = first_rows(alloc, zones, stamp, component, components, steps)?;
+    governors_beside(alloc, zones, stamp, object, firsts.as_slice())
+}
+
+/// What takes starts away from the master of an object.
+fn taken_of<L: Ledger>(
+    alloc: Global,
+    zones: &[LocalTimes<'_>],
+    stamp: Stamp,
+    component: &Component,
+    object: &Object,
+    steps: &mut Steps<L>,
+) -> Result<Taken, NoMemory>
+    requires object { HasRowsToFind object.now }
+    requires zones { tables_of zones.now ≡ object.now.zones }
+    requires master { IsMasterOf object.now component.now }
+    requires own { spec.own_start component.now ≡ Some stamp }
+    ensures taken { IfOk result (IsTakenFrom object.now stamp component.now) }
+    ensures searchable { IfOk result (IsSearchable (length zones.now)) }
+{
+    let governors = governors_of(alloc, zones, stamp, component, object, steps)?;
     let excepted = component_exceptions(alloc, zones, stamp, component)?;
-    let named = names_of_overrides(alloc, zones, stamp, components)?;
-    let days = days_named(alloc, zones, stamp, component, components, steps)?;
-    let governors = governors(alloc, zones, stamp, days.as_slice(), components)?;
+    let named = names_of_overrides(alloc, zones, stamp, object.components.as_slice())?;
     Ok(Taken {
         excepted,
         named,
@@ -410,16 +496,17 @@ fn count_beside<L: Ledger>(
     zones: &[LocalTimes<'_>],
     stamp: Stamp,
     component: &Component,
-    components: &[Component],
+    object: &Object,
     room: u32,
     steps: &mut Steps<L>,
 ) -> Result<Option<u32>, NoMemory>
-    requires component { IsExpandable (length zones.now) component.now }
+    requires object { HasRowsToFind object.now }
+    requires zones { tables_of zones.now ≡ object.now.zones }
+    requires master { IsMasterOf object.now component.now }
     requires own { spec.own_start component.now ≡ Some stamp }
-    requires components { All (HasConvertibleRow (length zones.now)) components.now }
-    ensures { IfOk result (λ r. MatchOption r (room < length (unnamed_starts (tables_of zones.now) stamp component.now components.now)) (λ n. (n ≡ length (unnamed_starts (tables_of zones.now) stamp component.now components.now)) × (n ≤ room))) }
+    ensures { IfOk result (λ r. MatchOption r (room < length (master_starts object.now)) (λ n. (n ≡ length (master_starts object.now)) × (n ≤ room))) }
 {
-    let taken = taken_of(alloc, zones, stamp, component, components, steps)?;
+    let taken = taken_of(alloc, zones, stamp, component, object, steps)?;
     count_left(alloc, zones, stamp, component, &taken, room, steps)
 }
 
@@ -436,8 +523,7 @@ fn master_count<L: Ledger>(
     requires some { 0 < blank.parts }
     ensures { IfOk result (λ r. MatchOption r (room < length (master_starts object.now)) (λ n. (n ≡ length (master_starts object.now)) × (n ≤ room))) }
 {
-    let components = object.components.as_slice();
-    let Some((component, _)) = master_of(components) else {
+    let Some((component, _)) = master_of(object.components.as_slice()) else {
         return Ok(Some(0));
     };
     let Some(stamp) = own_start(component) else {
@@ -450,15 +536,15 @@ fn master_count<L: Ledger>(
         zones.as_slice(),
         stamp,
         component,
-        components,
+        object,
         room,
         &mut steps,
     )
 }
 
 /// How many rows an object has: `Within` their number, and `Over` exactly where they are more than the
-/// limit. It ends as soon as the starts that no EXDATE and no override names are more, and keeps some
-/// twice the limit of them at most.
+/// limit. It ends as soon as the starts that nothing takes away are more, and keeps some twice the limit
+/// of them at most, and the rows of one day.
 pub fn count_rows(alloc: Global, object: &Object, limit: u32) -> Counted
     requires read { IsRead object.now }
     requires few { length object.now.components < 2 ^ 32 }

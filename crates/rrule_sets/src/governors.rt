@@ -1,6 +1,6 @@
 //! Overrides that move all later instances, and the rows of the starts that they govern (RFC 5545,
 //! 3.2.13 and 3.8.4.4).
-ghost use Rattle.std.specs.Prelude.{◌≡◌, ℕ, ◌<◌, ◌^◌, ◌∷◌, ◌++◌, [], length, map, flat_map, option_to_list, All, AllPairs, IfOk, IfSome, OnOk, MatchOption, ℤ, pos, neg_ℤ};
+ghost use Rattle.std.specs.Prelude.{◌≡◌, ℕ, ◌<◌, ◌^◌, ◌∷◌, ◌++◌, [], length, map, flat_map, option_to_list, All, AllPairs, IfOk, IfSome, OnOk, ℤ, pos, neg_ℤ};
 ghost use Rattle.std.specs.List.{list_any};
 ghost use Rattle.cal_moment.specs.Calendar.{IsBetween};
 ghost use Rattle.cal_model.specs.declared.object.Component.{Component};
@@ -16,9 +16,7 @@ ghost use Rattle.override_merge.specs.NamedStarts.{days_in};
 ghost use Rattle.override_merge.specs.Parts.{id_by};
 ghost use Rattle.rrule_sets.specs.HeldGovernors.{HasNoGreaterId, HoldsGovernors, IsMovable, days_of_movers, governors_by, governors_of, held, last_before, stand_in_by};
 ghost use Rattle.rrule_sets.specs.HeldGovernors as spec;
-ghost use Rattle.rrule_sets.specs.NeededDigits.{HasDay, HasRange};
 
-use crate::range::Digits;
 use cal_base::{List, NoMemory};
 use cal_model::{Component, Extent, LocalTimes, Object, Row};
 use cal_moment::Stamp;
@@ -29,8 +27,6 @@ use override_merge::stamps::{Aligned, align, kind_of, written_value};
 use override_merge::starts::own_start;
 use override_merge::zones::{instant_beside, local_beside};
 use std::alloc::Global;
-
-const DAY: i64 = 86_400;
 
 /// The first and the last second of the dates that are served.
 const FIRST_DATE: i64 = -11_676_096_000;
@@ -327,7 +323,7 @@ fn put_governed(
 }
 
 /// The overrides that move later instances, beside the rows of a master.
-fn governors_beside(
+pub fn governors_beside(
     alloc: Global,
     zones: &[LocalTimes<'_>],
     ids: Stamp,
@@ -419,40 +415,4 @@ pub fn day_of_mover(zones: &[LocalTimes<'_>], ids: Stamp, component: &Component)
         return None;
     }
     day_of(align(zones, component.recurrence_id?, ids))
-}
-
-/// A range, if there is one, with a local day.
-fn joined(range: Option<Digits>, midnight: i64) -> Digits
-    requires { IsRowTime midnight }
-    ensures range { IfSome range (HasRange result) }
-    ensures day { HasDay result midnight }
-{
-    match range {
-        Some(range) => Digits {
-            low: range.low.min(midnight),
-            high: range.high.max(midnight + DAY),
-        },
-        None => Digits {
-            low: midnight,
-            high: midnight + DAY,
-        },
-    }
-}
-
-/// The digits of the local days that overrides name which move later instances; none where none names
-/// one.
-pub fn named_range(zones: &[LocalTimes<'_>], ids: Stamp, components: &[Component]) -> Option<Digits>
-    requires ids { HasZone (length zones.now) ids }
-    requires components { All (HasConvertibleRow (length zones.now)) components.now }
-    ensures { MatchOption result (days_of_movers (tables_of zones.now) ids components.now ≡ []) (λ range. All (HasDay range) (days_of_movers (tables_of zones.now) ids components.now)) }
-{
-    let mut range = None;
-    let mut rest = components;
-    'overrides: while let Some((component, behind)) = rest.split_first() {
-        if let Some(midnight) = day_of_mover(zones, ids, component) {
-            range = Some(joined(range, midnight));
-        }
-        rest = behind;
-    }
-    range
 }

@@ -1,23 +1,20 @@
-use Rattle.std.proofs.Common.{◌≡◌, ◌<◌, ◌≤◌, List, ℤ, length, map, subst}
+use Rattle.std.proofs.Common.{◌≡◌, ◌<◌, ◌≤◌, List, ℤ, length, subst}
 use Rattle.std.specs.Prelude.{IfOk, MatchOption}
-use Rattle.cal_moment.specs.declared.stamp.Stamp.{Stamp}
-use Rattle.cal_model.specs.Instances.Alignment.{align}
-use Rattle.override_merge.specs.Conversions.{tables_of}
-use Rattle.override_merge.specs.NamedStarts.{named_beside}
-use Rattle.rrule_sets.specs.AskedStarts.{exceptions_of}
-use Rattle.rrule_sets.proofs.CountLemmas.{left_are, searchable}
+use Rattle.override_merge.proofs.MergeLemmas.{zones_count}
+use Rattle.rrule_sets.proofs.CountLemmas.{left_counted, master_expandable}
 use Rattle.rrule_sets.proofs.NearLemmas.{recurring_start, served_start, value_of_served}
 use Rattle.rrule_sets.proofs.count.count_beside.Goals as goal
 
-pub count_left-requires-clause-taken : goal.count_left-requires-clause-taken
-count_left-requires-clause-taken g c =
-    searchable c.in_ok-taken.taken (map (λ (x : Stamp). align (tables_of c.args.zones.now) x c.args.stamp) (exceptions_of c.args.component.now)) (named_beside (tables_of c.args.zones.now) c.args.stamp c.args.components.now) c.in_ok-taken.ensures.excepted c.in_ok-taken.ensures.named
+pub count_left-requires-clause-component : goal.count_left-requires-clause-component
+count_left-requires-clause-component g c = rw (zones_count c.args.zones.now c.args.object.now.zones c.requires.zones) (master_expandable c.args.object.now c.args.component.now c.requires.object.components c.requires.master)
 
 pub returns : goal.returns
 returns g c =
-    let zones = tables_of c.args.zones.now in
+    let object = c.args.object.now in
     let component = c.args.component.now in
+    let stamp = c.args.stamp in
+    let served = (master_expandable object component c.requires.object.components c.requires.master).served in
+    let value = λ does. value_of_served object.zones stamp (served_start component.start stamp (recurring_start component stamp does c.requires.own) served) in
     subst (λ (xs : List ℤ). IfOk c.count_left.result (λ r. MatchOption r (c.args.room < length xs) (λ n. (n ≡ length xs) × (n ≤ c.args.room))))
-    (left_are zones c.args.stamp component (λ does. value_of_served zones c.args.stamp (served_start component.start c.args.stamp (recurring_start component c.args.stamp does c.requires.own) c.requires.component.served))
-    c.args.components.now c.in_ok-taken.taken c.in_ok-taken.ensures.excepted c.in_ok-taken.ensures.named c.requires.own)
-    c.count_left.ensures
+    (left_counted object stamp component c.in_ok-taken.taken c.requires.master c.requires.own value c.in_ok-taken.ensures.taken)
+    (rw c.requires.zones at c.count_left.ensures)

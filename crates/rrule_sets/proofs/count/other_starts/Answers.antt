@@ -1,6 +1,6 @@
 use Rattle.std.proofs.Common.{rules, map, FitsSigned, w64, to_z-of_z}
 use Rattle.cal_moment.specs.declared.stamp.Period.{Period}
-use Rattle.cal_model.specs.Instances.Alignment.{reading_of, value_of}
+use Rattle.cal_model.specs.Instances.Alignment.{value_of}
 use Rattle.cal_model.specs.Instances.Starts.{date_start}
 use Rattle.rrule_sets.specs.CountedRows.{dates_in, is_left, periods_in}
 use Rattle.std.specs.Prelude.{length}
@@ -22,6 +22,6 @@ returns c =
     let component = c.args.component.now in
     let fits : FitsSigned w64 c.value_of.result = search (rules, c.value_of.type_inv) in
     let own = rw c.value_of.ensures.value at (simp to_z-of_z at c.in_ok-put_left.ensures) in
-    others_made (is_left (reading_of zones stamp) c.args.taken.now) (value_of zones stamp) (map (date_start zones stamp) (dates_in component)) (map (λ (p : Period). date_start zones stamp p.start) (periods_in component))
+    others_made (is_left zones stamp c.args.taken.now) (value_of zones stamp) (map (date_start zones stamp) (dates_in component)) (map (λ (p : Period). date_start zones stamp p.start) (periods_in component))
     c.new-starts.result c.put_left.new.out c.put_left_dates.new.out c.put_left_periods.new.out
     c.new-starts.ensures own (rw c.dates_of.ensures at c.in_ok-put_left_dates.ensures) (rw c.periods_of.ensures at c.in_ok-put_left_periods.ensures)

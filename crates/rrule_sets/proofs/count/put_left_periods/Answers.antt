@@ -1,6 +1,5 @@
 use Rattle.std.proofs.Common.{rules, length, FitsSigned, w64, to_z-of_z}
 use Rattle.std.proofs.lemmas.List.Elements.{All-tail}
-use Rattle.cal_model.specs.Instances.Alignment.{reading_of}
 use Rattle.cal_model.specs.Instances.Starts.{date_start}
 use Rattle.override_merge.specs.Conversions.{tables_of}
 use Rattle.rrule_sets.specs.PeriodSpans.{IsConvertiblePeriod}
@@ -16,6 +15,6 @@ periods-preserved c =
     let fits : FitsSigned w64 c.date_start.result = search (rules, c.date_start.type_inv) in
     let put = simp to_z-of_z at c.in_ok-put_left.ensures in
     record {
-      made = rw (put, c.date_start.ensures.value) (kept_more (is_left (reading_of zones c.args.stamp) c.args.taken.now) (λ (period : Period). date_start zones c.args.stamp period.start) _ _ c.in-Some.period.now c.in-Some.behind.now (rw first at c.periods.invariant.made));
+      made = rw (put, c.date_start.ensures.value) (kept_more (is_left zones c.args.stamp c.args.taken.now) (λ (period : Period). date_start zones c.args.stamp period.start) _ _ c.in-Some.period.now c.in-Some.behind.now (rw first at c.periods.invariant.made));
       left = All-tail (IsConvertiblePeriod (length c.args.zones.now)) c.in-Some.period.now c.in-Some.behind.now (rw first at c.periods.invariant.left);
     }

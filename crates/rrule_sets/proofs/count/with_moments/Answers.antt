@@ -2,7 +2,6 @@ use Rattle.std.proofs.Common.{◌≡◌, ℕ, ◌*◌, ◌++◌, ◌∷◌, List
 use Rattle.std.specs.Prelude.{filter}
 use Rattle.std.proofs.lemmas.Int.{ints}
 use Rattle.cal_moment.specs.Calendar.{IsBetween}
-use Rattle.cal_model.specs.Instances.Alignment.{reading_of}
 use Rattle.cal_model.specs.Instances.Starts.{ascending}
 use Rattle.cal_model.specs.Recurrence.NextPassing.{end_day}
 use Rattle.cal_model.specs.Recurrence.RecurrenceSet.{Reading, first_moment}
@@ -20,7 +19,7 @@ use Rattle.rrule_sets.proofs.count.with_moments.Goals as goal
 pub moments-init : goal.moments-init
 moments-init g c =
     let zones = tables_of c.args.zones.now in
-    let left = is_left (reading_of zones c.args.stamp) c.args.taken.now in
+    let left = is_left zones c.args.stamp c.args.taken.now in
     let reading = reading_by c.clock_beside-clock.result in
     record {
       picks = rw c.start_moment-start.ensures.value (c.requires.walk reading.dated);
@@ -44,7 +43,7 @@ put_left-requires-clause-near g c =
 pub returns-in_default-2 : goal.returns-in_default-2
 returns-in_default-2 g c =
     let zones = tables_of c.args.zones.now in
-    let left = is_left (reading_of zones c.args.stamp) c.args.taken.now in
+    let left = is_left zones c.args.stamp c.args.taken.now in
     let reading = reading_by c.clock_beside-clock.result in
     let start = moment_of_local c.start_moment-start.result in
     let rest = starts_by reading (still_given c.args.rule.now start reading first_moment (86_400 * end_day) c.next_moment.new.walk) in
@@ -62,7 +61,7 @@ returns-in_default-2 g c =
 pub moments-preserved : goal.moments-preserved
 moments-preserved g c =
     let zones = tables_of c.args.zones.now in
-    let left = is_left (reading_of zones c.args.stamp) c.args.taken.now in
+    let left = is_left zones c.args.stamp c.args.taken.now in
     let reading = reading_by c.clock_beside-clock.result in
     let start = moment_of_local c.start_moment-start.result in
     let rest = starts_by reading (still_given c.args.rule.now start reading first_moment (86_400 * end_day) c.next_moment.new.walk) in

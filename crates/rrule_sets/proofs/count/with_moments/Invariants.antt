@@ -1,6 +1,5 @@
 use Rattle.std.proofs.Common.{◌≡◌, ◌*◌, ◌++◌, length}
 use Rattle.std.specs.Prelude.{filter}
-use Rattle.cal_model.specs.Instances.Alignment.{reading_of}
 use Rattle.cal_model.specs.Instances.Starts.{ascending}
 use Rattle.cal_model.specs.Recurrence.NextPassing.{end_day}
 use Rattle.cal_model.specs.Recurrence.RecurrenceSet.{first_moment}
@@ -16,8 +15,8 @@ use Rattle.rrule_sets.proofs.count.with_moments.Given as goal
 abbrev pub invariant-moments : goal.invariant-moments
 invariant-moments g l = record {
   picks : IsPicks l.rule (moment_of_local l.start) (reading_by l.clock).dated l.walk.picks;
-  made : ascending (l.starts ++ filter (is_left (reading_of (tables_of l.zones) l.stamp) l.taken) (starts_by (reading_by l.clock) (still_given l.rule (moment_of_local l.start) (reading_by l.clock) first_moment (86_400 * end_day) l.walk)))
-      ≡ ascending (l.fn.starts ++ filter (is_left (reading_of (tables_of l.zones) l.stamp) l.taken) (starts_of_walk (tables_of l.zones) l.stamp l.rule l.fn.walk));
+  made : ascending (l.starts ++ filter (is_left (tables_of l.zones) l.stamp l.taken) (starts_by (reading_by l.clock) (still_given l.rule (moment_of_local l.start) (reading_by l.clock) first_moment (86_400 * end_day) l.walk)))
+      ≡ ascending (l.fn.starts ++ filter (is_left (tables_of l.zones) l.stamp l.taken) (starts_of_walk (tables_of l.zones) l.stamp l.rule l.fn.walk));
 }
 
 abbrev pub decreases-moments : goal.decreases-moments

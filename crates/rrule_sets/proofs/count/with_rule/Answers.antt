@@ -23,4 +23,4 @@ returns g c =
     let later =
     ap (λ (m : ℕ). starts_by reading (still_given c.args.rule.now m reading first_moment (86_400 * end_day) c.begin_walk-walk.result)) (sym value)
     ∙ later_given zones c.args.stamp c.args.rule.now start reading (still_given c.args.rule.now start reading first_moment (86_400 * end_day) c.begin_walk-walk.result) value refl (c.begin_walk-walk.ensures.whole reading (86_400 * end_day)) in
-    subst (λ (found : List ℤ). IfOk c.with_moments.result (IsTrimmed c.args.room (c.args.starts ++ filter (is_left reading c.args.taken.now) found))) later c.with_moments.ensures
+    subst (λ (found : List ℤ). IfOk c.with_moments.result (IsTrimmed c.args.room (c.args.starts ++ filter (is_left zones c.args.stamp c.args.taken.now) found))) later c.with_moments.ensures

@@ -2,7 +2,6 @@ use Rattle.std.proofs.Common.{◌≡◌, ◌++◌, false}
 use Rattle.std.specs.Prelude.{filter, flat_map}
 use Rattle.std.proofs.lemmas.List.Elements.{All-head, All-tail}
 use Rattle.cal_model.specs.declared.rule.Rule.{Rule}
-use Rattle.cal_model.specs.Instances.Alignment.{reading_of}
 use Rattle.cal_model.specs.Instances.Starts.{ascending}
 use Rattle.cal_model.specs.Objects.ObjectFacts.{IsServed}
 use Rattle.cal_model.specs.Recurrence.NextPassing.{IsUsable, is_fine}
@@ -20,7 +19,7 @@ pub returns-in_default-2 : goal.returns-in_default-2
 returns-in_default-2 g c =
     let first = c.in-Some.ensures.cases.0 in
     let zones = tables_of c.args.zones.now in
-    let left = is_left (reading_of zones c.args.stamp) c.args.taken.now in
+    let left = is_left zones c.args.stamp c.args.taken.now in
     let whole = ascending (c.args.starts ++ filter left (flat_map (all_later zones c.args.stamp) c.args.rules.now)) in
     rules_too_many c.args.room left c.rules.starts (all_later zones c.args.stamp c.in-Some.rule.now) (flat_map (all_later zones c.args.stamp) c.in-Some.behind.now) whole
     (rw c.in_default-2.is at c.in_ok-kept.ensures) (rw first at c.rules.invariant.made)
@@ -29,7 +28,7 @@ pub rules-preserved : goal.rules-preserved
 rules-preserved g c =
     let first = c.in-Some.ensures.cases.0 in
     let zones = tables_of c.args.zones.now in
-    let left = is_left (reading_of zones c.args.stamp) c.args.taken.now in
+    let left = is_left zones c.args.stamp c.args.taken.now in
     let whole = ascending (c.args.starts ++ filter left (flat_map (all_later zones c.args.stamp) c.args.rules.now)) in
     record {
       made = rule_counted left c.rules.starts c.in-Some-2.kept (all_later zones c.args.stamp c.in-Some.rule.now) (flat_map (all_later zones c.args.stamp) c.in-Some.behind.now) whole
