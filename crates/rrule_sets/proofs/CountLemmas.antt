@@ -24,12 +24,14 @@ use Rattle.cal_model.specs.Walks.KeptMoments.{starts_by}
 use Rattle.cal_model.proofs.Instances.RisingLists.{AllPairs-head, AllPairs-tail, Contains-here, Contains-split, Contains-there, IsBelow, ascending-has, ascending-is, ascending-only, ascending-rising}
 use Rattle.cal_model.proofs.Ranges.WindowLaws.{Contains-filter, Contains-unfilter}
 use Rattle.cal_model.proofs.Recurrence.SetStretches.{later_moments-All}
+use Rattle.override_merge.specs.Conversions.{HasZone}
 use Rattle.override_merge.specs.NamedStarts.{IsNamesOf, days_in, has_name, named_beside, values_in}
 use Rattle.override_merge.proofs.NameLemmas.{has_name-is}
+use Rattle.override_merge.proofs.StampLemmas.{convertible_some, own_start_convertible}
 use Rattle.rrule_sets.specs.declared.count.Taken.{Taken}
 use Rattle.rrule_sets.specs.AskedStarts.{IsExpandable, exceptions_of}
 use Rattle.rrule_sets.specs.CountedRows.{IsMasterOf, IsSearchable, IsTakenFrom, all_later, dates_in, is_moved_out, is_named_by, is_out, is_out_by, left_starts, master_starts, moves_out, other_starts, periods_in, rules_in, starts_of_master, unnamed_starts}
-use Rattle.rrule_sets.specs.HeldGovernors.{HasNoGreaterId, IsMovable, greatest_of, held}
+use Rattle.rrule_sets.specs.HeldGovernors.{IsMovable, greatest_of, held}
 use Rattle.rrule_sets.specs.MasterRows.{masters_from}
 use Rattle.rrule_sets.proofs.DigitLemmas.{IsOfRules, every_moment-of_rules}
 use Rattle.rrule_sets.proofs.InstanceLemmas.{exceptions_are}
@@ -314,6 +316,11 @@ only_master object c number (m ∷ ms) one first = absurd (let size = ap length 
 pub master_expandable : (object : Object) (c : Component) → All (IsExpandable (length object.zones)) object.components → IsMasterOf object c → IsExpandable (length object.zones) c
 master_expandable object c all master = expandable_master (length object.zones) object.components (record { number = master.0; component = c }) [] all master.1
 
+-- and a stamp in one of the object's zones
+pub master_zone : (object : Object) (c : Component) (s : Stamp) → All (IsExpandable (length object.zones)) object.components → IsMasterOf object c → own_start c ≡ Some s → HasZone (length object.zones) s
+master_zone object c s all master own =
+    (convertible_some (length object.zones) (own_start c) s own (own_start_convertible (length object.zones) c (master_expandable object c all master).row)).zone
+
 -- what is left is counted
 pub left_counted : (object : Object) (s : Stamp) (c : Component) (taken : Taken) → IsMasterOf object c → own_start c ≡ Some s →
     (recurs c ≡ true → value_of object.zones s ≡ (reading_of object.zones s).instant (seconds_since_1970 (written_moment s))) →
@@ -376,15 +383,18 @@ periods_kept P c all = of_test (recurs c)
     of_test false = All-nil P
 
 -- What searches ask of what takes starts away.
-pub searchable : (zones : ℕ) (taken : Taken) (xs ys : List Aligned) → IsNamesOf xs taken.excepted → IsNamesOf ys taken.named → AllPairs HasNoGreaterId taken.governors → All (IsMovable zones) taken.governors → IsSearchable zones taken
-searchable zones taken xs ys excepted named rising movable = record {
-  excepted_values = subst (AllPairs IsBelow) (sym excepted.values) (ascending-rising (values_in xs));
-  excepted_days = subst (AllPairs IsBelow) (sym excepted.days) (ascending-rising (days_in xs));
-  named_values = subst (AllPairs IsBelow) (sym named.values) (ascending-rising (values_in ys));
-  named_days = subst (AllPairs IsBelow) (sym named.days) (ascending-rising (days_in ys));
-  rising = rising;
-  movable = movable;
-}
+pub searchable : (object : Object) (s : Stamp) (c : Component) (zones : ℕ) (taken : Taken) → IsTakenFrom object s c taken → All (IsMovable zones) taken.governors → IsSearchable zones taken
+searchable object s c zones taken is movable =
+    let excepted = map (λ (x : Stamp). align object.zones x s) (exceptions_of c) in
+    let named = named_beside object.zones s object.components in
+    record {
+      excepted_values = subst (AllPairs IsBelow) (sym is.excepted.values) (ascending-rising (values_in excepted));
+      excepted_days = subst (AllPairs IsBelow) (sym is.excepted.days) (ascending-rising (days_in excepted));
+      named_values = subst (AllPairs IsBelow) (sym is.named.values) (ascending-rising (values_in named));
+      named_days = subst (AllPairs IsBelow) (sym is.named.days) (ascending-rising (days_in named));
+      rising = is.held.rising;
+      movable = movable;
+    }
 
 -- the start itself, the dates and the periods, one after the other
 pub others_made : (p : ℤ → Bool) (z : ℤ) (ds ps none first second third : List ℤ) → none ≡ [] → first ≡ none ++ filter p (z ∷ []) → second ≡ first ++ filter p ds → third ≡ second ++ filter p ps → third ≡ filter p (z ∷ ds ++ ps)

@@ -68,7 +68,6 @@ pub record IsTakenFrom (object : Object) (s : Stamp) (c : Component) (taken : Ta
   pub excepted : IsNamesOf (map (λ (x : Stamp). align object.zones x s) (exceptions_of c)) taken.excepted
   pub named : IsNamesOf (named_beside object.zones s object.components) taken.named
   pub held : HoldsGovernors object.zones (governors object s (starts every_moment object)) taken.governors
-  pub movable : All (IsMovable (length object.zones)) taken.governors
 
 -- Local days that overrides name.
 

@@ -1,20 +1,16 @@
-use Rattle.std.proofs.Common.{◌≡◌, ◌∙◌, List, ap, subst, sym, length, map}
-use Rattle.std.specs.Prelude.{IfOk, flat_map}
-use Rattle.cal_model.specs.declared.row.Row.{Row}
+use Rattle.std.proofs.Common.{◌∙◌, List, subst, sym}
+use Rattle.std.specs.Prelude.{IfOk}
 use Rattle.cal_model.specs.Instances.Rows.{Governor, starts}
-use Rattle.cal_model.specs.Instances.Starts.{own_start}
 use Rattle.cal_model.specs.Recurrence.RecurrenceSet.{every_moment}
 use Rattle.override_merge.proofs.MergeLemmas.{zones_count}
-use Rattle.override_merge.proofs.StampLemmas.{convertible_some, own_start_convertible}
-use Rattle.rrule_sets.specs.CountedRows.{first_row}
 use Rattle.rrule_sets.specs.HeldGovernors.{HoldsGovernors, days_of_movers}
-use Rattle.rrule_sets.proofs.CountLemmas.{master_expandable}
+use Rattle.rrule_sets.proofs.CountLemmas.{master_expandable, master_zone}
 use Rattle.rrule_sets.proofs.NamedDays.{first_rows_near, governors-first, holds_none}
 use Rattle.rrule_sets.proofs.count.governors_of.Goals as goal
 
-pub returns-then-has_future-clause-held : goal.returns-then-has_future-clause-held
-returns-then-has_future-clause-held g c =
-    let none = rw c.as_slice-components.ensures at (sym c.has_future.ensures ∙ c.if-has_future.true) in
+pub returns-then-not-has_future-clause-held : goal.returns-then-not-has_future-clause-held
+returns-then-not-has_future-clause-held g c =
+    let none = rw c.as_slice-components.ensures at (sym c.has_future.ensures ∙ c.if-not-has_future.true) in
     rw c.new.ensures (holds_none c.args.object.now c.args.stamp (starts every_moment c.args.object.now) none)
 
 pub first_rows-requires-clause-component : goal.first_rows-requires-clause-component
@@ -23,13 +19,15 @@ first_rows-requires-clause-component g c =
 
 pub first_rows-requires-clause-stamp : goal.first_rows-requires-clause-stamp
 first_rows-requires-clause-stamp g c =
-    let is = master_expandable c.args.object.now c.args.component.now c.requires.object.components c.requires.master in
-    rw (zones_count c.args.zones.now c.args.object.now.zones c.requires.zones)
-    (convertible_some (length c.args.object.now.zones) (own_start c.args.component.now) c.args.stamp c.requires.own (own_start_convertible (length c.args.object.now.zones) c.args.component.now is.row)).zone
+    rw (zones_count c.args.zones.now c.args.object.now.zones c.requires.zones) (master_zone c.args.object.now c.args.component.now c.args.stamp c.requires.object.components c.requires.master c.requires.own)
 
 pub first_rows-requires-clause-components : goal.first_rows-requires-clause-components
 first_rows-requires-clause-components g c =
     rw (c.as_slice-components.ensures, zones_count c.args.zones.now c.args.object.now.zones c.requires.zones) c.requires.object.rows.components
+
+pub governors_beside-requires-clause-ids : goal.governors_beside-requires-clause-ids
+governors_beside-requires-clause-ids g c =
+    rw (zones_count c.args.zones.now c.args.object.now.zones c.requires.zones) (master_zone c.args.object.now c.args.component.now c.args.stamp c.requires.object.components c.requires.master c.requires.own)
 
 pub governors_beside-requires-clause-near : goal.governors_beside-requires-clause-near
 governors_beside-requires-clause-near g c =
