@@ -399,16 +399,7 @@ fn put_first_on<L: Ledger>(
         low: midnight,
         high: midnight + DAY,
     };
-    let rows = instances(
-        alloc,
-        &PeriodStep,
-        zones,
-        stamp,
-        component,
-        0,
-        range,
-        steps,
-    )?;
+    let rows = instances(alloc, &PeriodStep, zones, stamp, component, 0, range, steps)?;
     put_first(rows.as_slice(), out)
 }
 
