@@ -14,7 +14,7 @@ use Rattle.cal_model.specs.declared.object.Component.{Component}
 use Rattle.cal_model.specs.declared.object.Object.{Object}
 use Rattle.cal_model.specs.declared.rule.Rule.{Rule}
 use Rattle.cal_model.specs.declared.zone.ZoneTable.{ZoneTable}
-use Rattle.cal_model.specs.Instances.Alignment.{Aligned, align, names_start, reading_of, value_of, written_moment}
+use Rattle.cal_model.specs.Instances.Alignment.{align, names_start, reading_of, value_of, written_moment}
 use Rattle.cal_model.specs.Instances.Rows.{Numbered, governors, masters, starts}
 use Rattle.cal_model.specs.Instances.Rows as rows
 use Rattle.cal_model.specs.Instances.Starts.{ascending, date_start, is_date, is_excepted, own_start, period_starts, plain_starts, recurring_starts, recurs, rule_starts, starts_from}

@@ -1,6 +1,6 @@
 -- The first start on each local day that overrides name which move later instances is enough to know the ids by which they govern.
 use Rattle.std.proofs.Common.{◌≡◌, ℕ, ◌+◌, List, [], ◌∷◌, ◌++◌, map, refl, sym, ap, ap₂, subst, ◌∙◌, arith, Bool, true, false, ℤ, pos, ◌+ℤ◌, ◌≤ℤ◌, ◌<ℤ◌, inl, inr, ◌⊎◌}
-use Rattle.std.specs.Prelude.{All, Contains, filter, flat_map, int_le, int_lt, is_some, take, if◌then◌else◌}
+use Rattle.std.specs.Prelude.{All, Contains, filter, flat_map, int_le, int_lt, take, if◌then◌else◌}
 use Rattle.std.specs.List.{list_any}
 use Rattle.std.proofs.lemmas.Int.{ints}
 use Rattle.std.proofs.lemmas.Bool.{cases_Bool}

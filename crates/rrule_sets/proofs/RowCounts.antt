@@ -11,8 +11,8 @@ use Rattle.cal_model.specs.declared.object.Component.{Component}
 use Rattle.cal_model.specs.declared.object.Object.{Object}
 use Rattle.cal_model.specs.declared.row.Row.{Row}
 use Rattle.cal_model.specs.Instances.Alignment.{align, kind_of, names_start, reading_of, value_of}
-use Rattle.cal_model.specs.Instances.Starts.{end_from, end_of_instance, own_start, starts_from, starts_of}
-use Rattle.cal_model.specs.Instances.Rows.{Governor, Numbered, are_served, comes_before, dated_rows, first_of, governed_row, governors, greatest_id, has_id, id_of_override, ids_start, in_order, is_named, master_row, master_rows, master_stamp, masters, moved_digits, numbered_from, override_row, override_row_from, overrides, put_row, row_at, row_of, rows, starts, undated_row, undated_rows}
+use Rattle.cal_model.specs.Instances.Starts.{end_from, own_start, starts_from, starts_of}
+use Rattle.cal_model.specs.Instances.Rows.{Governor, Numbered, are_served, comes_before, dated_rows, first_of, governed_row, governors, greatest_id, has_id, id_of_override, ids_start, in_order, is_named, master_rows, master_stamp, masters, moved_digits, numbered_from, override_row, override_row_from, overrides, put_row, row_at, row_of, rows, starts, undated_row, undated_rows}
 use Rattle.cal_model.specs.Recurrence.RecurrenceSet.{every_moment}
 use Rattle.cal_model.proofs.Instances.RowsInOrder.{HasOneRow, master_has}
 use Rattle.cal_model.proofs.Recurrence.Periods.{count_one, count_zero}

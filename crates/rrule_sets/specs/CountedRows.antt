@@ -13,7 +13,7 @@ use Rattle.cal_model.specs.Instances.Starts.{ascending, date_start, own_start, r
 use Rattle.cal_model.specs.Instances.Rows.{Numbered, are_served, governors, greatest_id, moved_digits, starts}
 use Rattle.cal_model.specs.Instances.Rows as rows
 use Rattle.cal_model.specs.Recurrence.NextPassing.{end_day}
-use Rattle.cal_model.specs.Recurrence.RecurrenceSet.{Reading, every_moment, first_moment, later_moments}
+use Rattle.cal_model.specs.Recurrence.RecurrenceSet.{every_moment, first_moment, later_moments}
 use Rattle.cal_model.specs.Walks.KeptMoments.{starts_by}
 use Rattle.cal_model.specs.Walks.PickedRest.{still_given}
 use Rattle.cal_model.specs.declared.walk.rule_walk.RuleWalk.{RuleWalk}

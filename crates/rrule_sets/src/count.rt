@@ -1,5 +1,5 @@
 //! The number of an object's rows.
-ghost use Rattle.std.specs.Prelude.{◌≡◌, ℕ, ◌+◌, ◌≤◌, ◌<◌, ◌^◌, ◌++◌, ◌∷◌, Bool, List, [], length, count_by, false, All, AllPairs, IfOk, OnOk, MatchOption, Some, filter, flat_map, map, take, pos, neg_ℤ, ℤ};
+ghost use Rattle.std.specs.Prelude.{◌≡◌, ◌+◌, ◌≤◌, ◌<◌, ◌^◌, ◌++◌, ◌∷◌, Bool, List, [], length, count_by, false, All, AllPairs, IfOk, OnOk, MatchOption, Some, filter, flat_map, map, take, pos, neg_ℤ};
 ghost use Rattle.cal_moment.specs.Calendar.{IsBetween};
 ghost use Rattle.cal_moment.specs.declared.stamp.Period.{Period};
 ghost use Rattle.cal_moment.specs.declared.stamp.Stamp.{Stamp};
