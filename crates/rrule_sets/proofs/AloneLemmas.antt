@@ -1,6 +1,6 @@
 -- The rows of a window of an object without overrides: those of its master in the digits of the window, as they stand.
-use Rattle.std.proofs.Common.{◌≡◌, ℕ, ◌+◌, ◌≤◌, List, [], ◌∷◌, length, refl, sym, ap, ap₂, subst, ◌∙◌, arith, Bool, true, false, ℤ, pos, ◌+ℤ◌, ◌-ℤ◌, ◌*ℤ◌, ◌≤ℤ◌, ◌<ℤ◌, ◌++◌, inl, inr}
-use Rattle.std.specs.Prelude.{All, AllPairs, filter, flat_map, int_le, int_lt, is_some, option_to_list, if◌then◌else◌, Option, Some, None}
+use Rattle.std.proofs.Common.{◌≡◌, ℕ, ◌+◌, ◌≤◌, List, [], ◌∷◌, length, refl, sym, ap, subst, ◌∙◌, arith, Bool, true, false, ℤ, pos, ◌+ℤ◌, ◌-ℤ◌, ◌*ℤ◌, ◌≤ℤ◌, ◌<ℤ◌, ◌++◌, inl, inr}
+use Rattle.std.specs.Prelude.{All, AllPairs, filter, flat_map, int_le, int_lt, is_some, option_to_list, Option, Some, None}
 use Rattle.std.specs.List.{list_any}
 use Rattle.std.proofs.lemmas.Int.{ints}
 use Rattle.std.proofs.lemmas.Bool.{cases_Bool}
@@ -14,7 +14,7 @@ use Rattle.cal_model.specs.declared.row.Row.{Row}
 use Rattle.cal_model.specs.declared.zone.ZoneTable.{ZoneTable}
 use Rattle.cal_model.specs.Instances.Alignment.{reading_of, value_of}
 use Rattle.cal_model.specs.Instances.Starts.{own_start, starts_from}
-use Rattle.cal_model.specs.Instances.Rows.{Governor, Numbered, governors, has_id, ids_start, in_order, is_named, lies_in_window, masters, move_of, moves_later, named_by, numbered_from, overrides, put_row, rows_in, starts, window_at, window_seconds}
+use Rattle.cal_model.specs.Instances.Rows.{Numbered, has_id, ids_start, in_order, lies_in_window, masters, move_of, moves_later, named_by, numbered_from, overrides, put_row, rows_in, starts, window_at, window_seconds}
 use Rattle.cal_model.specs.Ranges.Cost.{cost, last_day}
 use Rattle.cal_model.specs.Ranges.Nearness.{HasShortOffsets}
 use Rattle.cal_model.specs.Recurrence.RecurrenceSet.{every_moment}

@@ -7,7 +7,7 @@ use Rattle.std.specs.List.Sorted.{IsPartitionedBy, IsSortedByKey, ties}
 use Rattle.std.specs.List.{list_any}
 use Rattle.std.proofs.lemmas.Int.{ints, by_lt_z}
 use Rattle.std.proofs.lemmas.Bool.{cases_Bool, eqb-true, ltb-true, ltb-false}
-use Rattle.std.proofs.lemmas.List.{append-nil, append_assoc, map-append}
+use Rattle.std.proofs.lemmas.List.{append_assoc, map-append}
 use Rattle.std.proofs.lemmas.List.Elements.{All-head, All-tail, All-nil, All-cons, All-filter, All-map, All-weaker}
 use Rattle.std.proofs.lemmas.List.Kept.{AllPairs-filter}
 use Rattle.std.proofs.lemmas.List.Sorted.{sorted_far, ranks_by}
@@ -35,11 +35,11 @@ use Rattle.cal_model.proofs.Words.IntegerLemmas.{same_int-self, same_int-true}
 use Rattle.override_merge.specs.declared.names.Names.{Names}
 use Rattle.override_merge.specs.Conversions.{HasRowTimes, IsRowTime}
 use Rattle.override_merge.specs.DayStarts.{days_of, starts_on}
-use Rattle.override_merge.specs.NamedStarts.{IsNamesOf, has_name, named_beside}
+use Rattle.override_merge.specs.NamedStarts.{IsNamesOf, named_beside}
 use Rattle.override_merge.specs.Parts.{id_by}
 use Rattle.override_merge.proofs.NameLemmas.{has_name-is, is_named-names}
 use Rattle.rrule_sets.specs.declared.governors.Governor.{Governor}
-use Rattle.rrule_sets.specs.HeldGovernors.{HasNoGreaterId, HoldsGovernors, governing, governor_at, governors_by, governors_from, governors_of, greatest_of, held, last_before, last_of, moved_by, moved_digits, moved_row, row_from, stand_in_by, with_id}
+use Rattle.rrule_sets.specs.HeldGovernors.{HasNoGreaterId, HoldsGovernors, governing, governor_at, governors_by, governors_from, governors_of, greatest_of, held, last_before, last_of, moved_by, moved_row, stand_in_by, with_id}
 use Rattle.rrule_sets.proofs.DateStarts.{IsNearRow, near_instant, value_near}
 use Rattle.rrule_sets.proofs.NearRowLemmas.{cut_before}
 

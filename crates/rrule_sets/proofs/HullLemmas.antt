@@ -1,17 +1,14 @@
 -- Where a start lies, by another clock, that an override by a local day means.
-use Rattle.std.proofs.Common.{◌≡◌, arith, List, ℤ, pos, ◌+ℤ◌, ◌-ℤ◌, ◌*ℤ◌, ◌<ℤ◌, ◌≤ℤ◌}
+use Rattle.std.proofs.Common.{◌≡◌, arith, List, ℤ}
 use Rattle.std.specs.Prelude.{All}
 use Rattle.std.proofs.lemmas.Int.{ints}
 use Rattle.cal_moment.specs.declared.stamp.Stamp.{Stamp}
 use Rattle.cal_model.specs.declared.zone.ZoneTable.{ZoneTable}
-use Rattle.cal_model.specs.Instances.Alignment.{midnight_of, reading_of, written_value}
-use Rattle.cal_model.specs.Instances.Rows.{Governor, move_of, window_seconds}
+use Rattle.cal_model.specs.Instances.Alignment.{midnight_of, reading_of}
 use Rattle.cal_model.specs.Ranges.Nearness.{HasShortOffsets}
 use Rattle.cal_model.proofs.Instances.DayLaws.{midnight_of-holds}
 use Rattle.cal_model.proofs.Ranges.RowBounds.{instant-near, local-near}
-use Rattle.rrule_sets.specs.declared.range.Digits.{Digits}
 use Rattle.rrule_sets.specs.MovedStarts.{IsBeside}
-use Rattle.rrule_sets.specs.NeededDigits.{HasMoved}
 
 pub beside-on_day : (zones : List ZoneTable) (ids s : Stamp) (midnight r : ℤ) → All HasShortOffsets zones → midnight ≡ midnight_of ((reading_of zones ids).local r) → IsBeside midnight ((reading_of zones s).local r)
 beside-on_day zones ids s midnight r short e =

@@ -1,5 +1,5 @@
 -- The last day that a window may cost is not before its last day, and not before the starts end that overrides may move into it.
-use Rattle.std.proofs.Common.{◌≡◌, ℕ, ◌+◌, ◌≤◌, Bool, true, false, List, [], ◌∷◌, ◌++◌, map, refl, sym, ap, subst, ◌∙◌, arith, ℤ, inl, inr}
+use Rattle.std.proofs.Common.{◌≡◌, ◌+◌, ◌≤◌, Bool, true, false, map, sym, ap, subst, ◌∙◌, arith, ℤ, inl, inr}
 use Rattle.std.specs.Prelude.{All, flat_map, max, option_to_list, if◌then◌else◌, Option, Some}
 use Rattle.std.specs.List.{list_any}
 use Rattle.std.proofs.lemmas.Bool.{cases_Bool}
@@ -8,7 +8,7 @@ use Rattle.std.proofs.lemmas.List.Elements.{All-nil, All-weaker}
 use Rattle.cal_moment.specs.declared.stamp.Stamp.{Stamp}
 use Rattle.cal_model.specs.declared.object.Object.{Object}
 use Rattle.cal_model.specs.Instances.Rows.{Governor, governors, ids_start, move_of, moves_later, overrides, starts}
-use Rattle.cal_model.specs.Ranges.Cost.{all_governors, days_apart, days_earlier, days_named_from, greatest, greatest_move, last_day, last_moved, last_of_window}
+use Rattle.cal_model.specs.Ranges.Cost.{all_governors, days_apart, days_earlier, days_named_from, greatest, greatest_move, last_day, last_of_window}
 use Rattle.cal_model.specs.Recurrence.RecurrenceSet.{every_moment}
 use Rattle.cal_model.proofs.Instances.EachRowLemmas.{All-greatest}
 use Rattle.cal_model.proofs.Instances.KeptStarts.{governors-none}

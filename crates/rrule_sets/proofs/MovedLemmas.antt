@@ -1,6 +1,6 @@
 -- What overrides may move into a window, component by component, and beside all starts of an object.
-use Rattle.std.proofs.Common.{◌≡◌, ℕ, ◌+◌, ◌*◌, ◌<◌, ◌≤◌, List, [], ◌∷◌, ◌++◌, length, map, refl, sym, ap, ap₂, subst, ◌∙◌, arith, Bool, true, false, ℤ, pos, negsuc, neg_ℤ, ◌+ℤ◌, ◌-ℤ◌, ◌*ℤ◌, ◌<ℤ◌, ◌≤ℤ◌, inl, inr}
-use Rattle.std.specs.Prelude.{All, IfSome, MatchOption, filter, flat_map, if◌then◌else◌, nat_abs, nat_lt, option_to_list, is_some, Option, Some, None, ◌&&◌}
+use Rattle.std.proofs.Common.{◌≡◌, ℕ, ◌+◌, ◌*◌, ◌<◌, ◌≤◌, List, [], ◌∷◌, ◌++◌, length, map, refl, sym, ap, ap₂, subst, ◌∙◌, arith, Bool, true, false, ℤ, pos, negsuc, ◌+ℤ◌, ◌*ℤ◌, ◌≤ℤ◌, inl, inr}
+use Rattle.std.specs.Prelude.{All, filter, flat_map, if◌then◌else◌, option_to_list, Option, Some, None, ◌&&◌}
 use Rattle.std.specs.List.{list_all, list_any}
 use Rattle.std.proofs.lemmas.Int.{ints}
 use Rattle.std.proofs.lemmas.Bool.{cases_Bool, ltb-true}
@@ -23,11 +23,10 @@ use Rattle.cal_model.specs.Ranges.Nearness.{HasOffsetsBelow, HasShortOffsets, Is
 use Rattle.cal_model.specs.Recurrence.RecurrenceSet.{every_moment}
 use Rattle.cal_model.proofs.Instances.DayLaws.{midnight_of-holds}
 use Rattle.cal_model.proofs.Instances.EachRowLemmas.{All-numbered_from}
-use Rattle.cal_model.proofs.Ranges.RowBounds.{instant-near, local-near}
 use Rattle.cal_model.proofs.Words.AllLemmas.{All-each_part, All-everywhere, All-flat_map, All-left, All-right, All-slice_get, All-unmap}
 use Rattle.cal_model.proofs.Words.EachLemmas.{both_hold}
 use Rattle.cal_model.proofs.Words.IntegerLemmas.{same_int-true}
-use Rattle.override_merge.specs.Conversions.{HasConvertibleRow, IsConvertible, IsRowTime}
+use Rattle.override_merge.specs.Conversions.{IsRowTime}
 use Rattle.override_merge.specs.NamedStarts.{days_in}
 use Rattle.rrule_sets.specs.declared.range.Digits.{Digits}
 use Rattle.rrule_sets.specs.declared.windows.Needed.{Needed}
@@ -197,9 +196,6 @@ movers-days object ids range days =
 
 -- What a range has for an override.
 
-HasMoved-less : (n m : ℕ) (window : ℤ) (range : Digits) (move : ℤ) → n ≤ m → HasMoved m window range move → HasMoved n window range move
-HasMoved-less n m window range move le has = let from = has.from in let to = has.to in record { from = omega (arith, ints, le, from); to = omega (arith, ints, le, to) }
-
 moved_by_name : (zones : List ZoneTable) (window : ℤ) (s : Stamp) (x : Aligned) (part range : Digits) (name : Aligned → ℤ) → MeansStarts zones name → IsMovedFrom zones window s x part → HasRange range part →
     HasMoved (offset_bound zones) window range (move_from zones name s x)
 moved_by_name zones window s (at v) part range name means is wider =
@@ -248,23 +244,6 @@ ends-moved zones ids window c s id part later own named is = λ name days z mean
     let nine : All (λ midnight. 9 ≤ days) (days_in (align zones id ids ∷ [])) = rw named at (enough.named later) in
     let by : EndsMovedBy window days z (move_from zones name s (align zones id ids)) = All-head (EndsMovedBy window days z) (move_from zones name s (align zones id ids)) [] (rw (later, own, named) at ends) in
     All-cons (λ (part : Digits). part.high ≤ℤ z) part [] (ends_by_name zones window s (align zones id ids) part name days z means is enough.offsets nine by) (All-nil (λ (part : Digits). part.high ≤ℤ z))
-
--- A component that moves none.
-pub moves-none : (zones : List ZoneTable) (ids : Stamp) (window : ℤ) (c : Component) → ((name : Aligned → ℤ) → moves_of name zones ids c ≡ []) → HasMovedOf zones ids window c []
-moves-none zones ids window c none = λ name range means wider. subst (All (HasMoved (offset_bound zones) window range)) (sym (none name)) (All-nil (HasMoved (offset_bound zones) window range))
-
-pub none-by_flag : (zones : List ZoneTable) (ids : Stamp) (c : Component) (name : Aligned → ℤ) → c.future ≡ false → moves_of name zones ids c ≡ []
-none-by_flag zones ids c name e = rw e refl
-
-pub none-by_start : (zones : List ZoneTable) (ids : Stamp) (c : Component) (name : Aligned → ℤ) → own_start c ≡ None → moves_of name zones ids c ≡ []
-none-by_start zones ids c name e = elim (cases_Bool c.future) [ inl w ↦ rw (w, e) refl | inr w ↦ rw w refl ]
-
-pub none-by_id : (zones : List ZoneTable) (ids : Stamp) (c : Component) (name : Aligned → ℤ) → c.recurrence_id ≡ None → moves_of name zones ids c ≡ []
-none-by_id zones ids c name e = elim (cases_Bool c.future) [ inl w ↦ rw (w, e) (nothing (own_start c)) | inr w ↦ rw w refl ]
-  where
-    nothing : (own : Option Stamp) → flat_map (λ s. map (λ x. move_from zones name s (align zones x ids)) []) (option_to_list own) ≡ []
-    nothing None = refl
-    nothing (Some s) = refl
 
 -- Some components of which none moves later instances.
 no_moves : (zones : List ZoneTable) (ids : Stamp) (name : Aligned → ℤ) (cs : List Component) → list_any (λ (c : Component). c.future) cs ≡ false → flat_map (moves_of name zones ids) cs ≡ []
@@ -375,38 +354,6 @@ module _ (zones : List ZoneTable) (ids : Stamp) (window : ℤ) where
 
     pub needed-alone : list_any (λ (c : Component). c.future) cs ≡ false → IsNeeded zones ids cs window own
     needed-alone none = needed-moved own (itself own) (moved-none zones ids window cs own none) (days-none zones ids cs own none) (λ z by behind. by)
-
--- The local days that are named so far: with those of the components that are left they are those of all.
-abbrev pub IsNamedSoFar : List ZoneTable → Stamp → List Component → List Component → Option Digits → Type 0
-IsNamedSoFar zones ids all rest None = days_of_movers zones ids rest ≡ days_of_movers zones ids all
-IsNamedSoFar zones ids all rest (Some range) = (wide : Digits) → HasRange wide range → All (HasDay wide) (days_of_movers zones ids rest) → All (HasDay wide) (days_of_movers zones ids all)
-
-module _ (zones : List ZoneTable) (ids : Stamp) (all : List Component) where
-  pub named_first : IsNamedSoFar zones ids all all None
-  named_first = refl
-
-  days_behind : (c : Component) (cs : List Component) → days_of_movers zones ids (c ∷ cs) ≡ days_of_movers zones ids (c ∷ []) ++ days_of_movers zones ids cs
-  days_behind c cs = ap (λ (days : List ℤ). days ++ days_of_movers zones ids cs) (sym (append-nil (if c.future then id_days zones ids c else [])))
-
-  pub named_none : (c : Component) (cs : List Component) (range : Option Digits) → IsNamedSoFar zones ids all (c ∷ cs) range → [] ≡ days_of_movers zones ids (c ∷ []) → IsNamedSoFar zones ids all cs range
-  named_none c cs None so_far none = sym (days_behind c cs ∙ ap (λ (days : List ℤ). days ++ days_of_movers zones ids cs) (sym none)) ∙ so_far
-  named_none c cs (Some range) so_far none = λ wide has rest.
-      so_far wide has (subst (All (HasDay wide)) (sym (days_behind c cs ∙ ap (λ (days : List ℤ). days ++ days_of_movers zones ids cs) (sym none))) rest)
-
-  pub named_more : (c : Component) (cs : List Component) (range : Option Digits) (next : Digits) (midnight : ℤ) → IsNamedSoFar zones ids all (c ∷ cs) range → midnight ∷ [] ≡ days_of_movers zones ids (c ∷ []) →
-      IfSome range (HasRange next) → HasDay next midnight → IsNamedSoFar zones ids all cs (Some next)
-  named_more c cs range next midnight so_far is has day = λ wide wider rest.
-      by range so_far has wide wider (subst (All (HasDay wide)) (sym (days_behind c cs ∙ ap (λ (days : List ℤ). days ++ days_of_movers zones ids cs) (sym is)))
-      (All-cons (HasDay wide) midnight (days_of_movers zones ids cs) (has_day wide next midnight wider day) rest))
-    where
-      by : (range : Option Digits) → IsNamedSoFar zones ids all (c ∷ cs) range → IfSome range (HasRange next) → (wide : Digits) → HasRange wide next → All (HasDay wide) (days_of_movers zones ids (c ∷ cs)) → All (HasDay wide) (days_of_movers zones ids all)
-      by None so_far has wide wider days = subst (All (HasDay wide)) so_far days
-      by (Some range) so_far has wide wider days = so_far wide (has_range wide next range wider has) days
-
-  pub named_all : (rest : List Component) (range : Option Digits) → IsNamedSoFar zones ids all rest range → length rest ≡ 0 → MatchOption range (days_of_movers zones ids all ≡ []) (λ range. All (HasDay range) (days_of_movers zones ids all))
-  named_all [] None so_far none = sym so_far
-  named_all [] (Some range) so_far none = so_far range (itself range) (All-nil (HasDay range))
-  named_all (c ∷ cs) range so_far none = absurd (omega (arith, none))
 
 -- An object.
 

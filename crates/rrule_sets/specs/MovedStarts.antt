@@ -1,5 +1,5 @@
 -- The digits whose starts an override may move into a window, where it need not be known which start its RECURRENCE-ID means. From RFC 5545, 3.2.13.
-use Rattle.std.specs.Prelude.{◌≡◌, ℕ, ◌+◌, ◌*◌, ◌≤◌, All, if◌then◌else◌, List, [], ◌∷◌, map, flat_map, option_to_list, true, ℤ, pos, neg_ℤ, ◌+ℤ◌, ◌-ℤ◌, ◌*ℤ◌, ◌≤ℤ◌, ◌<ℤ◌}
+use Rattle.std.specs.Prelude.{◌≡◌, ℕ, ◌*◌, ◌≤◌, All, if◌then◌else◌, List, [], map, flat_map, option_to_list, true, ℤ, pos, neg_ℤ, ◌+ℤ◌, ◌-ℤ◌, ◌*ℤ◌, ◌≤ℤ◌, ◌<ℤ◌}
 use Rattle.std.specs.List.{list_all}
 use Rattle.cal_moment.specs.Calendar.{IsBetween}
 use Rattle.cal_moment.specs.declared.stamp.Stamp.{Stamp}

@@ -1,5 +1,5 @@
 -- What a range of digits has so that the rows of a window are made of the starts in it, and where it ends.
-use Rattle.std.specs.Prelude.{◌≡◌, ℕ, All, List, flat_map, ℤ, pos, ◌+ℤ◌, ◌*ℤ◌, ◌≤ℤ◌}
+use Rattle.std.specs.Prelude.{ℕ, All, List, flat_map, ℤ, pos, ◌+ℤ◌, ◌*ℤ◌, ◌≤ℤ◌}
 use Rattle.cal_moment.specs.declared.stamp.Stamp.{Stamp}
 use Rattle.cal_model.specs.declared.object.Component.{Component}
 use Rattle.cal_model.specs.declared.zone.ZoneTable.{ZoneTable}

@@ -1,4 +1,4 @@
-use Rattle.std.proofs.Common.{◌-◌, sym, rules, of_calls, arith, ℤ, FitsSigned, w64}
+use Rattle.std.proofs.Common.{◌-◌, sym, rules, of_calls, arith, FitsSigned, w64}
 use Rattle.std.specs.Prelude.{int_lt}
 use Rattle.std.proofs.lemmas.Fn.{always_returns_same}
 use Rattle.rrule_sets.specs.declared.governors.Governor.{Governor}

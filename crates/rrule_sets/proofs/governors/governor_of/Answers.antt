@@ -1,6 +1,5 @@
-use Rattle.std.proofs.Common.{[], sym, subst, ◌∙◌, length, rules, FitsSigned, w64, to_z-of_z, arith}
-use Rattle.std.proofs.lemmas.Int.{ints}
-use Rattle.std.proofs.lemmas.List.Elements.{All-cons, All-head, All-nil}
+use Rattle.std.proofs.Common.{[], sym, subst, ◌∙◌, length, rules, FitsSigned, w64, to_z-of_z}
+use Rattle.std.proofs.lemmas.List.Elements.{All-cons, All-nil}
 use Rattle.cal_model.specs.Instances.Starts.{own_start}
 use Rattle.override_merge.specs.Conversions.{IsConvertible, IsConvertibleExtent, tables_of}
 use Rattle.override_merge.proofs.StampLemmas.{own_start_convertible, convertible_some}

@@ -2,7 +2,6 @@ use Rattle.std.proofs.Common.{◌∙◌, sym, subst, map}
 use Rattle.std.specs.Prelude.{All, IfOk}
 use Rattle.cal_model.specs.declared.row.Row.{Row}
 use Rattle.cal_model.specs.Instances.Alignment.{reading_of}
-use Rattle.cal_model.specs.Instances.Rows as defined
 use Rattle.override_merge.specs.Conversions.{IsRowTime, tables_of}
 use Rattle.rrule_sets.specs.HeldGovernors.{HoldsGovernors}
 use Rattle.rrule_sets.proofs.GovernorLemmas.{days_name, days_near, governors_by-is}

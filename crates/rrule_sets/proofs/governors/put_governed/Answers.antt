@@ -1,4 +1,3 @@
-use Rattle.std.proofs.Common.{◌≡◌, ◌∙◌, length}
 use Rattle.std.proofs.lemmas.List.Elements.{All-tail}
 use Rattle.override_merge.specs.Conversions.{HasRowTimes}
 use Rattle.rrule_sets.proofs.AskedLemmas.{more}

@@ -1,10 +1,10 @@
-use Rattle.std.proofs.Common.{◌≡◌, ◌+◌, ◌∙◌, sym, ap, arith, length, map}
+use Rattle.std.proofs.Common.{ap, arith, length}
 use Rattle.std.specs.Prelude.{option_to_list}
 use Rattle.std.proofs.lemmas.List.Elements.{All-append, All-head, All-tail}
 use Rattle.cal_model.specs.Instances.Alignment.{reading_of}
 use Rattle.override_merge.specs.Conversions.{HasConvertibleRow, tables_of}
 use Rattle.override_merge.specs.Parts.{id_by}
-use Rattle.rrule_sets.specs.HeldGovernors.{IsMovable, governors_from, held}
+use Rattle.rrule_sets.specs.HeldGovernors.{IsMovable}
 use Rattle.rrule_sets.proofs.GovernorLemmas.{held_last, held_more}
 use Rattle.rrule_sets.proofs.governors.put_governors.Goals as goal
 

@@ -1,4 +1,4 @@
-use Rattle.std.proofs.Common.{ℤ, ◌-ℤ◌, rules, arith, FitsSigned, w32, w64, to_z-of_z}
+use Rattle.std.proofs.Common.{◌-ℤ◌, rules, arith, FitsSigned, w32, w64, to_z-of_z}
 use Rattle.std.proofs.lemmas.Int.{ints}
 use Rattle.rrule_sets.proofs.moved.digits_of_day.Goals as goal
 
