@@ -1,6 +1,6 @@
 //! Objects as single instances (RFC 4791, 9.6.5), worked out by hand.
 
-use crate::meetings::{WEEKLY, WINDOW, daily};
+use crate::meetings::{WEEKLY, WINDOW, daily, moving};
 use crate::selections::{Span, range, whole};
 use crate::showing::is_shown;
 use cal_base::{NoMemory, Octets};
@@ -415,5 +415,51 @@ const WRITTEN_SHOWN: &[u8] = b"BEGIN:VCALENDAR\r\n\
 fn front_of_a_line_stays(rt: HostRuntime) -> Result<(), Fail> {
     let span: Span = (b"20250203T000000Z", b"20250204T000000Z");
     assert!(rt; is_expanded(rt.alloc(), WRITTEN, WINDOW, span, false, WRITTEN_SHOWN)?);
+    Ok(())
+}
+
+/// The instances of the meeting that is moved from 17 March to 8 April: RANGE goes, and what it was moved
+/// by and how long it is held come from the override that governs each.
+const MOVING_SHOWN: &[u8] = b"BEGIN:VCALENDAR\r\n\
+    BEGIN:VEVENT\r\n\
+    UID:u\r\n\
+    RECURRENCE-ID;X-A=b:20250317T090000Z\r\n\
+    DTSTART:20250318T110000Z\r\n\
+    DTEND:20250318T123000Z\r\n\
+    END:VEVENT\r\n\
+    BEGIN:VEVENT\r\n\
+    UID:u\r\n\
+    RECURRENCE-ID:20250324T090000Z\r\n\
+    DTSTART:20250324T150000Z\r\n\
+    DTEND:20250324T160000Z\r\n\
+    END:VEVENT\r\n\
+    BEGIN:VEVENT\r\n\
+    UID:u\r\n\
+    RECURRENCE-ID;X-A=b:20250331T090000Z\r\n\
+    DTSTART:20250401T110000Z\r\n\
+    DTEND:20250401T123000Z\r\n\
+    END:VEVENT\r\n\
+    BEGIN:VEVENT\r\n\
+    UID:u\r\n\
+    recurrence-id:20250407T090000Z\r\n\
+    DTSTART:20250406T080000Z\r\n\
+    DTEND:20250406T081500Z\r\n\
+    END:VEVENT\r\n\
+    END:VCALENDAR\r\n";
+
+#[test]
+fn moved_instances_are_expanded(rt: HostRuntime) -> Result<(), Fail> {
+    let text = moving(rt.alloc(), [true, true, true])?;
+    let span: Span = (b"20250317T000000Z", b"20250409T000000Z");
+    assert!(rt;
+        is_expanded(
+            rt.alloc(),
+            text.as_slice(),
+            WINDOW + 1,
+            span,
+            false,
+            MOVING_SHOWN
+        )?
+    );
     Ok(())
 }

@@ -143,7 +143,7 @@ fn faults_have_places(rt: HostRuntime) {
 }
 
 /// Calendars that are not stored as objects.
-const NOT_STORED: [Case; 11] = [
+const NOT_STORED: [Case; 10] = [
     // METHOD of the calendar
     (
         b"BEGIN:VCALENDAR\nMETHOD:REQUEST\nBEGIN:VEVENT\nUID:a\nDTSTART:20250101\nEND:VEVENT\nEND:VCALENDAR\n",
@@ -204,12 +204,6 @@ const NOT_STORED: [Case; 11] = [
         b"EXRULE",
         0,
     ),
-    // all later instances
-    (
-        b"BEGIN:VCALENDAR\nBEGIN:VEVENT\nUID:a\nDTSTART:20250101\nEND:VEVENT\nBEGIN:VEVENT\nUID:a\nRECURRENCE-ID;Range=thisandfuture:20250102\nEND:VEVENT\nEND:VCALENDAR\n",
-        b"all later",
-        0,
-    ),
 ];
 
 #[test]
@@ -220,7 +214,7 @@ fn what_is_not_stored_is_told(rt: HostRuntime) {
 }
 
 /// Texts with two faults, and the one that is told.
-const ORDERS: [Case; 18] = [
+const ORDERS: [Case; 17] = [
     // a line comes before the nesting
     (
         b"BEGIN:VCALENDAR\nEND:VEVENT\nX\nEND:VCALENDAR\n",
@@ -291,16 +285,10 @@ const ORDERS: [Case; 18] = [
         b"no zone",
         0,
     ),
-    // an EXRULE comes before all later instances
+    // an EXRULE comes before a date outside
     (
-        b"BEGIN:VCALENDAR\nBEGIN:VEVENT\nUID:a\nRECURRENCE-ID;RANGE=THISANDFUTURE:20250102\nEXRULE:FREQ=DAILY\nEND:VEVENT\nEND:VCALENDAR\n",
+        b"BEGIN:VCALENDAR\nBEGIN:VEVENT\nUID:a\nRECURRENCE-ID;RANGE=THISANDFUTURE:15000102\nEXRULE:FREQ=DAILY\nEND:VEVENT\nEND:VCALENDAR\n",
         b"EXRULE",
-        0,
-    ),
-    // all later instances come before a date outside
-    (
-        b"BEGIN:VCALENDAR\nBEGIN:VEVENT\nUID:a\nRECURRENCE-ID;RANGE=THISANDFUTURE:15000102\nEND:VEVENT\nEND:VCALENDAR\n",
-        b"all later",
         0,
     ),
     // the first line comes first
@@ -331,7 +319,7 @@ fn the_first_of_two_faults_is_told(rt: HostRuntime) {
 }
 
 /// Objects with a date outside those that are served: their kind, and the day of the date that is told, from 1970.
-const OUTSIDE: [(&[u8], Kind, i64); 7] = [
+const OUTSIDE: [(&[u8], Kind, i64); 8] = [
     // a DATE that is too early
     (
         b"BEGIN:VCALENDAR\nBEGIN:VEVENT\nUID:a\nDTSTART:15991231\nEND:VEVENT\nEND:VCALENDAR\n",
@@ -372,6 +360,12 @@ const OUTSIDE: [(&[u8], Kind, i64); 7] = [
         b"BEGIN:VCALENDAR\nBEGIN:VEVENT\nUID:a\nDTSTART:20250101\nBEGIN:VALARM\nTRIGGER;VALUE=DATE-TIME:23000101T000000Z\nEND:VALARM\nEND:VEVENT\nEND:VCALENDAR\n",
         Kind::Event,
         120530,
+    ),
+    // that of an override that moves all later instances
+    (
+        b"BEGIN:VCALENDAR\nBEGIN:VEVENT\nUID:a\nRECURRENCE-ID;RANGE=THISANDFUTURE:15000102\nEND:VEVENT\nEND:VCALENDAR\n",
+        Kind::Event,
+        -171663,
     ),
 ];
 

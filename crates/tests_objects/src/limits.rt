@@ -1,6 +1,6 @@
 //! Overrides and busy periods limited to a range (RFC 4791, 9.6.6 and 9.6.7), worked out by hand.
 
-use crate::meetings::{WINDOW, daily};
+use crate::meetings::{WINDOW, daily, moving};
 use crate::selections::{Span, busy, range, whole};
 use crate::showing::is_shown;
 use cal_base::{NoMemory, Octets};
@@ -37,6 +37,70 @@ fn overrides_are_limited(rt: HostRuntime) -> Result<(), Fail> {
             rt.alloc(),
             text.as_slice(),
             WINDOW,
+            select,
+            false,
+            wanted.as_slice(),
+        )?;
+        assert!(rt; so, "range {place}");
+    }
+    Ok(())
+}
+
+/// Ranges, and which overrides stay of the meeting that is moved from two of them on.
+const MOVED: [(Span, [bool; 3]); 9] = [
+    // the times of the overrides themselves, and of the instances in whose places they stand
+    (
+        (b"20250318T110000Z", b"20250318T110001Z"),
+        [true, false, false],
+    ),
+    (
+        (b"20250317T095959Z", b"20250317T100000Z"),
+        [true, false, false],
+    ),
+    (
+        (b"20250324T090000Z", b"20250324T100000Z"),
+        [false, true, false],
+    ),
+    (
+        (b"20250407T090000Z", b"20250407T100000Z"),
+        [false, false, true],
+    ),
+    // an instance that is moved, where it is moved to
+    (
+        (b"20250401T122959Z", b"20250402T000000Z"),
+        [true, false, false],
+    ),
+    (
+        (b"20250413T080000Z", b"20250413T081500Z"),
+        [false, false, true],
+    ),
+    // where it is moved from
+    (
+        (b"20250331T090000Z", b"20250331T100000Z"),
+        [false, false, false],
+    ),
+    // where the first would move the 24th's and that of 7 April
+    (
+        (b"20250325T110000Z", b"20250325T123000Z"),
+        [false, false, false],
+    ),
+    (
+        (b"20250408T110000Z", b"20250408T123000Z"),
+        [false, false, false],
+    ),
+];
+
+#[test]
+fn moving_overrides_are_limited(rt: HostRuntime) -> Result<(), Fail> {
+    let text = moving(rt.alloc(), [true, true, true])?;
+    for (place, case) in MOVED.iter().enumerate() {
+        let (span, stays) = *case;
+        let wanted = moving(rt.alloc(), stays)?;
+        let select = whole(Recur::Limit(range(span)));
+        let so = is_shown(
+            rt.alloc(),
+            text.as_slice(),
+            WINDOW + 1,
             select,
             false,
             wanted.as_slice(),

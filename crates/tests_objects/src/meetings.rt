@@ -103,3 +103,47 @@ pub const WEEKLY: &[u8] = b"BEGIN:VCALENDAR\r\n\
     SUMMARY:Plan moved\r\n\
     END:VEVENT\r\n\
     END:VCALENDAR\r\n";
+
+/// A weekly meeting from nine to ten, seven times from 3 March 2025 on, up to its overrides.
+const MOVING: &[u8] = b"BEGIN:VCALENDAR\r\n\
+    BEGIN:VEVENT\r\n\
+    UID:u\r\n\
+    DTSTART:20250303T090000Z\r\n\
+    DTEND:20250303T100000Z\r\n\
+    RRULE:FREQ=WEEKLY;COUNT=7\r\n\
+    END:VEVENT\r\n";
+
+/// Its overrides. From the 17th on it is held a day later, from eleven to half past twelve; the 24th's
+/// is held at three that day; from 7 April on it is held a day earlier, for a quarter from eight on.
+const MOVING_OVERRIDES: [&[u8]; 3] = [
+    b"BEGIN:VEVENT\r\n\
+    UID:u\r\n\
+    RECURRENCE-ID;X-A=b;RANGE=THISANDFUTURE:20250317T090000Z\r\n\
+    DTSTART:20250318T110000Z\r\n\
+    DTEND:20250318T123000Z\r\n\
+    END:VEVENT\r\n",
+    b"BEGIN:VEVENT\r\n\
+    UID:u\r\n\
+    RECURRENCE-ID;RANGE=THISONLY:20250324T090000Z\r\n\
+    DTSTART:20250324T150000Z\r\n\
+    DTEND:20250324T160000Z\r\n\
+    END:VEVENT\r\n",
+    b"BEGIN:VEVENT\r\n\
+    UID:u\r\n\
+    recurrence-id;range=\"ThisAndFuture\":20250407T090000Z\r\n\
+    DTSTART:20250406T080000Z\r\n\
+    DURATION:PT15M\r\n\
+    END:VEVENT\r\n",
+];
+
+/// That meeting, with those of its overrides that stay.
+pub fn moving(alloc: Global, stays: [bool; 3]) -> Result<Octets, NoMemory> {
+    let mut text = Octets::of(alloc, MOVING)?;
+    for (event, stays) in MOVING_OVERRIDES.iter().zip(stays.iter()) {
+        if *stays {
+            text.extend_from_slice(event)?;
+        }
+    }
+    text.extend_from_slice(b"END:VCALENDAR\r\n")?;
+    Ok(text)
+}

@@ -107,6 +107,110 @@ fn calendars_are_read(rt: HostRuntime) {
     }
 }
 
+/// Objects with overrides, and which of their components move all later instances (RFC 5545, 3.2.13).
+const LATER: [(&[u8], &[bool]); 15] = [
+    // both words without ASCII case, over dates
+    (
+        b"BEGIN:VCALENDAR\nBEGIN:VEVENT\nUID:a\nDTSTART:20250101\nEND:VEVENT\nBEGIN:VEVENT\nUID:a\nRECURRENCE-ID;Range=thisandFuture:20250102\nDTSTART:20250103\nEND:VEVENT\nEND:VCALENDAR\n",
+        &[false, true],
+    ),
+    // floating times
+    (
+        b"BEGIN:VCALENDAR\nBEGIN:VEVENT\nUID:a\nDTSTART:20250101T090000\nEND:VEVENT\nBEGIN:VEVENT\nUID:a\nRECURRENCE-ID;RANGE=THISANDFUTURE:20250102T090000\nDTSTART:20250102T100000\nEND:VEVENT\nEND:VCALENDAR\n",
+        &[false, true],
+    ),
+    // instants, in a zone beside UTC
+    (
+        b"BEGIN:VCALENDAR\nBEGIN:VTIMEZONE\nTZID:Z\nBEGIN:STANDARD\nDTSTART:20200101T000000\nTZOFFSETFROM:+0100\nTZOFFSETTO:+0100\nEND:STANDARD\nEND:VTIMEZONE\nBEGIN:VEVENT\nUID:a\nDTSTART:20250101T090000Z\nEND:VEVENT\nBEGIN:VEVENT\nUID:a\nRECURRENCE-ID;RANGE=THISANDFUTURE:20250102T090000Z\nDTSTART;TZID=Z:20250102T120000\nEND:VEVENT\nEND:VCALENDAR\n",
+        &[false, true],
+    ),
+    // an id that is a day, beside instants
+    (
+        b"BEGIN:VCALENDAR\nBEGIN:VEVENT\nUID:a\nDTSTART:20250101T090000Z\nEND:VEVENT\nBEGIN:VEVENT\nUID:a\nRECURRENCE-ID;VALUE=DATE;RANGE=THISANDFUTURE:20250102\nDTSTART:20250102T100000Z\nEND:VEVENT\nEND:VCALENDAR\n",
+        &[false, true],
+    ),
+    // two, and one between them that moves itself alone
+    (
+        b"BEGIN:VCALENDAR\nBEGIN:VEVENT\nUID:a\nDTSTART:20250101\nEND:VEVENT\nBEGIN:VEVENT\nUID:a\nRECURRENCE-ID;RANGE=THISANDFUTURE:20250102\nDTSTART:20250103\nEND:VEVENT\nBEGIN:VEVENT\nUID:a\nRECURRENCE-ID:20250103\nDTSTART:20250104\nEND:VEVENT\nBEGIN:VEVENT\nUID:a\nRECURRENCE-ID;RANGE=THISANDFUTURE:20250104\nDTSTART:20250106\nEND:VEVENT\nEND:VCALENDAR\n",
+        &[false, true, false, true],
+    ),
+    // any of several values, and a quoted one
+    (
+        b"BEGIN:VCALENDAR\nBEGIN:VEVENT\nUID:a\nDTSTART:20250101\nEND:VEVENT\nBEGIN:VEVENT\nUID:a\nRECURRENCE-ID;RANGE=X-ALL,THISANDFUTURE:20250102\nDTSTART:20250103\nEND:VEVENT\nBEGIN:VEVENT\nUID:a\nRECURRENCE-ID;RANGE=\"THISANDFUTURE\":20250103\nDTSTART:20250104\nEND:VEVENT\nEND:VCALENDAR\n",
+        &[false, true, true],
+    ),
+    // the parameter behind one of its name
+    (
+        b"BEGIN:VCALENDAR\nBEGIN:VEVENT\nUID:a\nDTSTART:20250101\nEND:VEVENT\nBEGIN:VEVENT\nUID:a\nRECURRENCE-ID;RANGE=X-ALL;RANGE=THISANDFUTURE:20250102\nDTSTART:20250103\nEND:VEVENT\nEND:VCALENDAR\n",
+        &[false, true],
+    ),
+    // other values are passed by, and a part of the word
+    (
+        b"BEGIN:VCALENDAR\nBEGIN:VEVENT\nUID:a\nDTSTART:20250101\nEND:VEVENT\nBEGIN:VEVENT\nUID:a\nRECURRENCE-ID;RANGE=THISANDPRIOR:20250102\nDTSTART:20250103\nEND:VEVENT\nBEGIN:VEVENT\nUID:a\nRECURRENCE-ID;RANGE=THISANDFUTURES:20250103\nDTSTART:20250104\nEND:VEVENT\nBEGIN:VEVENT\nUID:a\nRECURRENCE-ID;RANGE=:20250104\nDTSTART:20250105\nEND:VEVENT\nEND:VCALENDAR\n",
+        &[false, false, false, false],
+    ),
+    // parameters of other names, and of other lines
+    (
+        b"BEGIN:VCALENDAR\nBEGIN:VEVENT\nUID:a\nDTSTART;RANGE=THISANDFUTURE:20250101\nEND:VEVENT\nBEGIN:VEVENT\nUID:a\nRECURRENCE-ID;X-RANGE=THISANDFUTURE:20250102\nDTSTART;RANGE=THISANDFUTURE:20250103\nEND:VEVENT\nEND:VCALENDAR\n",
+        &[false, false],
+    ),
+    // no DTSTART
+    (
+        b"BEGIN:VCALENDAR\nBEGIN:VEVENT\nUID:a\nDTSTART:20250101\nEND:VEVENT\nBEGIN:VEVENT\nUID:a\nRECURRENCE-ID;RANGE=THISANDFUTURE:20250102\nSUMMARY:b\nEND:VEVENT\nEND:VCALENDAR\n",
+        &[false, false],
+    ),
+    // DUE alone
+    (
+        b"BEGIN:VCALENDAR\nBEGIN:VTODO\nUID:a\nDTSTART:20250101T090000Z\nEND:VTODO\nBEGIN:VTODO\nUID:a\nRECURRENCE-ID;RANGE=THISANDFUTURE:20250102T090000Z\nDUE:20250103T090000Z\nEND:VTODO\nEND:VCALENDAR\n",
+        &[false, false],
+    ),
+    // a DTSTART of another kind: a day, a floating time, and an instant
+    (
+        b"BEGIN:VCALENDAR\nBEGIN:VEVENT\nUID:a\nDTSTART:20250101T090000Z\nEND:VEVENT\nBEGIN:VEVENT\nUID:a\nRECURRENCE-ID;RANGE=THISANDFUTURE:20250102T090000Z\nDTSTART:20250102\nEND:VEVENT\nBEGIN:VEVENT\nUID:a\nRECURRENCE-ID;RANGE=THISANDFUTURE:20250103T090000Z\nDTSTART:20250103T100000\nEND:VEVENT\nBEGIN:VEVENT\nUID:a\nRECURRENCE-ID;RANGE=THISANDFUTURE:20250104T090000Z\nDTSTART:20250104T100000Z\nEND:VEVENT\nEND:VCALENDAR\n",
+        &[false, false, false, true],
+    ),
+    // ids beside the DUE of a to-do that has no DTSTART
+    (
+        b"BEGIN:VCALENDAR\nBEGIN:VTODO\nUID:a\nDUE:20250101T090000Z\nEND:VTODO\nBEGIN:VTODO\nUID:a\nRECURRENCE-ID;RANGE=THISANDFUTURE:20250102T090000Z\nDTSTART:20250102T100000Z\nEND:VTODO\nBEGIN:VTODO\nUID:a\nRECURRENCE-ID;RANGE=THISANDFUTURE:20250103T090000Z\nDTSTART:20250103\nEND:VTODO\nEND:VCALENDAR\n",
+        &[false, true, false],
+    ),
+    // no master: ids are of the kind of the first
+    (
+        b"BEGIN:VCALENDAR\nBEGIN:VEVENT\nUID:a\nRECURRENCE-ID:20250102\nDTSTART:20250102\nEND:VEVENT\nBEGIN:VEVENT\nUID:a\nRECURRENCE-ID;RANGE=THISANDFUTURE:20250103T090000Z\nDTSTART:20250103T100000Z\nEND:VEVENT\nBEGIN:VEVENT\nUID:a\nRECURRENCE-ID;RANGE=THISANDFUTURE:20250104\nDTSTART:20250105\nEND:VEVENT\nEND:VCALENDAR\n",
+        &[false, false, true],
+    ),
+    // the master behind them: ids are of its kind
+    (
+        b"BEGIN:VCALENDAR\nBEGIN:VEVENT\nUID:a\nRECURRENCE-ID;RANGE=THISANDFUTURE:20250102\nDTSTART:20250102\nEND:VEVENT\nBEGIN:VEVENT\nUID:a\nRECURRENCE-ID;RANGE=THISANDFUTURE:20250103T090000Z\nDTSTART:20250103T100000Z\nEND:VEVENT\nBEGIN:VEVENT\nUID:a\nDTSTART:20250101T090000Z\nEND:VEVENT\nEND:VCALENDAR\n",
+        &[false, true, false],
+    ),
+];
+
+/// Whether a text is read as an object of whose components just these move all later instances.
+fn moves_later(alloc: Global, text: &[u8], wanted: &[bool]) -> bool {
+    match read(alloc, text) {
+        Some(object) => are_moving(object.components.as_slice(), wanted),
+        None => false,
+    }
+}
+
+/// Whether just these of some components move all later instances.
+fn are_moving(components: &[Component], wanted: &[bool]) -> bool {
+    components.len() == wanted.len()
+        && components
+            .iter()
+            .zip(wanted)
+            .all(|(component, moves)| component.future == *moves)
+}
+
+#[test]
+fn overrides_move_later_instances(rt: HostRuntime) {
+    for (place, case) in LATER.iter().enumerate() {
+        let (text, wanted) = *case;
+        assert!(rt; moves_later(rt.alloc(), text, wanted), "object {place}");
+    }
+}
+
 /// A weekly meeting in Vienna that ends by New York's clock, with two alarms and one instance moved.
 const WORK: &[u8] = b"BEGIN:VCALENDAR\n\
     PRODID:-//Mozilla.org/NONSGML Mozilla Calendar V1.1//EN\n\
