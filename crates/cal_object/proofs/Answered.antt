@@ -8,7 +8,3 @@ ok_moved (Err error) P Q move holds = tt
 pub err_moved : {X E : Type 0} (answer : Result X E) (P Q : E → Type 0) → ((error : E) → P error → Q error) → IfErr answer P → IfErr answer Q
 err_moved (Ok value) P Q move holds = tt
 err_moved (Err error) P Q move holds = move error holds
-
-pub ok_both : {X E : Type 0} (answer : Result X E) (P Q R : X → Type 0) → ((value : X) → P value → Q value → R value) → IfOk answer P → IfOk answer Q → IfOk answer R
-ok_both (Ok value) P Q R move first second = move value first second
-ok_both (Err error) P Q R move first second = tt

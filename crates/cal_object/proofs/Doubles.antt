@@ -1,6 +1,6 @@
 -- Numbers that stand twice: the numbers of a list in order, each once, are fewer where one does.
 use Rattle.std.proofs.Common.{◌≡◌, ℕ, suc, ◌<◌, ◌≤◌, List, [], ◌∷◌, length, refl, sym, ap, ◌∙◌, arith, Bool, true, false, ℤ, ◌<ℤ◌, inl, inr, nat_lt}
-use Rattle.std.specs.Prelude.{All, AllPairs, Contains, ◌||◌, if◌then◌else◌, int_lt}
+use Rattle.std.specs.Prelude.{AllPairs, Contains, if◌then◌else◌, int_lt}
 use Rattle.std.specs.List.{list_any}
 use Rattle.std.proofs.lemmas.Int.{ints}
 use Rattle.std.proofs.lemmas.Bool.{cases_Bool}

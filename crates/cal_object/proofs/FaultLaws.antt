@@ -1,6 +1,6 @@
 -- The first fault of a table, and what a reading is by the faults that are there.
-use Rattle.std.proofs.Common.{◌≡◌, ℕ, List, [], ◌∷◌, ◌++◌, refl, sym, ap, ◌∙◌, subst, Bool, true, false}
-use Rattle.std.specs.Prelude.{Option, Some, None, Result, Ok, Err, option_map, get_or, slice_get, codes, if◌then◌else◌}
+use Rattle.std.proofs.Common.{◌≡◌, ℕ, List, [], ◌∷◌, ◌++◌, refl, sym, ap, ◌∙◌, subst, true, false}
+use Rattle.std.specs.Prelude.{Option, Some, None, Result, Ok, Err, option_map, get_or, codes}
 use Rattle.std.specs.Prelude.{is_ok}
 use Rattle.std.specs.Result.{result_unwrap_or}
 use Rattle.std.proofs.lemmas.Bool.{false≢true}
@@ -8,7 +8,7 @@ use Rattle.std.proofs.lemmas.Option.{none-some, same_Some}
 use Rattle.cal_base.specs.declared.line.Line.{Line}
 use Rattle.cal_base.specs.declared.line.Node.{Node}
 use Rattle.cal_base.specs.Lines.ContentLines.{Placed, placed_lines, line_fault, lines_of, read_lines}
-use Rattle.cal_base.specs.Lines.ComponentTrees.{NestingFault, nesting_fault, tree_of, or_else, first}
+use Rattle.cal_base.specs.Lines.ComponentTrees.{NestingFault, nesting_fault, tree_of, or_else}
 use Rattle.cal_moment.specs.declared.stamp.Stamp.{Stamp}
 use Rattle.cal_model.specs.declared.object.NotResource.{NotResource}
 use Rattle.cal_model.specs.declared.object.Object.{Object}
@@ -17,7 +17,7 @@ use Rattle.cal_model.specs.Recurrence.RecurrenceSet.{every_moment}
 use Rattle.cal_model.specs.Objects.ComponentLines.{is_named, children_of}
 use Rattle.cal_model.specs.Objects.LineValues.{lines_in, own_fault}
 use Rattle.cal_model.specs.Objects.ObjectFaults.{Child, child_places, children_in, kinds_among, component_fault, resource_fault, stamp_outside}
-use Rattle.cal_model.specs.Objects.ObjectReading.{Unread, not_calendar, not_resource, date_outside, place_at, line_of_fault, first_there, calendar_faults, object_in, object_faults, read_tree, read_zone_tree, read_lines_by, read_by}
+use Rattle.cal_model.specs.Objects.ObjectReading.{Unread, not_calendar, not_resource, date_outside, place_at, line_of_fault, first_there, calendar_faults, object_in, settled, object_faults, read_tree, read_lines_by, read_by}
 use Rattle.cal_model.specs.Objects.ZoneReading.{zones_of, zone_names}
 use Rattle.cal_model.proofs.Objects.ReadingSteps.{unless_line, unless_nested, of_tree}
 use Rattle.cal_object.specs.declared.fault.ReadFault.{ReadFault}
@@ -132,24 +132,24 @@ abbrev unless : {X : Type 0} → Option Unread → Result X Unread → Result X 
 unless found reading = elim found [ Some fault ↦ Err fault | None ↦ reading ]
 
 pub tree_good : (placed : List Placed) (calendar : Node) (object : Object) → first_there (calendar_faults every_moment placed calendar) ≡ None → object ≡ object_in every_moment placed calendar →
-    first_there (object_faults placed calendar object) ≡ None → read_tree every_moment placed calendar ≡ Ok object
+    first_there (object_faults placed calendar object) ≡ None → read_tree every_moment placed calendar ≡ Ok (settled object)
 tree_good placed calendar object lines is none =
     let whole = object_in every_moment placed calendar in
     let rest : first_there (object_faults placed calendar whole) ≡ None = subst (λ o. first_there (object_faults placed calendar o) ≡ None) is none in
     let all : first_there (calendar_faults every_moment placed calendar ++ object_faults placed calendar whole) ≡ None =
     first_there-append (calendar_faults every_moment placed calendar) (object_faults placed calendar whole) ∙ ap (λ found. or_else found (first_there (object_faults placed calendar whole))) lines ∙ rest in
-    ap (λ found. unless found (Ok whole)) all ∙ ap Ok (sym is)
+    ap (λ found. unless found (Ok (settled whole))) all ∙ ap (λ o. Ok (settled o)) (sym is)
 
 pub tree_told_before : (placed : List Placed) (calendar : Node) (unread : Unread) → first_there (calendar_faults every_moment placed calendar) ≡ Some unread → read_tree every_moment placed calendar ≡ Err unread
 tree_told_before placed calendar unread there =
     let whole = object_in every_moment placed calendar in
-    ap (λ found. unless found (Ok whole)) (earlier (calendar_faults every_moment placed calendar) (object_faults placed calendar whole) unread there)
+    ap (λ found. unless found (Ok (settled whole))) (earlier (calendar_faults every_moment placed calendar) (object_faults placed calendar whole) unread there)
 
 pub tree_told_behind : (placed : List Placed) (calendar : Node) (unread : Unread) → first_there (calendar_faults every_moment placed calendar) ≡ None →
     first_there (object_faults placed calendar (object_in every_moment placed calendar)) ≡ Some unread → read_tree every_moment placed calendar ≡ Err unread
 tree_told_behind placed calendar unread none there =
     let whole = object_in every_moment placed calendar in
-    ap (λ found. unless found (Ok whole))
+    ap (λ found. unless found (Ok (settled whole)))
     (first_there-append (calendar_faults every_moment placed calendar) (object_faults placed calendar whole) ∙ ap (λ found. or_else found (first_there (object_faults placed calendar whole))) none ∙ there)
 
 -- Texts

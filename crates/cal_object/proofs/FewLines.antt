@@ -1,5 +1,5 @@
 -- A text has no more lines than octets, and a tree no more components in its outermost one than lines.
-use Rattle.std.proofs.Common.{◌≡◌, ℕ, suc, ◌+◌, ◌<◌, ◌≤◌, ◌^◌, List, [], ◌∷◌, ◌++◌, length, refl, sym, ap, ◌∙◌, subst, arith, length-append, Bool, true, false, inl, inr}
+use Rattle.std.proofs.Common.{◌≡◌, ℕ, suc, ◌+◌, ◌<◌, ◌≤◌, List, [], ◌∷◌, ◌++◌, length, refl, sym, ap, subst, arith, length-append, Bool, inl, inr}
 use Rattle.std.specs.Prelude.{map, filter, filter_map, Option, Some, None, if◌then◌else◌, ◌==◌}
 use Rattle.std.specs.List.{cons_option}
 use Rattle.std.proofs.lemmas.Bool.{cases_Bool}
@@ -10,7 +10,7 @@ use Rattle.cal_base.specs.declared.line.Node.TheOpen.{Node-F}
 use Rattle.cal_base.specs.declared.line.Node.TheViews.{out-roll-Node}
 use Rattle.cal_base.specs.Texts.Octets.{line_feed}
 use Rattle.cal_base.specs.Lines.ContentLines.{Physical, Placed, pieces, onto_first, physical_from, physical_lines, continues, joined, groups, unfolded, logical_lines, placed_line, placed_lines}
-use Rattle.cal_base.specs.Lines.ComponentTrees.{component_name, component}
+use Rattle.cal_base.specs.Lines.ComponentTrees.{component_name}
 use Rattle.cal_base.specs.Lines.LineGrammar.{IsComponent, whole, IsBody, empty, own_line, own_component}
 use Rattle.cal_model.specs.Objects.ComponentLines.{children_of}
 use Rattle.cal_model.specs.Objects.LineValues.{lines_in}

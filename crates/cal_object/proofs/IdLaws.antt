@@ -1,6 +1,6 @@
 -- The RECURRENCE-IDs of an object beside its start, component by component, and as numbers.
 use Rattle.std.proofs.Common.{◌≡◌, List, [], ◌∷◌, ◌++◌, refl, sym, ap, ◌∙◌, map, append_assoc, Bool, true, false, inl, inr, ℤ}
-use Rattle.std.specs.Prelude.{◌||◌, filter, filter_map, flat_map, option_to_list, Option, Some, None}
+use Rattle.std.specs.Prelude.{◌||◌, filter, filter_map, Option, Some, None}
 use Rattle.std.specs.List.{list_any}
 use Rattle.std.proofs.lemmas.Bool.{cases_Bool}
 use Rattle.cal_moment.specs.declared.stamp.Stamp.{Stamp}
@@ -11,7 +11,7 @@ use Rattle.cal_model.specs.Words.Integers.{same_int}
 use Rattle.cal_model.specs.Instances.Alignment.{Aligned, at, on_day, align}
 use Rattle.cal_model.specs.Instances.Rows.{ids_start}
 use Rattle.cal_model.specs.Objects.ObjectFaults.{can_align, same_aligned, has_repeat, aligned_ids}
-use Rattle.cal_object.specs.Identifiers.{ids_of_component, ids_beside, values_in, days_in, has_double}
+use Rattle.cal_object.specs.Identifiers.{ids_beside, values_in, days_in, has_double}
 
 -- Numbers
 

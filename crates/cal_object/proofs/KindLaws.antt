@@ -1,12 +1,12 @@
 -- Where the children of a calendar stand in the text does not matter to the object that they make up, nor to what is not stored; and the place of a child that cannot
 -- stand is that of its number.
-use Rattle.std.proofs.Common.{◌≡◌, ℕ, suc, ◌+◌, tests, rules, List, [], ◌∷◌, ◌++◌, refl, sym, ap, ◌∙◌, map, length, Bool, true, false, inl, inr}
-use Rattle.std.specs.Prelude.{not, ◌&&◌, ◌||◌, filter_map, filter, find, option_to_list, Option, Some, None, is_some, option_map, get_or, if◌then◌else◌, codes, nat_lt}
+use Rattle.std.proofs.Common.{◌≡◌, ℕ, suc, ◌+◌, tests, rules, List, [], ◌∷◌, ◌++◌, refl, ap, ◌∙◌, map, length, Bool, true, false, inl, inr}
+use Rattle.std.specs.Prelude.{not, ◌||◌, filter_map, filter, find, option_to_list, Option, Some, None, is_some, option_map, get_or, if◌then◌else◌, codes}
 use Rattle.std.specs.List.{list_any, enumerate_from}
 use Rattle.std.proofs.lemmas.Bool.{cases_Bool}
 use Rattle.cal_base.specs.declared.line.Line.{Line}
 use Rattle.cal_base.specs.declared.line.Node.{Node}
-use Rattle.cal_base.specs.Lines.ComponentTrees.{first, or_else}
+use Rattle.cal_base.specs.Lines.ComponentTrees.{or_else}
 use Rattle.cal_base.specs.Lines.ContentLines.{Placed}
 use Rattle.cal_model.specs.declared.object.Component.{Component}
 use Rattle.cal_model.specs.declared.object.Kind.{Kind}
@@ -14,13 +14,13 @@ use Rattle.cal_model.specs.declared.object.NotResource.{NotResource}
 use Rattle.cal_model.specs.declared.object.Object.{Object}
 use Rattle.cal_model.specs.declared.zone.ZoneTable.{ZoneTable}
 use Rattle.cal_model.specs.Words.Lists.{is_empty}
-use Rattle.cal_model.specs.Instances.Rows.{Numbered, numbered_from, has_id, masters}
+use Rattle.cal_model.specs.Instances.Rows.{Numbered, numbered_from, has_id}
 use Rattle.cal_model.specs.Objects.ComponentLines.{has, lines_of, name_of, children_of, component_kind}
 use Rattle.cal_model.specs.Objects.ComponentReading.{component_of}
 use Rattle.cal_model.specs.Objects.ObjectFaults as spec
-use Rattle.cal_model.specs.Objects.ObjectFaults.{Child, child_at, child_places, children_in, kinds_among, component_of_child, are_different, some_has, lacks_zone, has_future, has_component_fault, component_fault, resource_faults, resource_fault, object_of}
+use Rattle.cal_model.specs.Objects.ObjectFaults.{Child, child_at, child_places, children_in, kinds_among, component_of_child, are_different, some_has, lacks_zone, has_component_fault, component_fault, resource_faults, resource_fault, object_of}
 use Rattle.cal_model.specs.Objects.ZoneReading.{zone_names}
-use Rattle.cal_object.specs.KindNodes.{is_kind, kind_nodes, kind_has, some_kind, lacks_uid, uid_of, kind_uid, names_of, uids_of, component_at, components_from, object_with, first_bad_component, is_master, masters_among, row_that_holds, plain_rows, other_rows, resource_rows}
+use Rattle.cal_object.specs.KindNodes.{is_kind, some_kind, lacks_uid, names_of, uids_of, component_at, components_from, object_with, first_bad_component, masters_among, row_that_holds, plain_rows, other_rows, resource_rows}
 
 module _ (places : List ℕ) where
   -- the children from a number on that are of the four kinds
@@ -130,7 +130,6 @@ rows_are object placed =
       masters_are 0 object.components,
       any_is places (lacks_zone zones) 0 nodes,
       any_is places (has (codes "EXRULE")) 0 nodes,
-      any_is places has_future 0 nodes,
     ) refl
 
 pub resource_fault-children : (object : Object) (placed : List Placed) →

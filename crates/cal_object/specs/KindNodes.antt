@@ -1,5 +1,5 @@
 -- The components of the four kinds among those of a calendar, and what is asked of all of them together. Where they stand in the text does not matter here.
-use Rattle.std.specs.Prelude.{ℕ, ◌+◌, Bool, true, false, not, ◌&&◌, ◌||◌, nat_lt, if◌then◌else◌, List, [], ◌∷◌, ◌++◌, map, filter, filter_map, length, option_to_list, bytes_eq, Option, Some, None, is_some, option_map, unwrap_or, codes}
+use Rattle.std.specs.Prelude.{ℕ, ◌+◌, Bool, false, not, ◌&&◌, nat_lt, if◌then◌else◌, List, [], ◌∷◌, ◌++◌, map, filter, filter_map, length, option_to_list, bytes_eq, Option, Some, None, is_some, option_map, unwrap_or, codes}
 use Rattle.std.specs.List.{list_any}
 use Rattle.cal_base.specs.declared.line.Line.{Line}
 use Rattle.cal_base.specs.declared.line.Node.{Node}
@@ -9,14 +9,13 @@ use Rattle.cal_model.specs.declared.object.Component.{Component}
 use Rattle.cal_model.specs.declared.object.Kind.{Kind}
 use Rattle.cal_model.specs.declared.object.Kind.TheVariants.{Event}
 use Rattle.cal_model.specs.declared.object.NotResource.{NotResource}
-use Rattle.cal_model.specs.declared.object.NotResource.TheVariants.{Method, NoComponent, MixedKinds, NoUid, MixedUids, TwoMasters, SameRecurrenceId, ZoneMissing, ExRule, ThisAndFuture}
+use Rattle.cal_model.specs.declared.object.NotResource.TheVariants.{Method, NoComponent, MixedKinds, NoUid, MixedUids, TwoMasters, SameRecurrenceId, ZoneMissing, ExRule}
 use Rattle.cal_model.specs.declared.object.Object.{Object}
 use Rattle.cal_model.specs.declared.zone.ZoneTable.{ZoneTable}
-use Rattle.cal_model.specs.Words.Lists.{is_empty}
 use Rattle.cal_model.specs.Objects.ComponentLines.{has, lines_of, name_of, children_of, component_kind}
 use Rattle.cal_model.specs.Objects.ComponentReading.{component_of}
 use Rattle.cal_model.specs.Objects.LineValues.{value_at}
-use Rattle.cal_model.specs.Objects.ObjectFaults.{are_different, has_repeat, aligned_ids, lacks_zone, has_future, has_component_fault}
+use Rattle.cal_model.specs.Objects.ObjectFaults.{are_different, has_repeat, aligned_ids, lacks_zone, has_component_fault}
 use Rattle.cal_model.specs.Objects.ZoneReading.{zone_names}
 
 abbrev pub is_kind : Node → Bool
@@ -124,7 +123,6 @@ other_rows object nodes =
     (has_repeat (aligned_ids object), SameRecurrenceId)
     ∷ (some_kind (lacks_zone (zone_names object.zones)) nodes, ZoneMissing)
     ∷ (some_kind (has (codes "EXRULE")) nodes, ExRule)
-    ∷ (some_kind has_future nodes, ThisAndFuture)
     ∷ []
 
 abbrev pub resource_rows : Object → List Node → List (Bool × NotResource)

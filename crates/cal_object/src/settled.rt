@@ -25,7 +25,7 @@ fn settle(components: List<Component>, ids: Option<Stamp>) -> List<Component>
 {
     let mut items = components.into_vec();
     for component in items.iter_mut() {
-        component.future = component.future && is_like(ids, component.start);
+        component.future &= is_like(ids, component.start);
     }
     List::from_vec(items)
 }

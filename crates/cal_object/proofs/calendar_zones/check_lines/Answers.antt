@@ -1,4 +1,4 @@
-use Rattle.std.proofs.Common.{◌∙◌, sym, ap}
+use Rattle.std.proofs.Common.{◌∙◌, sym}
 use Rattle.cal_base.specs.Lines.ContentLines.{placed_lines}
 use Rattle.cal_object.proofs.FaultLaws.{own_told, lines_good}
 use Rattle.cal_object.proofs.calendar_zones.check_lines.Goals as goal

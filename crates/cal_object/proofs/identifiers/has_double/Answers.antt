@@ -1,4 +1,4 @@
-use Rattle.std.proofs.Common.{◌≡◌, ◌∙◌, sym, ap, length, nat_lt, rules, arith}
+use Rattle.std.proofs.Common.{◌≡◌, sym, ap, length, rules, arith}
 use Rattle.std.specs.Ordering.{int_eq, int_cmp}
 use Rattle.std.specs.List.{dedup}
 use Rattle.std.specs.List.Sorted.{IsSorted}

@@ -1,5 +1,4 @@
-use Rattle.std.proofs.Common.{◌≡◌, ◌∙◌, sym, ap, subst, arith}
-use Rattle.cal_base.specs.Lines.ContentLines.{placed_lines}
+use Rattle.std.proofs.Common.{◌∙◌, sym, ap, arith}
 use Rattle.cal_base.specs.Lines.ComponentTrees.{nesting_fault, tree_of}
 use Rattle.cal_object.proofs.FewLines.{children_few}
 use Rattle.cal_object.proofs.outline.tree_of_lines.Goals as goal

@@ -1,7 +1,7 @@
-use Rattle.std.proofs.Common.{◌≡◌, ◌∙◌, sym, ap, Some, None}
+use Rattle.std.proofs.Common.{◌∙◌, sym, ap}
 use Rattle.cal_base.specs.Lines.ComponentTrees.{or_else}
 use Rattle.cal_model.specs.Objects.ComponentLines.{children_of}
-use Rattle.cal_object.specs.KindNodes.{row_that_holds, plain_rows, other_rows}
+use Rattle.cal_object.specs.KindNodes.{row_that_holds, other_rows}
 use Rattle.cal_object.proofs.Answered.{ok_moved}
 use Rattle.cal_object.proofs.KindLaws.{resource_fault-children}
 use Rattle.cal_object.proofs.resource_fault.resource_fault.Goals as goal
