@@ -52,8 +52,8 @@ fn says(param: &Param, word: &[u8]) -> bool
     }
 }
 
-/// Whether a parameter stays beside a new value of a kind: TZID and RANGE go, and VALUE=DATE beside a value
-/// that is no date.
+/// Whether a parameter stays beside a new value of a kind: TZID and RANGE go, and VALUE=DATE beside a
+/// value that is no date.
 fn stays(kind: RowKind, param: &Param) -> bool
     ensures { result ≡ spec.stays kind param.now }
 {
