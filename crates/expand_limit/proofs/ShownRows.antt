@@ -22,7 +22,7 @@ use Rattle.cal_model.specs.declared.object.Object.{Object}
 use Rattle.cal_model.specs.declared.row.Row.{Row}
 use Rattle.cal_model.specs.declared.zone.ZoneTable.{ZoneTable}
 use Rattle.cal_model.specs.Instances.Alignment.{Aligned, at, on_day, align, align_timed, align_floating, kind_of, names_start, reading_of, value_of, written_value}
-use Rattle.cal_model.specs.Instances.Rows.{Numbered, dated_rows, end_from, end_of_instance, has_date, has_id, id_of_override, ids_start, is_dated, is_named, master_row, masters, named_by, numbered, override_row, override_row_from, overrides, row_at, row_of, rows, rows_in, starts, undated_row, undated_rows}
+use Rattle.cal_model.specs.Instances.Rows.{Governor, Numbered, dated_rows, end_from, end_of_instance, has_date, has_id, id_of_override, ids_start, is_dated, is_named, master_row, masters, named_by, numbered, override_row, override_row_from, overrides, row_at, row_of, rows, rows_in, starts, undated_row, undated_rows}
 use Rattle.cal_model.specs.Instances.Starts.{end_beside, own_start, own_start_of}
 use Rattle.cal_model.specs.Objects.LineValues.{is_short}
 use Rattle.cal_model.specs.Objects.ObjectFacts.{HasShortEnd, IsRead, IsReadComponent, IsReadObject, IsServed, IsShort, lengths_of_extent, stamps_of_extent}
@@ -35,6 +35,7 @@ use Rattle.cal_model.specs.Words.Limits.{first_date, last_date}
 use Rattle.cal_model.specs.Words.Lists.{first_or_else}
 use Rattle.cal_model.proofs.Instances.DayLaws.{midnight_of-holds}
 use Rattle.cal_model.proofs.Instances.EachRowLemmas.{All-in_order, All-numbered_from}
+use Rattle.cal_model.proofs.Instances.GovernedRows.{moved_row-holds, moved_to, row_at-holds}
 use Rattle.cal_model.proofs.Instances.ServedStarts.{rows-served, starts-served}
 use Rattle.cal_model.proofs.Objects.ObjectFactLaws.{IsReadObject-read}
 use Rattle.cal_model.proofs.Objects.ObjectNearness.{HasNearRows-read}
@@ -242,16 +243,24 @@ overrides_fine object ids all n offsets stated served =
         (λ x is. fine_row ids s (id_of_override object ids all x) (value_of object.zones s) (end_from object.zones n.component (value_of object.zones s)) n.number (id_stated object ids all x offsets stated is))
         (named_by object.zones ids n) named)
 
-masters_fine : (object : Object) (ids : Stamp) (all : List ℤ) (r : ℤ) → IsStated r → All IsFine (row_at every_moment object ids all r)
-masters_fine object ids all r stated =
-    All-flat_map IsFine (master_row every_moment object ids r) (masters object)
-    (All-everywhere (λ n. All IsFine (master_row every_moment object ids r n)) of_master (masters object))
+-- of the master's rows of a start, and of one that an override moves
+starts_fine : (object : Object) (ids : Stamp) (all : List ℤ) (r : ℤ) → IsStated r → All IsFine (row_at every_moment object ids all r)
+starts_fine object ids all r stated =
+    row_at-holds (All IsFine) every_moment object ids all r
+    (All-flat_map IsFine (master_row every_moment object ids r) (masters object)
+    (All-everywhere (λ n. All IsFine (master_row every_moment object ids r n)) of_master (masters object)))
+    (λ g governs. moved_row-holds (All IsFine) object ids r g (All-nil IsFine) (λ served. All-cons IsFine (moved_to object ids r g) [] (of_governor g) (All-nil IsFine)))
   where
     of_master : (n : Numbered) → All IsFine (master_row every_moment object ids r n)
     of_master n =
         All-map IsFine (λ s. row_of r r (end_of_instance every_moment object.zones s n.component r) n.number (kind_of ids) (kind_of s)) (option_to_list (own_start n.component))
         (All-everywhere (λ s. IsFine (row_of r r (end_of_instance every_moment object.zones s n.component r) n.number (kind_of ids) (kind_of s)))
         (λ s. fine_row ids s r r (end_of_instance every_moment object.zones s n.component r) n.number stated) (option_to_list (own_start n.component)))
+
+    of_governor : (g : Governor) → IsFine (moved_to object ids r g)
+    of_governor g =
+        let row = moved_to object ids r g in
+        fine_row ids g.start r row.start row.end g.override.number stated
 
 numbered_served : (object : Object) → IsReadObject object → All (λ (n : Numbered). HasServed n.component) (numbered object)
 numbered_served object is =
@@ -291,7 +300,7 @@ rows_fine object read =
         (All-weaker (λ (n : Numbered). HasServed n.component) (λ n. All IsFine (override_row object ids all n)) (λ n served. overrides_fine object ids all n offsets stated served) (numbered object) (numbered_served object (IsReadObject-read object read)))))
         (All-filter (λ (r : Row). not (is_named object ids r.id)) IsFine (of_starts ids)
         (All-flat_map IsFine (row_at every_moment object ids all) all
-        (All-weaker IsStated (λ r. All IsFine (row_at every_moment object ids all r)) (masters_fine object ids all) all stated))))
+        (All-weaker IsStated (λ r. All IsFine (row_at every_moment object ids all r)) (starts_fine object ids all) all stated))))
 
 shown_row : (object : Object) → IsRead object → (row : Row) → Contains (rows object) row → IsShownRow row
 shown_row object read row among = elim (cases_Bool (is_dated row)) [
