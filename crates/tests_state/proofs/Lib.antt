@@ -1,2 +1,3 @@
 mod PieceExamples
 pub mod PlainListLaws
+pub mod UsersAloneLaws

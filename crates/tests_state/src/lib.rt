@@ -21,3 +21,5 @@ mod plain_list;
 mod tags;
 #[cfg(test)]
 mod users;
+#[cfg(test)]
+mod users_view;
