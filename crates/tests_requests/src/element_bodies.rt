@@ -151,7 +151,11 @@ const GRANTS: &[Row] = &[
         b"<D:no-invert/>",
     ),
     (
-        b"D:acl><D:ace><D:principal><D:href>/principals/carol/</D:href></D:principal><D:grant><D:privilege><D:read/></D:privilege></D:grant></D:ace></D:acl",
+        b"D:acl><D:ace><D:principal><D:href>/principals/team/</D:href></D:principal><D:grant><D:privilege><D:read/></D:privilege></D:grant></D:ace></D:acl",
+        b"1 granted",
+    ),
+    (
+        b"D:acl><D:ace><D:principal><D:href>/principals/crew/</D:href></D:principal><D:grant><D:privilege><D:read/></D:privilege></D:grant></D:ace></D:acl",
         b"<D:recognized-principal/>",
     ),
     (
