@@ -32,7 +32,7 @@ pub(crate) fn body_content(
 
 /// The octets of a PUT.
 fn put_content(alloc: Global, wire: &WireRequest) -> Result<Content, NoMemory>
-    ensures { IfOk result (λ content. content ≡ spec.body_content [] wire.now Method.Put) }
+    ensures { IfOk result (λ content. content ≡ spec.body_content (record { people = []; groups = [] }) wire.now Method.Put) }
 {
     let octets = Octets::of(alloc, wire.body.as_slice())?;
     Ok(Content::Put {
