@@ -35,7 +35,7 @@ use Rattle.cal_model.specs.Serving.Outcomes.{outcome}
 use Rattle.cal_model.specs.Serving.ReadingReplies.{reading_reply}
 use Rattle.cal_model.specs.Sight.Scenes.{scene_at}
 use Rattle.cal_model.specs.State.Changes.{effect, change_of}
-use Rattle.cal_model.specs.State.ServerState.{ServerState}
+use Rattle.cal_model.specs.State.ServerState.{Directory, ServerState}
 use Rattle.cal_model.specs.declared.privilege.Grant.{Grant}
 use Rattle.cal_model.specs.declared.privilege.Who.{Who}
 use Rattle.cal_model.specs.declared.property.PropName.{PropName}
@@ -80,6 +80,8 @@ names =
     ∷ in_dav (codes "displayname")
     ∷ in_dav (codes "principal-URL")
     ∷ in_caldav (codes "calendar-home-set")
+    ∷ in_dav (codes "group-member-set")
+    ∷ in_dav (codes "group-membership")
     ∷ in_dav (codes "getetag")
     ∷ in_dav (codes "getcontenttype")
     ∷ in_dav (codes "getcontentlength")
@@ -100,27 +102,48 @@ names =
     ∷ []
 
 -- the root
-root_names : reply_to three shared (asked 0 method.Propfind path.Root 0 (content.Find (props.Some names) true)) ≡ found_with (codes "<D:response><D:href>/</D:href><D:propstat><D:prop><D:resourcetype><D:collection/></D:resourcetype><D:current-user-principal><D:href>/principals/alice/</D:href></D:current-user-principal></D:prop><D:status>HTTP/1.1 200 OK</D:status></D:propstat><D:propstat><D:prop><D:owner/><D:current-user-privilege-set/><D:displayname/><D:principal-URL/><C:calendar-home-set/><D:getetag/><D:getcontenttype/><D:getcontentlength/><C:calendar-data/><C:calendar-description/><C:calendar-timezone/><C:supported-calendar-component-set/><C:supported-calendar-data/><C:max-resource-size/><C:min-date-time/><C:max-date-time/><C:max-instances/><D:supported-report-set/><D:acl/><x:color xmlns:x=\"urn:e\"/><D:getlastmodified/><nothing/></D:prop><D:status>HTTP/1.1 404 Not Found</D:status></D:propstat></D:response>")
+root_names : reply_to three shared (asked 0 method.Propfind path.Root 0 (content.Find (props.Some names) true)) ≡ found_with (codes "<D:response><D:href>/</D:href><D:propstat><D:prop><D:resourcetype><D:collection/></D:resourcetype><D:current-user-principal><D:href>/principals/alice/</D:href></D:current-user-principal></D:prop><D:status>HTTP/1.1 200 OK</D:status></D:propstat><D:propstat><D:prop><D:owner/><D:current-user-privilege-set/><D:displayname/><D:principal-URL/><C:calendar-home-set/><D:group-member-set/><D:group-membership/><D:getetag/><D:getcontenttype/><D:getcontentlength/><C:calendar-data/><C:calendar-description/><C:calendar-timezone/><C:supported-calendar-component-set/><C:supported-calendar-data/><C:max-resource-size/><C:min-date-time/><C:max-date-time/><C:max-instances/><D:supported-report-set/><D:acl/><x:color xmlns:x=\"urn:e\"/><D:getlastmodified/><nothing/></D:prop><D:status>HTTP/1.1 404 Not Found</D:status></D:propstat></D:response>")
 unfolding outcome privileges_held reading_reply shared_rows scene_at change_of effect properties answer put_table target_path document segment reason xml_text attribute_text percent_encode_byte percent_decode digits is_utf8 chars encode counted_from date_of time_of date_time_of count_of integer_of length_of offset_of stamps_in_grammar periods_in_grammar trigger_of rule_in_grammar year_of month_of day_of_month offset_at exists_in instant_of N.out-Node N.roll-Node B.shown-the_row-Node-0 B.hidden-the_row-Node-0 B.shape-the_row-Node-0 H.out H.roll H.shown H.hidden
 root_names = refl
 
 -- a principal
-principal_names : reply_to three shared (asked 1 method.Propfind (path.Principal (codes "alice")) 0 (content.Find (props.Some names) true)) ≡ found_with (codes "<D:response><D:href>/principals/alice/</D:href><D:propstat><D:prop><D:resourcetype><D:collection/><D:principal/></D:resourcetype><D:current-user-principal><D:href>/principals/bob/</D:href></D:current-user-principal><D:displayname>alice</D:displayname><D:principal-URL><D:href>/principals/alice/</D:href></D:principal-URL><C:calendar-home-set><D:href>/calendars/alice/</D:href></C:calendar-home-set></D:prop><D:status>HTTP/1.1 200 OK</D:status></D:propstat><D:propstat><D:prop><D:owner/><D:current-user-privilege-set/><D:getetag/><D:getcontenttype/><D:getcontentlength/><C:calendar-data/><C:calendar-description/><C:calendar-timezone/><C:supported-calendar-component-set/><C:supported-calendar-data/><C:max-resource-size/><C:min-date-time/><C:max-date-time/><C:max-instances/><D:supported-report-set/><D:acl/><x:color xmlns:x=\"urn:e\"/><D:getlastmodified/><nothing/></D:prop><D:status>HTTP/1.1 404 Not Found</D:status></D:propstat></D:response>")
+principal_names : reply_to three shared (asked 1 method.Propfind (path.Principal (codes "alice")) 0 (content.Find (props.Some names) true)) ≡ found_with (codes "<D:response><D:href>/principals/alice/</D:href><D:propstat><D:prop><D:resourcetype><D:collection/><D:principal/></D:resourcetype><D:current-user-principal><D:href>/principals/bob/</D:href></D:current-user-principal><D:displayname>alice</D:displayname><D:principal-URL><D:href>/principals/alice/</D:href></D:principal-URL><C:calendar-home-set><D:href>/calendars/alice/</D:href></C:calendar-home-set><D:group-membership/></D:prop><D:status>HTTP/1.1 200 OK</D:status></D:propstat><D:propstat><D:prop><D:owner/><D:current-user-privilege-set/><D:group-member-set/><D:getetag/><D:getcontenttype/><D:getcontentlength/><C:calendar-data/><C:calendar-description/><C:calendar-timezone/><C:supported-calendar-component-set/><C:supported-calendar-data/><C:max-resource-size/><C:min-date-time/><C:max-date-time/><C:max-instances/><D:supported-report-set/><D:acl/><x:color xmlns:x=\"urn:e\"/><D:getlastmodified/><nothing/></D:prop><D:status>HTTP/1.1 404 Not Found</D:status></D:propstat></D:response>")
 unfolding outcome privileges_held reading_reply shared_rows scene_at change_of effect properties answer put_table target_path document segment reason xml_text attribute_text percent_encode_byte percent_decode digits is_utf8 chars encode counted_from date_of time_of date_time_of count_of integer_of length_of offset_of stamps_in_grammar periods_in_grammar trigger_of rule_in_grammar year_of month_of day_of_month offset_at exists_in instant_of N.out-Node N.roll-Node B.shown-the_row-Node-0 B.hidden-the_row-Node-0 B.shape-the_row-Node-0 H.out H.roll H.shown H.hidden
 principal_names = refl
 
+-- groups: the members of one, and those that a user is in
+abbrev teams : Directory
+teams = record three { groups = record { name = codes "team"; members = 1 ∷ 2 ∷ [] } ∷ record { name = codes "own"; members = 0 ∷ 1 ∷ [] } ∷ [] }
+
+abbrev of_principals : List PropName
+of_principals =
+    in_dav (codes "displayname")
+    ∷ in_dav (codes "principal-URL")
+    ∷ in_caldav (codes "calendar-home-set")
+    ∷ in_dav (codes "group-member-set")
+    ∷ in_dav (codes "group-membership")
+    ∷ []
+
+members_of_group : reply_to teams shared (asked 0 method.Propfind (path.Principal (codes "team")) 0 (content.Find (props.Some of_principals) false)) ≡ found_with (codes "<D:response><D:href>/principals/team/</D:href><D:propstat><D:prop><D:displayname>team</D:displayname><D:principal-URL><D:href>/principals/team/</D:href></D:principal-URL><D:group-member-set><D:href>/principals/bob/</D:href><D:href>/principals/carol/</D:href></D:group-member-set><D:group-membership/></D:prop><D:status>HTTP/1.1 200 OK</D:status></D:propstat><D:propstat><D:prop><C:calendar-home-set/></D:prop><D:status>HTTP/1.1 404 Not Found</D:status></D:propstat></D:response>")
+unfolding outcome privileges_held reading_reply shared_rows scene_at change_of effect properties answer put_table target_path document segment reason xml_text attribute_text percent_encode_byte percent_decode digits is_utf8 chars encode counted_from date_of time_of date_time_of count_of integer_of length_of offset_of stamps_in_grammar periods_in_grammar trigger_of rule_in_grammar year_of month_of day_of_month offset_at exists_in instant_of N.out-Node N.roll-Node B.shown-the_row-Node-0 B.hidden-the_row-Node-0 B.shape-the_row-Node-0 H.out H.roll H.shown H.hidden
+members_of_group = refl
+
+groups_of_user : reply_to teams shared (asked 0 method.Propfind (path.Principal (codes "bob")) 0 (content.Find (props.Some of_principals) false)) ≡ found_with (codes "<D:response><D:href>/principals/bob/</D:href><D:propstat><D:prop><D:displayname>bob</D:displayname><D:principal-URL><D:href>/principals/bob/</D:href></D:principal-URL><C:calendar-home-set><D:href>/calendars/bob/</D:href></C:calendar-home-set><D:group-membership><D:href>/principals/team/</D:href><D:href>/principals/own/</D:href></D:group-membership></D:prop><D:status>HTTP/1.1 200 OK</D:status></D:propstat><D:propstat><D:prop><D:group-member-set/></D:prop><D:status>HTTP/1.1 404 Not Found</D:status></D:propstat></D:response>")
+unfolding outcome privileges_held reading_reply shared_rows scene_at change_of effect properties answer put_table target_path document segment reason xml_text attribute_text percent_encode_byte percent_decode digits is_utf8 chars encode counted_from date_of time_of date_time_of count_of integer_of length_of offset_of stamps_in_grammar periods_in_grammar trigger_of rule_in_grammar year_of month_of day_of_month offset_at exists_in instant_of N.out-Node N.roll-Node B.shown-the_row-Node-0 B.hidden-the_row-Node-0 B.shape-the_row-Node-0 H.out H.roll H.shown H.hidden
+groups_of_user = refl
+
 -- a calendar and the object in it, of its owner
-calendar_names : reply_to three shared (asked 0 method.Propfind own 0 (content.Find (props.Some names) true)) ≡ found_with (codes "<D:response><D:href>/calendars/alice/calendar/</D:href><D:propstat><D:prop><D:resourcetype><D:collection/><C:calendar/></D:resourcetype><D:current-user-principal><D:href>/principals/alice/</D:href></D:current-user-principal><D:owner><D:href>/principals/alice/</D:href></D:owner><D:current-user-privilege-set><D:privilege><C:read-free-busy/></D:privilege><D:privilege><D:read/></D:privilege><D:privilege><D:write-content/></D:privilege><D:privilege><D:write-properties/></D:privilege><D:privilege><D:bind/></D:privilege><D:privilege><D:unbind/></D:privilege><D:privilege><D:read-acl/></D:privilege><D:privilege><D:write-acl/></D:privilege><D:privilege><D:read-current-user-privilege-set/></D:privilege><D:privilege><D:write/></D:privilege><D:privilege><D:all/></D:privilege></D:current-user-privilege-set><D:displayname>calendar</D:displayname><C:calendar-description>d</C:calendar-description><C:calendar-timezone>BEGIN:VCALENDAR&#13;\nBEGIN:VTIMEZONE&#13;\nTZID:X&#13;\nBEGIN:STANDARD&#13;\nDTSTART:16010101T000000&#13;\nTZOFFSETFROM:+0100&#13;\nTZOFFSETTO:+0100&#13;\nEND:STANDARD&#13;\nEND:VTIMEZONE&#13;\nEND:VCALENDAR&#13;\n</C:calendar-timezone><C:supported-calendar-component-set><C:comp name=\"VEVENT\"/><C:comp name=\"VTODO\"/><C:comp name=\"VJOURNAL\"/><C:comp name=\"VFREEBUSY\"/></C:supported-calendar-component-set><C:supported-calendar-data><C:calendar-data content-type=\"text/calendar\" version=\"2.0\"/></C:supported-calendar-data><C:max-resource-size>262144</C:max-resource-size><C:min-date-time>16000101T000000Z</C:min-date-time><C:max-date-time>21001231T235959Z</C:max-date-time><C:max-instances>250000</C:max-instances><D:supported-report-set><D:supported-report><D:report><C:calendar-query/></D:report></D:supported-report><D:supported-report><D:report><C:calendar-multiget/></D:report></D:supported-report><D:supported-report><D:report><C:free-busy-query/></D:report></D:supported-report></D:supported-report-set><D:acl><D:ace><D:principal><D:property><D:owner/></D:property></D:principal><D:grant><D:privilege><D:all/></D:privilege></D:grant><D:protected/></D:ace><D:ace><D:principal><D:href>/principals/bob/</D:href></D:principal><D:grant><D:privilege><C:read-free-busy/></D:privilege><D:privilege><D:read/></D:privilege><D:privilege><D:read-acl/></D:privilege></D:grant></D:ace><D:ace><D:principal><D:href>/principals/carol/</D:href></D:principal><D:grant><D:privilege><C:read-free-busy/></D:privilege><D:privilege><D:write-content/></D:privilege><D:privilege><D:write-properties/></D:privilege><D:privilege><D:bind/></D:privilege><D:privilege><D:unbind/></D:privilege><D:privilege><D:read-current-user-privilege-set/></D:privilege></D:grant></D:ace><D:ace><D:principal><D:all/></D:principal><D:grant><D:privilege><D:bind/></D:privilege></D:grant></D:ace><D:ace><D:principal><D:property><D:owner/></D:property></D:principal><D:grant><D:privilege><C:read-free-busy/></D:privilege><D:privilege><D:read/></D:privilege><D:privilege><D:write-content/></D:privilege><D:privilege><D:write-properties/></D:privilege><D:privilege><D:bind/></D:privilege><D:privilege><D:unbind/></D:privilege><D:privilege><D:read-acl/></D:privilege><D:privilege><D:write-acl/></D:privilege><D:privilege><D:read-current-user-privilege-set/></D:privilege></D:grant></D:ace></D:acl><x:color xmlns:x=\"urn:e\">a&amp;b</x:color></D:prop><D:status>HTTP/1.1 200 OK</D:status></D:propstat><D:propstat><D:prop><D:principal-URL/><C:calendar-home-set/><D:getetag/><D:getcontenttype/><D:getcontentlength/><C:calendar-data/><D:getlastmodified/><nothing/></D:prop><D:status>HTTP/1.1 404 Not Found</D:status></D:propstat></D:response><D:response><D:href>/calendars/alice/calendar/one.ics</D:href><D:propstat><D:prop><D:resourcetype/><D:current-user-principal><D:href>/principals/alice/</D:href></D:current-user-principal><D:owner><D:href>/principals/alice/</D:href></D:owner><D:getetag>\"bc70c6ac63dee6148893d0646c9678768339b568fabb878651760f85551d629a\"</D:getetag><D:getcontenttype>text/calendar; charset=utf-8</D:getcontenttype><D:getcontentlength>117</D:getcontentlength></D:prop><D:status>HTTP/1.1 200 OK</D:status></D:propstat><D:propstat><D:prop><D:current-user-privilege-set/><D:displayname/><D:principal-URL/><C:calendar-home-set/><C:calendar-data/><C:calendar-description/><C:calendar-timezone/><C:supported-calendar-component-set/><C:supported-calendar-data/><C:max-resource-size/><C:min-date-time/><C:max-date-time/><C:max-instances/><D:supported-report-set/><D:acl/><x:color xmlns:x=\"urn:e\"/><D:getlastmodified/><nothing/></D:prop><D:status>HTTP/1.1 404 Not Found</D:status></D:propstat></D:response>")
+calendar_names : reply_to three shared (asked 0 method.Propfind own 0 (content.Find (props.Some names) true)) ≡ found_with (codes "<D:response><D:href>/calendars/alice/calendar/</D:href><D:propstat><D:prop><D:resourcetype><D:collection/><C:calendar/></D:resourcetype><D:current-user-principal><D:href>/principals/alice/</D:href></D:current-user-principal><D:owner><D:href>/principals/alice/</D:href></D:owner><D:current-user-privilege-set><D:privilege><C:read-free-busy/></D:privilege><D:privilege><D:read/></D:privilege><D:privilege><D:write-content/></D:privilege><D:privilege><D:write-properties/></D:privilege><D:privilege><D:bind/></D:privilege><D:privilege><D:unbind/></D:privilege><D:privilege><D:read-acl/></D:privilege><D:privilege><D:write-acl/></D:privilege><D:privilege><D:read-current-user-privilege-set/></D:privilege><D:privilege><D:write/></D:privilege><D:privilege><D:all/></D:privilege></D:current-user-privilege-set><D:displayname>calendar</D:displayname><C:calendar-description>d</C:calendar-description><C:calendar-timezone>BEGIN:VCALENDAR&#13;\nBEGIN:VTIMEZONE&#13;\nTZID:X&#13;\nBEGIN:STANDARD&#13;\nDTSTART:16010101T000000&#13;\nTZOFFSETFROM:+0100&#13;\nTZOFFSETTO:+0100&#13;\nEND:STANDARD&#13;\nEND:VTIMEZONE&#13;\nEND:VCALENDAR&#13;\n</C:calendar-timezone><C:supported-calendar-component-set><C:comp name=\"VEVENT\"/><C:comp name=\"VTODO\"/><C:comp name=\"VJOURNAL\"/><C:comp name=\"VFREEBUSY\"/></C:supported-calendar-component-set><C:supported-calendar-data><C:calendar-data content-type=\"text/calendar\" version=\"2.0\"/></C:supported-calendar-data><C:max-resource-size>262144</C:max-resource-size><C:min-date-time>16000101T000000Z</C:min-date-time><C:max-date-time>21001231T235959Z</C:max-date-time><C:max-instances>250000</C:max-instances><D:supported-report-set><D:supported-report><D:report><C:calendar-query/></D:report></D:supported-report><D:supported-report><D:report><C:calendar-multiget/></D:report></D:supported-report><D:supported-report><D:report><C:free-busy-query/></D:report></D:supported-report></D:supported-report-set><D:acl><D:ace><D:principal><D:property><D:owner/></D:property></D:principal><D:grant><D:privilege><D:all/></D:privilege></D:grant><D:protected/></D:ace><D:ace><D:principal><D:href>/principals/bob/</D:href></D:principal><D:grant><D:privilege><C:read-free-busy/></D:privilege><D:privilege><D:read/></D:privilege><D:privilege><D:read-acl/></D:privilege></D:grant></D:ace><D:ace><D:principal><D:href>/principals/carol/</D:href></D:principal><D:grant><D:privilege><C:read-free-busy/></D:privilege><D:privilege><D:write-content/></D:privilege><D:privilege><D:write-properties/></D:privilege><D:privilege><D:bind/></D:privilege><D:privilege><D:unbind/></D:privilege><D:privilege><D:read-current-user-privilege-set/></D:privilege></D:grant></D:ace><D:ace><D:principal><D:all/></D:principal><D:grant><D:privilege><D:bind/></D:privilege></D:grant></D:ace><D:ace><D:principal><D:property><D:owner/></D:property></D:principal><D:grant><D:privilege><C:read-free-busy/></D:privilege><D:privilege><D:read/></D:privilege><D:privilege><D:write-content/></D:privilege><D:privilege><D:write-properties/></D:privilege><D:privilege><D:bind/></D:privilege><D:privilege><D:unbind/></D:privilege><D:privilege><D:read-acl/></D:privilege><D:privilege><D:write-acl/></D:privilege><D:privilege><D:read-current-user-privilege-set/></D:privilege></D:grant></D:ace></D:acl><x:color xmlns:x=\"urn:e\">a&amp;b</x:color></D:prop><D:status>HTTP/1.1 200 OK</D:status></D:propstat><D:propstat><D:prop><D:principal-URL/><C:calendar-home-set/><D:group-member-set/><D:group-membership/><D:getetag/><D:getcontenttype/><D:getcontentlength/><C:calendar-data/><D:getlastmodified/><nothing/></D:prop><D:status>HTTP/1.1 404 Not Found</D:status></D:propstat></D:response><D:response><D:href>/calendars/alice/calendar/one.ics</D:href><D:propstat><D:prop><D:resourcetype/><D:current-user-principal><D:href>/principals/alice/</D:href></D:current-user-principal><D:owner><D:href>/principals/alice/</D:href></D:owner><D:getetag>\"bc70c6ac63dee6148893d0646c9678768339b568fabb878651760f85551d629a\"</D:getetag><D:getcontenttype>text/calendar; charset=utf-8</D:getcontenttype><D:getcontentlength>117</D:getcontentlength></D:prop><D:status>HTTP/1.1 200 OK</D:status></D:propstat><D:propstat><D:prop><D:current-user-privilege-set/><D:displayname/><D:principal-URL/><C:calendar-home-set/><D:group-member-set/><D:group-membership/><C:calendar-data/><C:calendar-description/><C:calendar-timezone/><C:supported-calendar-component-set/><C:supported-calendar-data/><C:max-resource-size/><C:min-date-time/><C:max-date-time/><C:max-instances/><D:supported-report-set/><D:acl/><x:color xmlns:x=\"urn:e\"/><D:getlastmodified/><nothing/></D:prop><D:status>HTTP/1.1 404 Not Found</D:status></D:propstat></D:response>")
 unfolding outcome privileges_held reading_reply shared_rows scene_at change_of effect properties answer put_table target_path document segment reason xml_text attribute_text percent_encode_byte percent_decode digits is_utf8 chars encode counted_from date_of time_of date_time_of count_of integer_of length_of offset_of stamps_in_grammar periods_in_grammar trigger_of rule_in_grammar year_of month_of day_of_month offset_at exists_in instant_of N.out-Node N.roll-Node B.shown-the_row-Node-0 B.hidden-the_row-Node-0 B.shape-the_row-Node-0 H.out H.roll H.shown H.hidden etag_of encode_with first_words schedule rounds compress hash_after digest_bytes sha256
 calendar_names = refl
 
 -- an object, of a user who may read it
-object_names : reply_to three shared (asked 1 method.Propfind (own_object (codes "one.ics")) 0 (content.Find (props.Some names) true)) ≡ found_with (codes "<D:response><D:href>/calendars/alice/calendar/one.ics</D:href><D:propstat><D:prop><D:resourcetype/><D:current-user-principal><D:href>/principals/bob/</D:href></D:current-user-principal><D:owner><D:href>/principals/alice/</D:href></D:owner><D:getetag>\"bc70c6ac63dee6148893d0646c9678768339b568fabb878651760f85551d629a\"</D:getetag><D:getcontenttype>text/calendar; charset=utf-8</D:getcontenttype><D:getcontentlength>117</D:getcontentlength></D:prop><D:status>HTTP/1.1 200 OK</D:status></D:propstat><D:propstat><D:prop><D:current-user-privilege-set/><D:displayname/><D:principal-URL/><C:calendar-home-set/><C:calendar-data/><C:calendar-description/><C:calendar-timezone/><C:supported-calendar-component-set/><C:supported-calendar-data/><C:max-resource-size/><C:min-date-time/><C:max-date-time/><C:max-instances/><D:supported-report-set/><D:acl/><x:color xmlns:x=\"urn:e\"/><D:getlastmodified/><nothing/></D:prop><D:status>HTTP/1.1 404 Not Found</D:status></D:propstat></D:response>")
+object_names : reply_to three shared (asked 1 method.Propfind (own_object (codes "one.ics")) 0 (content.Find (props.Some names) true)) ≡ found_with (codes "<D:response><D:href>/calendars/alice/calendar/one.ics</D:href><D:propstat><D:prop><D:resourcetype/><D:current-user-principal><D:href>/principals/bob/</D:href></D:current-user-principal><D:owner><D:href>/principals/alice/</D:href></D:owner><D:getetag>\"bc70c6ac63dee6148893d0646c9678768339b568fabb878651760f85551d629a\"</D:getetag><D:getcontenttype>text/calendar; charset=utf-8</D:getcontenttype><D:getcontentlength>117</D:getcontentlength></D:prop><D:status>HTTP/1.1 200 OK</D:status></D:propstat><D:propstat><D:prop><D:current-user-privilege-set/><D:displayname/><D:principal-URL/><C:calendar-home-set/><D:group-member-set/><D:group-membership/><C:calendar-data/><C:calendar-description/><C:calendar-timezone/><C:supported-calendar-component-set/><C:supported-calendar-data/><C:max-resource-size/><C:min-date-time/><C:max-date-time/><C:max-instances/><D:supported-report-set/><D:acl/><x:color xmlns:x=\"urn:e\"/><D:getlastmodified/><nothing/></D:prop><D:status>HTTP/1.1 404 Not Found</D:status></D:propstat></D:response>")
 unfolding outcome privileges_held reading_reply shared_rows scene_at change_of effect properties answer put_table target_path document segment reason xml_text attribute_text percent_encode_byte percent_decode digits is_utf8 chars encode counted_from date_of time_of date_time_of count_of integer_of length_of offset_of stamps_in_grammar periods_in_grammar trigger_of rule_in_grammar year_of month_of day_of_month offset_at exists_in instant_of N.out-Node N.roll-Node B.shown-the_row-Node-0 B.hidden-the_row-Node-0 B.shape-the_row-Node-0 H.out H.roll H.shown H.hidden etag_of encode_with first_words schedule rounds compress hash_after digest_bytes sha256
 object_names = refl
 
 -- a calendar, of a user who may not read it: nothing shows which texts are there, and no object is listed
-calendar_without_read : reply_to three shared (asked 2 method.Propfind own 0 (content.Find (props.Some names) true)) ≡ found_with (codes "<D:response><D:href>/calendars/alice/calendar/</D:href><D:propstat><D:prop><D:resourcetype><D:collection/><C:calendar/></D:resourcetype><D:current-user-principal><D:href>/principals/carol/</D:href></D:current-user-principal><D:owner><D:href>/principals/alice/</D:href></D:owner><D:current-user-privilege-set><D:privilege><C:read-free-busy/></D:privilege><D:privilege><D:write-content/></D:privilege><D:privilege><D:write-properties/></D:privilege><D:privilege><D:bind/></D:privilege><D:privilege><D:unbind/></D:privilege><D:privilege><D:read-current-user-privilege-set/></D:privilege><D:privilege><D:write/></D:privilege></D:current-user-privilege-set></D:prop><D:status>HTTP/1.1 200 OK</D:status></D:propstat><D:propstat><D:prop><D:principal-URL/><C:calendar-home-set/><D:getetag/><D:getcontenttype/><D:getcontentlength/><C:calendar-data/></D:prop><D:status>HTTP/1.1 404 Not Found</D:status></D:propstat><D:propstat><D:prop><D:displayname/><C:calendar-description/><C:calendar-timezone/><C:supported-calendar-component-set/><C:supported-calendar-data/><C:max-resource-size/><C:min-date-time/><C:max-date-time/><C:max-instances/><D:supported-report-set/><D:acl/><x:color xmlns:x=\"urn:e\"/><D:getlastmodified/><nothing/></D:prop><D:status>HTTP/1.1 403 Forbidden</D:status></D:propstat></D:response>")
+calendar_without_read : reply_to three shared (asked 2 method.Propfind own 0 (content.Find (props.Some names) true)) ≡ found_with (codes "<D:response><D:href>/calendars/alice/calendar/</D:href><D:propstat><D:prop><D:resourcetype><D:collection/><C:calendar/></D:resourcetype><D:current-user-principal><D:href>/principals/carol/</D:href></D:current-user-principal><D:owner><D:href>/principals/alice/</D:href></D:owner><D:current-user-privilege-set><D:privilege><C:read-free-busy/></D:privilege><D:privilege><D:write-content/></D:privilege><D:privilege><D:write-properties/></D:privilege><D:privilege><D:bind/></D:privilege><D:privilege><D:unbind/></D:privilege><D:privilege><D:read-current-user-privilege-set/></D:privilege><D:privilege><D:write/></D:privilege></D:current-user-privilege-set></D:prop><D:status>HTTP/1.1 200 OK</D:status></D:propstat><D:propstat><D:prop><D:principal-URL/><C:calendar-home-set/><D:group-member-set/><D:group-membership/><D:getetag/><D:getcontenttype/><D:getcontentlength/><C:calendar-data/></D:prop><D:status>HTTP/1.1 404 Not Found</D:status></D:propstat><D:propstat><D:prop><D:displayname/><C:calendar-description/><C:calendar-timezone/><C:supported-calendar-component-set/><C:supported-calendar-data/><C:max-resource-size/><C:min-date-time/><C:max-date-time/><C:max-instances/><D:supported-report-set/><D:acl/><x:color xmlns:x=\"urn:e\"/><D:getlastmodified/><nothing/></D:prop><D:status>HTTP/1.1 403 Forbidden</D:status></D:propstat></D:response>")
 unfolding outcome privileges_held reading_reply shared_rows scene_at change_of effect properties answer put_table target_path document segment reason xml_text attribute_text percent_encode_byte percent_decode digits is_utf8 chars encode counted_from date_of time_of date_time_of count_of integer_of length_of offset_of stamps_in_grammar periods_in_grammar trigger_of rule_in_grammar year_of month_of day_of_month offset_at exists_in instant_of N.out-Node N.roll-Node B.shown-the_row-Node-0 B.hidden-the_row-Node-0 B.shape-the_row-Node-0 H.out H.roll H.shown H.hidden
 calendar_without_read = refl
 
