@@ -105,7 +105,7 @@ as_made object ids all rows alone = stand_in-none object ids all rows (none_late
 
 alone_moved : (object : Object) (ids : Stamp) (window : ℤ) (range : Digits) (aligned : Some ids ≡ ids_start object) (n : ℕ) → IsAlone object.components → HasMovedBy object ids window range aligned n
 alone_moved object ids window range aligned n alone =
-    subst (All (λ g. HasMoved n window range (move_of object.zones g))) (sym (governors-none object ids (starts every_moment object) (none_later object alone))) (All-nil (λ g. HasMoved n window range (move_of object.zones g)))
+    subst (All (λ g. HasMoved n window range (move_of object.zones g) g.id)) (sym (governors-none object ids (starts every_moment object) (none_later object alone))) (All-nil (λ g. HasMoved n window range (move_of object.zones g) g.id))
 
 alone_days : (object : Object) (ids : Stamp) (window : ℤ) (range : Digits) (aligned : Some ids ≡ ids_start object) → IsAlone object.components → HasTheirDays object ids window range aligned
 alone_days object ids window range aligned alone =
@@ -147,7 +147,7 @@ module _ (object : Object) (ids : Stamp) (window : ℤ) (range : Digits) (aligne
       let days : All (HasDay range) (flat_map (days_needed object.zones ids window) object.components) = subst (All (HasDay range)) (sym (no_days object.zones ids window object.components alone)) (All-nil (HasDay range)) in
       let lie : filter (lies_in_window object window) rows ≡ rows = filter-all (lies_in_window object window) rows (subst (All (λ row. lies_in_window object window row ≡ true)) (sym made) all_lie) in
       let rises = in_order-lesser rows (rows_by_id object ids range rows aligned one as_moved) in
-      sym rises ∙ (ap in_order (sym lie ∙ merged_alone object ids rows (part.Window window) alone) ∙ window_found 86400 (omega arith) object ids window range rows short aligned (alone_moved object ids window range aligned 86400 alone) (alone_days object ids window range aligned alone) one has days as_moved)
+      sym rises ∙ (ap in_order (sym lie ∙ merged_alone object ids rows (part.Window window) alone) ∙ window_found 86400 (omega arith) object ids window range rows short short aligned (alone_moved object ids window range aligned 86400 alone) (alone_days object ids window range aligned alone) one has days as_moved)
 
 -- the master's rows near a window that lie in it are those of the window, as they stand
 pub alone_near : (object : Object) (ids : Stamp) (window : ℤ) (whole range : Digits) (rows near : List Row) → IsAlone object.components → Some ids ≡ ids_start object → length (masters object) ≤ 1 → All HasShortOffsets object.zones →

@@ -1,7 +1,8 @@
 -- What overrides may move into a window, component by component, and beside all starts of an object.
-use Rattle.std.proofs.Common.{◌≡◌, ℕ, ◌+◌, ◌*◌, ◌<◌, ◌≤◌, List, [], ◌∷◌, ◌++◌, length, map, refl, sym, ap, ap₂, subst, ◌∙◌, arith, Bool, true, false, ℤ, pos, negsuc, ◌+ℤ◌, ◌*ℤ◌, ◌≤ℤ◌, inl, inr}
-use Rattle.std.specs.Prelude.{All, filter, flat_map, if◌then◌else◌, option_to_list, Option, Some, None, ◌&&◌}
+use Rattle.std.proofs.Common.{◌≡◌, ℕ, ◌+◌, ◌*◌, ◌<◌, ◌≤◌, List, [], ◌∷◌, ◌++◌, length, map, refl, sym, ap, ap₂, subst, ◌∙◌, arith, Bool, true, false, ℤ, pos, negsuc, ◌+ℤ◌, ◌*ℤ◌, ◌≤ℤ◌, inl, inr, ◌-ℤ◌, ◌<ℤ◌}
+use Rattle.std.specs.Prelude.{All, int_le, filter, flat_map, if◌then◌else◌, option_to_list, Option, Some, None, ◌&&◌}
 use Rattle.std.specs.List.{list_all, list_any}
+use Rattle.std.specs.Int.{int_max}
 use Rattle.std.proofs.lemmas.Int.{ints}
 use Rattle.std.proofs.lemmas.Bool.{cases_Bool, ltb-true}
 use Rattle.std.proofs.lemmas.List.{append-nil, map-append}
@@ -31,41 +32,44 @@ use Rattle.override_merge.specs.NamedStarts.{days_in}
 use Rattle.rrule_sets.specs.declared.range.Digits.{Digits}
 use Rattle.rrule_sets.specs.declared.windows.Needed.{Needed}
 use Rattle.rrule_sets.specs.HeldGovernors.{days_of_movers, governor_at, governors_from, governors_of}
-use Rattle.rrule_sets.specs.MovedStarts.{AreEnoughDays, EndsByMoved, EndsMovedBy, HasMovedOf, IsBeside, IsMovedFrom, IsNearName, MeansStarts, move_from, moves_of, offset_bound}
+use Rattle.rrule_sets.specs.MovedStarts.{AreEnoughDays, EndsByMoved, EndsMovedBy, HasMove, HasMovedOf, IsBeside, IsMovedFrom, IsNearName, MeansStarts, move_from, moves_of, offset_bound, parts_from}
 use Rattle.rrule_sets.specs.NeededDigits.{HasDay, HasMoved, HasRange, HasWindow, days_needed, days_of_start, id_days}
 use Rattle.rrule_sets.specs.NeededRanges.{HasMovedOfAll, IsBehind, IsNeeded}
 use Rattle.rrule_sets.specs.SeveralWindows.{HasNeeded, IsNeededFor}
 use Rattle.rrule_sets.proofs.DateStarts.{near_instant, value_near}
 use Rattle.rrule_sets.proofs.GovernorLemmas.{governors_from-is}
 use Rattle.rrule_sets.proofs.HullLemmas.{beside-midnight, beside-on_day}
-use Rattle.rrule_sets.proofs.NeededLemmas.{EndsBefore, has_day, has_range}
+use Rattle.rrule_sets.proofs.NeededLemmas.{EndsBefore, has_day, has_range, max_least}
 
 -- Moves.
 
+abbrev its_move : List ZoneTable → rows.Governor → ℤ × ℤ
+its_move zones g = (move_of zones g, g.id)
+
 -- what overrides move is what their components move
 moves_here : (name : Aligned → ℤ) (zones : List ZoneTable) (ids : Stamp) (n : Numbered) (later : Bool) (id own : Option Stamp) →
-    map (move_of zones) (if later then flat_map (λ s. map (λ x. governor_at n s (name (align zones x ids))) (option_to_list id)) (option_to_list own) else [])
+    map (its_move zones) (if later then flat_map (λ s. map (λ x. governor_at n s (name (align zones x ids))) (option_to_list id)) (option_to_list own) else [])
     ≡ (if later then flat_map (λ s. map (λ x. move_from zones name s (align zones x ids)) (option_to_list id)) (option_to_list own) else [])
 moves_here name zones ids n false id own = refl
 moves_here name zones ids n true id None = refl
 moves_here name zones ids n true None (Some s) = refl
 moves_here name zones ids n true (Some x) (Some s) = refl
 
-pub moves-are : (name : Aligned → ℤ) (zones : List ZoneTable) (ids : Stamp) (number : ℕ) (cs : List Component) → map (move_of zones) (governors_from name zones ids number cs) ≡ flat_map (moves_of name zones ids) cs
+pub moves-are : (name : Aligned → ℤ) (zones : List ZoneTable) (ids : Stamp) (number : ℕ) (cs : List Component) → map (its_move zones) (governors_from name zones ids number cs) ≡ flat_map (moves_of name zones ids) cs
 moves-are name zones ids number [] = refl
 moves-are name zones ids number (c ∷ cs) =
-    map-append (move_of zones) (governors_of name zones ids (record { number = number; component = c })) (governors_from name zones ids (number + 1) cs)
-    ∙ ap₂ (λ (xs ys : List ℤ). xs ++ ys) (moves_here name zones ids (record { number = number; component = c }) c.future c.recurrence_id (own_start c)) (moves-are name zones ids (number + 1) cs)
+    map-append (its_move zones) (governors_of name zones ids (record { number = number; component = c })) (governors_from name zones ids (number + 1) cs)
+    ∙ ap₂ (λ (xs ys : List (ℤ × ℤ)). xs ++ ys) (moves_here name zones ids (record { number = number; component = c }) c.future c.recurrence_id (own_start c)) (moves-are name zones ids (number + 1) cs)
 
-moves_in : (object : Object) (ids : Stamp) (all : List ℤ) → map (move_of object.zones) (rows.governors object ids all) ≡ flat_map (moves_of (id_of_override object ids all) object.zones ids) object.components
-moves_in object ids all = ap (map (move_of object.zones)) (sym (governors_from-is object ids all)) ∙ moves-are (id_of_override object ids all) object.zones ids 0 object.components
+moves_in : (object : Object) (ids : Stamp) (all : List ℤ) → map (its_move object.zones) (rows.governors object ids all) ≡ flat_map (moves_of (id_of_override object ids all) object.zones ids) object.components
+moves_in object ids all = ap (map (its_move object.zones)) (sym (governors_from-is object ids all)) ∙ moves-are (id_of_override object ids all) object.zones ids 0 object.components
 
 -- what holds of the moves of all components holds of those of the overrides
-pub governors-moved : (P : ℤ → Type 0) (object : Object) (ids : Stamp) (all : List ℤ) → All P (flat_map (moves_of (id_of_override object ids all) object.zones ids) object.components) → All (λ g. P (move_of object.zones g)) (rows.governors object ids all)
-governors-moved P object ids all moved = All-unmap P (move_of object.zones) (rows.governors object ids all) (subst (All P) (sym (moves_in object ids all)) moved)
+pub governors-moved : (P : ℤ × ℤ → Type 0) (object : Object) (ids : Stamp) (all : List ℤ) → All P (flat_map (moves_of (id_of_override object ids all) object.zones ids) object.components) → All (λ g. P (its_move object.zones g)) (rows.governors object ids all)
+governors-moved P object ids all moved = All-unmap P (its_move object.zones) (rows.governors object ids all) (subst (All P) (sym (moves_in object ids all)) moved)
 
-pub moved-governors : (P : ℤ → Type 0) (object : Object) (ids : Stamp) (all : List ℤ) → All (λ g. P (move_of object.zones g)) (rows.governors object ids all) → All P (flat_map (moves_of (id_of_override object ids all) object.zones ids) object.components)
-moved-governors P object ids all moved = subst (All P) (moves_in object ids all) (All-map P (move_of object.zones) (rows.governors object ids all) moved)
+pub moved-governors : (P : ℤ × ℤ → Type 0) (object : Object) (ids : Stamp) (all : List ℤ) → All (λ g. P (its_move object.zones g)) (rows.governors object ids all) → All P (flat_map (moves_of (id_of_override object ids all) object.zones ids) object.components)
+moved-governors P object ids all moved = subst (All P) (moves_in object ids all) (All-map P (its_move object.zones) (rows.governors object ids all) moved)
 
 -- Starts that are meant.
 
@@ -196,54 +200,75 @@ movers-days object ids range days =
 
 -- What a range has for an override.
 
-moved_by_name : (zones : List ZoneTable) (window : ℤ) (s : Stamp) (x : Aligned) (part range : Digits) (name : Aligned → ℤ) → MeansStarts zones name → IsMovedFrom zones window s x part → HasRange range part →
-    HasMoved (offset_bound zones) window range (move_from zones name s x)
-moved_by_name zones window s (at v) part range name means is wider =
-    let same = means.moment v in
-    let low = is.0 in
-    let high = is.1 in
-    let from = wider.from in
-    let to = wider.to in
-    rw same (record { from = omega (arith, ints, low, from); to = omega (arith, ints, high, to) })
-moved_by_name zones window s (on_day m) part range name means is wider =
-    let beside = means.beside s m in
-    let before = beside.from in
-    let behind = beside.to in
-    let low = is.0 in
-    let high = is.1 in
-    let from = wider.from in
-    let to = wider.to in
-    let most = bound_at_most zones in
-    record { from = omega (arith, ints, low, from, before, behind, most); to = omega (arith, ints, high, to, before, behind, most) }
+-- what is left of a range behind some digits has all of it that lies there
+part_has : (low : ℤ) (whole range : Digits) (l : ℤ) → All (HasRange range) (parts_from low whole) → whole.low ≤ℤ l → l <ℤ whole.high → low ≤ℤ l → (range.low ≤ℤ l) × (l <ℤ range.high)
+part_has low whole range l wider from to behind = elim (cases_Bool (int_le whole.high low)) [
+  | inl w ↦ absurd (let none : whole.high ≤ℤ low = grind (arith, ints, w) in omega (arith, ints, none, to, behind))
+  | inr w ↦ (
+      let part : Digits = record { low = int_max whole.low low; high = whole.high } in
+      let has = All-head (HasRange range) part [] (rw w at wider) in
+      let first = has.from in
+      let last = has.to in
+      let most = max_least whole.low low l from behind in
+      (omega (arith, ints, first, most), omega (arith, ints, last, to))
+      )
+]
 
-ends_by_name : (zones : List ZoneTable) (window : ℤ) (s : Stamp) (x : Aligned) (part : Digits) (name : Aligned → ℤ) (days : ℕ) (z : ℤ) → MeansStarts zones name → IsMovedFrom zones window s x part →
-    4 * offset_bound zones ≤ 86400 * days → All (λ midnight. 9 ≤ days) (days_in (x ∷ [])) → EndsMovedBy window days z (move_from zones name s x) → part.high ≤ℤ z
-ends_by_name zones window s (at v) part name days z means is offsets named ends =
+part_ends : (low z : ℤ) (whole : Digits) → whole.high ≤ℤ z → All (λ (part : Digits). part.high ≤ℤ z) (parts_from low whole)
+part_ends low z whole by = elim (cases_Bool (int_le whole.high low)) [
+  | inl w ↦ rw w (All-nil (λ (part : Digits). part.high ≤ℤ z))
+  | inr w ↦ rw w (All-cons (λ (part : Digits). part.high ≤ℤ z) (record { low = int_max whole.low low; high = whole.high }) [] by (All-nil (λ (part : Digits). part.high ≤ℤ z)))
+]
+
+moved_by_name : (zones : List ZoneTable) (window : ℤ) (s : Stamp) (x : Aligned) (parts : List Digits) (range : Digits) (name : Aligned → ℤ) → MeansStarts zones name → IsMovedFrom zones window s x parts → All (HasRange range) parts →
+    HasMove (offset_bound zones) window range (move_from zones name s x)
+moved_by_name zones window s (at v) parts range name means is wider =
     let same = means.moment v in
-    let high = is.1 in
-    let by = rw same at ends in
-    omega (arith, ints, high, by, offsets)
-ends_by_name zones window s (on_day m) part name days z means is offsets named ends =
+    let whole = is.0 in
+    let low = is.1.0.0 in
+    let high = is.1.0.1 in
+    let inside = rw is.1.1 at wider in
+    rw same (record { has = λ l from to behind. part_has (v -ℤ pos 86400) whole range l inside (omega (arith, ints, low, from)) (omega (arith, ints, high, to)) (omega (arith, ints, behind)) })
+moved_by_name zones window s (on_day m) parts range name means is wider =
     let beside = means.beside s m in
     let before = beside.from in
     let behind = beside.to in
-    let high = is.1 in
+    let low = is.1.0.0 in
+    let high = is.1.0.1 in
+    let has = All-head (HasRange range) is.0 [] (rw is.1.1 at wider) in
+    let first = has.from in
+    let last = has.to in
+    let most = bound_at_most zones in
+    record { has = λ l from to later. (omega (arith, ints, low, first, from, before, behind, most), omega (arith, ints, high, last, to, before, behind, most)) }
+
+ends_by_name : (zones : List ZoneTable) (window : ℤ) (s : Stamp) (x : Aligned) (parts : List Digits) (name : Aligned → ℤ) (days : ℕ) (z : ℤ) → MeansStarts zones name → IsMovedFrom zones window s x parts →
+    4 * offset_bound zones ≤ 86400 * days → All (λ midnight. 9 ≤ days) (days_in (x ∷ [])) → EndsMovedBy window days z (move_from zones name s x) → All (λ (part : Digits). part.high ≤ℤ z) parts
+ends_by_name zones window s (at v) parts name days z means is offsets named ends =
+    let same = means.moment v in
+    let high = is.1.0.1 in
+    let by = rw same at ends in
+    rw is.1.1 (part_ends (v -ℤ pos 86400) z is.0 (omega (arith, ints, high, by, offsets)))
+ends_by_name zones window s (on_day m) parts name days z means is offsets named ends =
+    let beside = means.beside s m in
+    let before = beside.from in
+    let behind = beside.to in
+    let high = is.1.0.1 in
     let nine = All-head (λ midnight. 9 ≤ days) m [] named in
-    omega (arith, ints, high, before, behind, nine, ends)
+    rw is.1.1 (All-cons (λ (part : Digits). part.high ≤ℤ z) is.0 [] (omega (arith, ints, high, before, behind, nine, ends)) (All-nil (λ (part : Digits). part.high ≤ℤ z)))
 
 -- for a component from a stamp, by its RECURRENCE-ID
-pub has-moved : (zones : List ZoneTable) (ids : Stamp) (window : ℤ) (c : Component) (s id : Stamp) (part : Digits) → c.future ≡ true → own_start c ≡ Some s → c.recurrence_id ≡ Some id → IsMovedFrom zones window s (align zones id ids) part →
-    HasMovedOf zones ids window c (part ∷ [])
-has-moved zones ids window c s id part later own named is = λ name range means wider.
-    let here = moved_by_name zones window s (align zones id ids) part range name means is (All-head (HasRange range) part [] wider) in
-    rw (later, own, named) (All-cons (HasMoved (offset_bound zones) window range) (move_from zones name s (align zones id ids)) [] here (All-nil (HasMoved (offset_bound zones) window range)))
+pub has-moved : (zones : List ZoneTable) (ids : Stamp) (window : ℤ) (c : Component) (s id : Stamp) (parts : List Digits) → c.future ≡ true → own_start c ≡ Some s → c.recurrence_id ≡ Some id → IsMovedFrom zones window s (align zones id ids) parts →
+    HasMovedOf zones ids window c parts
+has-moved zones ids window c s id parts later own named is = λ name range means wider.
+    let here = moved_by_name zones window s (align zones id ids) parts range name means is wider in
+    rw (later, own, named) (All-cons (HasMove (offset_bound zones) window range) (move_from zones name s (align zones id ids)) [] here (All-nil (HasMove (offset_bound zones) window range)))
 
-pub ends-moved : (zones : List ZoneTable) (ids : Stamp) (window : ℤ) (c : Component) (s id : Stamp) (part : Digits) → c.future ≡ true → own_start c ≡ Some s → c.recurrence_id ≡ Some id → IsMovedFrom zones window s (align zones id ids) part →
-    EndsByMoved zones ids window c (part ∷ [])
-ends-moved zones ids window c s id part later own named is = λ name days z means enough ends.
+pub ends-moved : (zones : List ZoneTable) (ids : Stamp) (window : ℤ) (c : Component) (s id : Stamp) (parts : List Digits) → c.future ≡ true → own_start c ≡ Some s → c.recurrence_id ≡ Some id → IsMovedFrom zones window s (align zones id ids) parts →
+    EndsByMoved zones ids window c parts
+ends-moved zones ids window c s id parts later own named is = λ name days z means enough ends.
     let nine : All (λ midnight. 9 ≤ days) (days_in (align zones id ids ∷ [])) = rw named at (enough.named later) in
     let by : EndsMovedBy window days z (move_from zones name s (align zones id ids)) = All-head (EndsMovedBy window days z) (move_from zones name s (align zones id ids)) [] (rw (later, own, named) at ends) in
-    All-cons (λ (part : Digits). part.high ≤ℤ z) part [] (ends_by_name zones window s (align zones id ids) part name days z means is enough.offsets nine by) (All-nil (λ (part : Digits). part.high ≤ℤ z))
+    ends_by_name zones window s (align zones id ids) parts name days z means is enough.offsets nine by
 
 -- Some components of which none moves later instances.
 no_moves : (zones : List ZoneTable) (ids : Stamp) (name : Aligned → ℤ) (cs : List Component) → list_any (λ (c : Component). c.future) cs ≡ false → flat_map (moves_of name zones ids) cs ≡ []
@@ -261,7 +286,7 @@ no_days zones ids (c ∷ cs) none = elim (cases_Bool c.future) [
 ]
 
 pub moved-none : (zones : List ZoneTable) (ids : Stamp) (window : ℤ) (cs : List Component) (range : Digits) → list_any (λ (c : Component). c.future) cs ≡ false → HasMovedOfAll zones ids window cs range
-moved-none zones ids window cs range none = λ name means. subst (All (HasMoved (offset_bound zones) window range)) (sym (no_moves zones ids name cs none)) (All-nil (HasMoved (offset_bound zones) window range))
+moved-none zones ids window cs range none = λ name means. subst (All (HasMove (offset_bound zones) window range)) (sym (no_moves zones ids name cs none)) (All-nil (HasMove (offset_bound zones) window range))
 
 pub days-none : (zones : List ZoneTable) (ids : Stamp) (cs : List Component) (range : Digits) → list_any (λ (c : Component). c.future) cs ≡ false → All (HasDay range) (days_of_movers zones ids cs)
 days-none zones ids cs range none = subst (All (HasDay range)) (sym (no_days zones ids cs none)) (All-nil (HasDay range))
@@ -306,7 +331,7 @@ module _ (zones : List ZoneTable) (ids : Stamp) (window : ℤ) where
   moved_more first all c cs range next wide days parts so_far is next_has day next_least wide_has part wide_least moved ends = record {
     has_first = has_range wide range first (has_range wide next range wide_has next_has) so_far.has_first;
     moved = λ wider has rest. so_far.moved wider (has_range wider wide range has (has_range wide next range wide_has next_has))
-        (λ name means. All-append (HasMoved (offset_bound zones) window wider) (moves_of name zones ids c) (flat_map (moves_of name zones ids) cs)
+        (λ name means. All-append (HasMove (offset_bound zones) window wider) (moves_of name zones ids c) (flat_map (moves_of name zones ids) cs)
         (moved name wider means (All-weaker (HasRange wide) (HasRange wider) (λ p it. has_range wider wide p has it) parts part)) (rest name means));
     days = λ wider has rest. so_far.days wider (has_range wider wide range has (has_range wide next range wide_has next_has))
         (All-append (HasDay wider) (if c.future then id_days zones ids c else []) (days_of_movers zones ids cs)
@@ -321,7 +346,7 @@ module _ (zones : List ZoneTable) (ids : Stamp) (window : ℤ) where
   }
 
   pub moved_all : (first : Digits) (all rest : List Component) (range : Digits) → IsMovedSoFar zones ids window first all rest range → length rest ≡ 0 → HasMovedOfAll zones ids window all range
-  moved_all first all [] range so_far none = so_far.moved range (itself range) (λ name means. All-nil (HasMoved (offset_bound zones) window range))
+  moved_all first all [] range so_far none = so_far.moved range (itself range) (λ name means. All-nil (HasMove (offset_bound zones) window range))
   moved_all first all (c ∷ cs) range so_far none = absurd (omega (arith, none))
 
   pub days_all : (first : Digits) (all rest : List Component) (range : Digits) → IsMovedSoFar zones ids window first all rest range → length rest ≡ 0 → All (HasDay range) (days_of_movers zones ids all)
@@ -366,7 +391,7 @@ needed-for object ids needed aligned short is =
     record {
       window = is.its;
       days = is.days;
-      moved = governors-moved (HasMoved (offset_bound object.zones) needed.window needed.range) object ids all (is.moved name means);
+      moved = governors-moved (HasMove (offset_bound object.zones) needed.window needed.range) object ids all (is.moved name means);
       their_days = movers-days object ids needed.range is.their_days;
       least = λ z by named moved. is.least z by
           (record { name = name; days = days_apart object; means = means; enough = enough-apart object ids aligned; named = named; moved = moved-governors (EndsMovedBy needed.window (days_apart object) z) object ids all moved });

@@ -137,7 +137,7 @@ pub window_found_near : (n : ℕ) → 0 < n → (object : Object) (ids : Stamp) 
 window_found_near n some object ids window whole range rows near below aligned moved their_days one short has days wider made cut =
     ap₂ (λ (xs rs : List Row). in_order (filter (lies_in_window object window) xs ++ filter (lies_in_window object window) (filter (λ (r : Row). not (is_named object ids r.id)) rs))) own_rows its_rows
     ∙ sym (rows_in-kept every_moment object ids window more
-    (keeps_more_window object ids window less more within (keeps_window object ids window range aligned n some below moved one has))
+    (keeps_more_window object ids window less more within (keeps_window object ids window range aligned n some below short moved one has))
     (keeps_more_named object ids window less more within (keeps_named object ids window range aligned days)) by_more (sym aligned) one)
   where
     less : ℤ → Bool

@@ -35,7 +35,7 @@ use Rattle.cal_model.specs.Words.Limits.{first_date, last_date}
 use Rattle.cal_model.specs.Words.Lists.{first_or_else}
 use Rattle.cal_model.proofs.Instances.ServedStarts.{IsStatedBy, starts-served}
 use Rattle.cal_model.proofs.Ranges.NearRanges.{window-holds}
-use Rattle.cal_model.proofs.Ranges.RowBounds.{instant-near}
+use Rattle.cal_model.proofs.Ranges.RowBounds.{instant-near, local-near}
 use Rattle.cal_model.proofs.Ranges.WindowLaws.{lies_in_window-one}
 use Rattle.cal_model.proofs.Words.AllLemmas.{All-each_part, All-everywhere, All-flat_map, All-left, All-option, All-right, All-slice_get}
 use Rattle.cal_model.proofs.Words.EachLemmas.{both_hold}
@@ -147,20 +147,20 @@ module _ (object : Object) (ids : Stamp) (window : ℤ) (range : Digits) (aligne
   of_masters r (n ∷ m ∷ ns) e one has stand out = absurd (omega (arith, one))
 
   -- a start whose row an override moves into the window
-  moved_there : (n : ℕ) (r : ℤ) (g : Governor) → 0 < n → All (HasOffsetsBelow n) object.zones → HasMoved n window range (move_of object.zones g) → StandsAt object true g.override → own_start g.override.component ≡ Some g.start → lies (moved_to object ids r g) ≡ true → keep r ≡ true
-  moved_there n r g some short moved stands own w =
+  moved_there : (n : ℕ) (r : ℤ) (g : Governor) → 0 < n → All (HasOffsetsBelow n) object.zones → All HasShortOffsets object.zones → HasMoved n window range (move_of object.zones g) g.id → g.id <ℤ r → StandsAt object true g.override → own_start g.override.component ≡ Some g.start → lies (moved_to object ids r g) ≡ true → keep r ≡ true
+  moved_there n r g some below short moved before stands own w =
       let there = row_there true g.override g.start (moved_to object ids r g) stands own refl w in
-      let near = moved-near_window n some object.zones ids g r window short there in
-      let from = moved.from in
-      let to = moved.to in
-      in_digits-of range ((reading_of object.zones ids).local r) (omega (arith, ints, near, from)) (omega (arith, ints, near, to))
+      let near = moved-near_window n some object.zones ids g r window below there in
+      let clock = local-near object.zones ids r short in
+      let inside = moved.has ((reading_of object.zones ids).local r) (omega (arith, ints, near)) (omega (arith, ints, near)) (omega (arith, ints, before, clock)) in
+      in_digits-of range ((reading_of object.zones ids).local r) inside.0 inside.1
 
   -- the overrides that govern move no start into the window that isn't kept
   abbrev pub HasMovedBy : ℕ → Type 0
-  HasMovedBy n = All (λ g. HasMoved n window range (move_of object.zones g)) (governors object ids (starts every_moment object))
+  HasMovedBy n = All (λ g. HasMoved n window range (move_of object.zones g) g.id) (governors object ids (starts every_moment object))
 
-  pub keeps_window : (n : ℕ) → 0 < n → All (HasOffsetsBelow n) object.zones → HasMovedBy n → length (masters object) ≤ 1 → HasWindow window range → KeepsWindow every_moment object ids window keep
-  keeps_window n some short moved one has = λ r out.
+  pub keeps_window : (n : ℕ) → 0 < n → All (HasOffsetsBelow n) object.zones → All HasShortOffsets object.zones → HasMovedBy n → length (masters object) ≤ 1 → HasWindow window range → KeepsWindow every_moment object ids window keep
+  keeps_window n some below short moved one has = λ r out.
       row_at-holds (λ rows. filter lies rows ≡ []) every_moment object ids (starts every_moment object) r
       (filter-none lies (flat_map (master_row every_moment object ids r) (masters object)) (of_masters r (masters object) refl one has (masters_stand object) out))
       (λ g governs. moved_row-holds (λ rows. filter lies rows ≡ []) object ids r g refl
@@ -169,9 +169,9 @@ module _ (object : Object) (ids : Stamp) (window : ℤ) (range : Digits) (aligne
       not_moved : (r : ℤ) (g : Governor) → Governs object ids (starts every_moment object) r g → keep r ≡ false → lies (moved_to object ids r g) ≡ false
       not_moved r g governs out =
           let known = All-contains (IsGovernor object ids (starts every_moment object)) (governors object ids (starts every_moment object)) g (governors_known object ids (starts every_moment object)) governs.among in
-          let its = All-contains (λ h. HasMoved n window range (move_of object.zones h)) (governors object ids (starts every_moment object)) g moved governs.among in
+          let its = All-contains (λ h. HasMoved n window range (move_of object.zones h) h.id) (governors object ids (starts every_moment object)) g moved governs.among in
           elim (cases_Bool (lies (moved_to object ids r g))) [
-            | inl w ↦ absurd (let kept = moved_there n r g some short its known.stands known.own w in cc)
+            | inl w ↦ absurd (let kept = moved_there n r g some below short its governs.before known.stands known.own w in cc)
             | inr w ↦ w
           ]
 
@@ -457,11 +457,11 @@ ends_by_last object ids window range aligned least =
     (λ g le. let by = moved-by_last (21600 * days_apart object) (days_apart object) (move_of object.zones g) window last (omega arith) le in omega (arith, ints, by)) (governors object ids (starts every_moment object)) (moved_within object ids window aligned))
 
 -- The rows of a window are made of the rows of the starts in the digits that it needs.
-pub window_found : (n : ℕ) → 0 < n → (object : Object) (ids : Stamp) (window : ℤ) (range : Digits) (rows : List Row) → All (HasOffsetsBelow n) object.zones → (aligned : Some ids ≡ ids_start object) → HasMovedBy object ids window range aligned n → HasTheirDays object ids window range aligned →
+pub window_found : (n : ℕ) → 0 < n → (object : Object) (ids : Stamp) (window : ℤ) (range : Digits) (rows : List Row) → All (HasOffsetsBelow n) object.zones → All HasShortOffsets object.zones → (aligned : Some ids ≡ ids_start object) → HasMovedBy object ids window range aligned n → HasTheirDays object ids window range aligned →
     length (masters object) ≤ 1 → HasWindow window range →
     All (HasDay range) (flat_map (days_needed object.zones ids window) object.components) → rows ≡ flat_map (stand_in object ids (keeps object ids range)) (flat_map (rows_of_master object.zones range) (masters object)) →
     in_order (filter (lies_in_window object window) (flat_map (override_row object ids (map (λ (r : Row). r.id) rows)) (overrides object)) ++ filter (lies_in_window object window) (filter (λ (r : Row). not (is_named object ids r.id)) rows)) ≡ rows_in object window
-window_found n some object ids window range rows short aligned moved their_days one has days made =
+window_found n some object ids window range rows below short aligned moved their_days one has days made =
     let keep_it : ℤ → Bool = λ r. starts_in object.zones ids range r in
     let kept = filter keep_it (starts every_moment object) in
     let all : rows ≡ flat_map (row_at every_moment object ids kept) kept = made ∙ moved_kept object ids range aligned one in
@@ -469,7 +469,7 @@ window_found n some object ids window range rows short aligned moved their_days 
     ap (λ rs. flat_map (override_row object ids (map (λ (r : Row). r.id) rs)) (overrides object)) all
     ∙ same_own_rows object ids (map (λ (r : Row). r.id) (flat_map (row_at every_moment object ids kept) kept)) kept (ids-given every_moment object ids kept kept (has_kept object ids range one)) in
     ap₂ (λ (xs rs : List Row). in_order (filter (lies_in_window object window) xs ++ filter (lies_in_window object window) (filter (λ (r : Row). not (is_named object ids r.id)) rs))) own all
-    ∙ sym (rows_in-kept every_moment object ids window keep_it (keeps_window object ids window range aligned n some short moved one has) (keeps_named object ids window range aligned days) (keeps_governing object ids window range aligned their_days) (sym aligned) one)
+    ∙ sym (rows_in-kept every_moment object ids window keep_it (keeps_window object ids window range aligned n some below short moved one has) (keeps_named object ids window range aligned days) (keeps_governing object ids window range aligned their_days) (sym aligned) one)
 
 -- the first master has what each component has
 pub expandable_master : (zones : ℕ) (cs : List Component) (m : Numbered) (rest : List Numbered) → All (IsExpandable zones) cs → masters_from 0 cs ≡ m ∷ rest → IsExpandable zones m.component

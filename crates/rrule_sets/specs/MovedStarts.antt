@@ -1,5 +1,6 @@
 -- The digits whose starts an override may move into a window, where it need not be known which start its RECURRENCE-ID means. From RFC 5545, 3.2.13.
-use Rattle.std.specs.Prelude.{◌≡◌, ℕ, ◌*◌, ◌≤◌, All, if◌then◌else◌, List, [], map, flat_map, option_to_list, true, ℤ, pos, neg_ℤ, ◌+ℤ◌, ◌-ℤ◌, ◌*ℤ◌, ◌≤ℤ◌, ◌<ℤ◌}
+use Rattle.std.specs.Prelude.{◌≡◌, ℕ, ◌*◌, ◌≤◌, All, if◌then◌else◌, List, [], map, flat_map, option_to_list, true, ℤ, pos, neg_ℤ, ◌+ℤ◌, ◌-ℤ◌, ◌*ℤ◌, ◌≤ℤ◌, ◌<ℤ◌, ◌∷◌, int_le}
+use Rattle.std.specs.Int.{int_max}
 use Rattle.std.specs.List.{list_all}
 use Rattle.cal_moment.specs.Calendar.{IsBetween}
 use Rattle.cal_moment.specs.declared.stamp.Stamp.{Stamp}
@@ -34,38 +35,46 @@ pub record MeansStarts (zones : List ZoneTable) (name : Aligned → ℤ) : Type 
   pub moment : (v : ℤ) → name (at v) ≡ v
   pub beside : (s : Stamp) (midnight : ℤ) → IsBeside midnight ((reading_of zones s).local (name (on_day midnight)))
 
--- by how many digits an override moves a start, from a stamp and what its RECURRENCE-ID says
-abbrev pub move_from : List ZoneTable → (Aligned → ℤ) → Stamp → Aligned → ℤ
-move_from zones name s x = written_value s -ℤ (reading_of zones s).local (name x)
+-- by how many digits an override moves a start, from a stamp and what its RECURRENCE-ID says, and its id
+abbrev pub move_from : List ZoneTable → (Aligned → ℤ) → Stamp → Aligned → ℤ × ℤ
+move_from zones name s x = (written_value s -ℤ (reading_of zones s).local (name x), name x)
 
--- by how many a component does, if it moves later instances
-abbrev pub moves_of : (Aligned → ℤ) → List ZoneTable → Stamp → Component → List ℤ
+-- the same of a component, if it moves later instances
+abbrev pub moves_of : (Aligned → ℤ) → List ZoneTable → Stamp → Component → List (ℤ × ℤ)
 moves_of name zones ids c = if c.future then flat_map (λ s. map (λ x. move_from zones name s (align zones x ids)) (option_to_list c.recurrence_id)) (option_to_list (own_start c)) else []
+
+abbrev pub HasMove : ℕ → ℤ → Digits → ℤ × ℤ → Type 0
+HasMove n window range move = HasMoved n window range move.0 move.1
 
 -- Ranges.
 
--- what is walked for an override: all that it may move into the window
-abbrev pub IsMovedFrom : List ZoneTable → ℤ → Stamp → Aligned → Digits → Type 0
-IsMovedFrom zones window s (at v) range =
-    (range.low ≡ (window *ℤ window_seconds -ℤ pos (4 * offset_bound zones)) -ℤ (written_value s -ℤ (reading_of zones s).local v))
-    × (range.high ≡ ((window +ℤ pos 1) *ℤ window_seconds +ℤ pos (4 * offset_bound zones)) -ℤ (written_value s -ℤ (reading_of zones s).local v))
-IsMovedFrom zones window s (on_day midnight) range =
-    (range.low ≡ (window *ℤ window_seconds -ℤ pos 518400) -ℤ (written_value s -ℤ midnight))
-    × (range.high ≡ ((window +ℤ pos 1) *ℤ window_seconds +ℤ pos 604800) -ℤ (written_value s -ℤ midnight))
+-- a range without what lies before some digits; none where nothing is left
+abbrev pub parts_from : ℤ → Digits → List Digits
+parts_from low range = if int_le range.high low then [] else record { low = int_max range.low low; high = range.high } ∷ []
+
+-- the digits of a window, moved back, with so many seconds before and behind them
+abbrev pub IsMovedBack : ℤ → ℤ → ℤ → ℤ → Digits → Type 0
+IsMovedBack window move before behind range = (range.low ≡ (window *ℤ window_seconds -ℤ before) -ℤ move) × (range.high ≡ ((window +ℤ pos 1) *ℤ window_seconds +ℤ behind) -ℤ move)
+
+-- What is walked for an override: all that it may move into the window. Of one that names a moment, what lies behind it alone.
+abbrev pub IsMovedFrom : List ZoneTable → ℤ → Stamp → Aligned → List Digits → Type 0
+IsMovedFrom zones window s (at v) parts =
+    (whole : Digits) × (IsMovedBack window (written_value s -ℤ (reading_of zones s).local v) (pos (4 * offset_bound zones)) (pos (4 * offset_bound zones)) whole × (parts ≡ parts_from (v -ℤ pos 86400) whole))
+IsMovedFrom zones window s (on_day midnight) parts = (whole : Digits) × (IsMovedBack window (written_value s -ℤ midnight) (pos 518400) (pos 604800) whole × (parts ≡ whole ∷ []))
 
 -- so many days are enough for what a component may move: what four offsets are, and nine where it names a local day
 pub record AreEnoughDays (zones : List ZoneTable) (ids : Stamp) (days : ℕ) (c : Component) : Type 0 where
   pub offsets : 4 * offset_bound zones ≤ 86400 * days
   pub named : c.future ≡ true → All (λ midnight. 9 ≤ days) (id_days zones ids c)
 
--- a move of so many digits ends by a second
-abbrev pub EndsMovedBy : ℤ → ℕ → ℤ → ℤ → Type 0
-EndsMovedBy window days z move = (((window +ℤ pos 1) *ℤ window_seconds +ℤ pos (86400 * days)) -ℤ move) ≤ℤ z
+-- a move ends by a second
+abbrev pub EndsMovedBy : ℤ → ℕ → ℤ → ℤ × ℤ → Type 0
+EndsMovedBy window days z move = (((window +ℤ pos 1) *ℤ window_seconds +ℤ pos (86400 * days)) -ℤ move.0) ≤ℤ z
 
 -- a range that has some parts has what a component may move into the window
 abbrev pub HasMovedOf : List ZoneTable → Stamp → ℤ → Component → List Digits → Type 0
 HasMovedOf zones ids window c parts =
-    (name : Aligned → ℤ) (range : Digits) → MeansStarts zones name → All (HasRange range) parts → All (HasMoved (offset_bound zones) window range) (moves_of name zones ids c)
+    (name : Aligned → ℤ) (range : Digits) → MeansStarts zones name → All (HasRange range) parts → All (HasMove (offset_bound zones) window range) (moves_of name zones ids c)
 
 -- and these parts end no later than that
 abbrev pub EndsByMoved : List ZoneTable → Stamp → ℤ → Component → List Digits → Type 0

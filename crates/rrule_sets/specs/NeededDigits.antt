@@ -1,5 +1,5 @@
 -- The digits whose starts a window needs: those of the window, and of each local day that an override names whose own row lies in it.
-use Rattle.std.specs.Prelude.{ℕ, ◌+◌, ◌*◌, if◌then◌else◌, List, [], ◌∷◌, flat_map, map, option_to_list, is_some, ℤ, pos, ◌+ℤ◌, ◌-ℤ◌, ◌*ℤ◌, ◌≤ℤ◌}
+use Rattle.std.specs.Prelude.{ℕ, ◌+◌, ◌*◌, if◌then◌else◌, List, [], ◌∷◌, flat_map, map, option_to_list, is_some, ℤ, pos, ◌+ℤ◌, ◌-ℤ◌, ◌*ℤ◌, ◌≤ℤ◌, ◌<ℤ◌}
 use Rattle.cal_moment.specs.Calendar.{seconds_since_1970}
 use Rattle.cal_moment.specs.declared.stamp.Stamp.{Stamp}
 use Rattle.cal_model.specs.declared.object.Component.{Component}
@@ -46,7 +46,6 @@ abbrev pub overrides_in : List Component → ℕ
 overrides_in [] = 0
 overrides_in (c ∷ cs) = (if is_some c.recurrence_id then 1 else 0) + overrides_in cs
 
--- a range has the starts that a move may bring into a window, where four offsets lie between
-pub record HasMoved (n : ℕ) (window : ℤ) (range : Digits) (move : ℤ) : Type 0 where
-  pub from : range.low ≤ℤ (((window *ℤ window_seconds) -ℤ pos (4 * n)) -ℤ move)
-  pub to : (((window +ℤ pos 1) *ℤ window_seconds +ℤ pos (4 * n)) -ℤ move) ≤ℤ range.high
+-- A range has the starts that an override may move into a window, where four offsets lie between, and that lie behind its id.
+pub record HasMoved (n : ℕ) (window : ℤ) (range : Digits) (move id : ℤ) : Type 0 where
+  pub has : (l : ℤ) → (((window *ℤ window_seconds) -ℤ pos (4 * n)) -ℤ move) <ℤ l → l <ℤ (((window +ℤ pos 1) *ℤ window_seconds +ℤ pos (4 * n)) -ℤ move) → (id -ℤ pos 86400) <ℤ l → (range.low ≤ℤ l) × (l <ℤ range.high)

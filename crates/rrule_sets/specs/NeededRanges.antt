@@ -7,13 +7,13 @@ use Rattle.cal_model.specs.Instances.Alignment.{Aligned}
 use Rattle.cal_model.specs.Instances.Rows.{window_seconds}
 use Rattle.rrule_sets.specs.declared.range.Digits.{Digits}
 use Rattle.rrule_sets.specs.HeldGovernors.{days_of_movers}
-use Rattle.rrule_sets.specs.MovedStarts.{AreEnoughDays, EndsMovedBy, MeansStarts, moves_of, offset_bound}
-use Rattle.rrule_sets.specs.NeededDigits.{HasDay, HasMoved, HasWindow, days_needed, id_days}
+use Rattle.rrule_sets.specs.MovedStarts.{AreEnoughDays, EndsMovedBy, HasMove, MeansStarts, moves_of, offset_bound}
+use Rattle.rrule_sets.specs.NeededDigits.{HasDay, HasWindow, days_needed, id_days}
 
 -- all that some components may move into a window, whichever starts they mean
 abbrev pub HasMovedOfAll : List ZoneTable → Stamp → ℤ → List Component → Digits → Type 0
 HasMovedOfAll zones ids window components range =
-    (name : Aligned → ℤ) → MeansStarts zones name → All (HasMoved (offset_bound zones) window range) (flat_map (moves_of name zones ids) components)
+    (name : Aligned → ℤ) → MeansStarts zones name → All (HasMove (offset_bound zones) window range) (flat_map (moves_of name zones ids) components)
 
 -- a second by which the local days end that some components name, and what these move into a window, where so many days are enough for the clocks
 pub record IsBehind (zones : List ZoneTable) (ids : Stamp) (window : ℤ) (components : List Component) (z : ℤ) : Type 0 where

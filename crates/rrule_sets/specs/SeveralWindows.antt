@@ -20,7 +20,7 @@ HasNeeded zones ids components needed = IsNeeded zones ids components needed.win
 pub record IsNeededFor (object : Object) (ids : Stamp) (n : ℕ) (needed : Needed) : Type 0 where
   pub window : HasWindow needed.window needed.range
   pub days : All (HasDay needed.range) (flat_map (days_needed object.zones ids needed.window) object.components)
-  pub moved : All (λ g. HasMoved n needed.window needed.range (move_of object.zones g)) (governors object ids (starts every_moment object))
+  pub moved : All (λ g. HasMoved n needed.window needed.range (move_of object.zones g) g.id) (governors object ids (starts every_moment object))
   pub their_days : All (λ o. moves_later o ≡ true → All (HasDay needed.range) (days_in (named_by object.zones ids o))) (overrides object)
   pub least : (z : ℤ) → ((needed.window +ℤ pos 1) *ℤ window_seconds) ≤ℤ z → All (λ midnight. (midnight +ℤ pos 86400) ≤ℤ z) (flat_map (id_days object.zones ids) object.components) →
       All (λ g. (((needed.window +ℤ pos 1) *ℤ window_seconds +ℤ pos (86400 * days_apart object)) -ℤ move_of object.zones g) ≤ℤ z) (governors object ids (starts every_moment object)) → needed.range.high ≤ℤ z

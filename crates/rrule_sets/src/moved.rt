@@ -9,7 +9,7 @@ ghost use Rattle.cal_model.specs.Instances.Rows.{window_seconds};
 ghost use Rattle.cal_model.specs.Ranges.Cost as cost;
 ghost use Rattle.override_merge.specs.AlignedStamps.{aligned_by};
 ghost use Rattle.override_merge.specs.Conversions.{tables_of, HasConvertibleRow, HasZone, IsConvertible, IsRowTime};
-ghost use Rattle.rrule_sets.specs.MovedStarts.{EndsByMoved, HasMovedOf, IsMovedFrom, IsNearName, offset_bound};
+ghost use Rattle.rrule_sets.specs.MovedStarts.{EndsByMoved, HasMovedOf, IsMovedBack, IsMovedFrom, IsNearName, offset_bound, parts_from};
 
 use crate::range::{Digits, window_digits};
 use cal_model::{Component, LocalTimes, Onset, ZoneTable};
@@ -75,16 +75,35 @@ fn moved_back(window: i32, moved: i64, before: i64, behind: i64) -> Digits
     }
 }
 
-/// The digits of an override that names a moment: those of the window, moved back from it.
-fn digits_of_moment(zones: &[LocalTimes<'_>], stamp: Stamp, window: i32, moment: i64) -> Digits
+/// A range without what lies before some digits; none where nothing is left.
+fn from_digits(range: Digits, low: i64) -> Option<Digits>
+    ensures { option_to_list result ≡ parts_from low range }
+{
+    if range.high <= low {
+        None
+    } else {
+        Some(Digits {
+            low: range.low.max(low),
+            high: range.high,
+        })
+    }
+}
+
+/// The digits of an override that names a moment: those of the window, moved back, that lie behind the
+/// moment. None where it governs nothing that may be moved into the window.
+fn digits_of_moment(
+    zones: &[LocalTimes<'_>],
+    stamp: Stamp,
+    window: i32,
+    moment: i64,
+) -> Option<Digits>
     requires stamp { IsConvertible (length zones.now) stamp }
     requires moment { IsBetween (neg_ℤ (pos 1_200_000_000_000)) (pos 1_200_000_000_000) moment }
-    ensures low { result.low ≡ (window *ℤ window_seconds -ℤ pos (4 * offset_bound (tables_of zones.now))) -ℤ (alignment.written_value stamp -ℤ (alignment.reading_of (tables_of zones.now) stamp).local moment) }
-    ensures high { result.high ≡ ((window +ℤ pos 1) *ℤ window_seconds +ℤ pos (4 * offset_bound (tables_of zones.now))) -ℤ (alignment.written_value stamp -ℤ (alignment.reading_of (tables_of zones.now) stamp).local moment) }
+    ensures { IsMovedFrom (tables_of zones.now) window stamp (alignment.at moment) (option_to_list result) }
 {
     let by = seconds_apart(zones);
     let moved = written_value(stamp) - local_beside(zones, stamp, moment);
-    moved_back(window, moved, by, by)
+    from_digits(moved_back(window, moved, by, by), moment - DAY)
 }
 
 /// The digits of an override that names a local day, before it is known which start it means: those of
@@ -92,21 +111,25 @@ fn digits_of_moment(zones: &[LocalTimes<'_>], stamp: Stamp, window: i32, moment:
 fn digits_of_day(stamp: Stamp, window: i32, midnight: i64) -> Digits
     requires stamp { IsRowTime (alignment.written_value stamp) }
     requires midnight { IsRowTime midnight }
-    ensures low { result.low ≡ (window *ℤ window_seconds -ℤ pos 518_400) -ℤ (alignment.written_value stamp -ℤ midnight) }
-    ensures high { result.high ≡ ((window +ℤ pos 1) *ℤ window_seconds +ℤ pos 604_800) -ℤ (alignment.written_value stamp -ℤ midnight) }
+    ensures { IsMovedBack window (alignment.written_value stamp -ℤ midnight) (pos 518_400) (pos 604_800) result }
 {
     moved_back(window, written_value(stamp) - midnight, 6 * DAY, 7 * DAY)
 }
 
 /// The digits of an override that starts at a stamp, by what its RECURRENCE-ID says.
-fn digits_of_name(zones: &[LocalTimes<'_>], stamp: Stamp, window: i32, name: Aligned) -> Digits
+fn digits_of_name(
+    zones: &[LocalTimes<'_>],
+    stamp: Stamp,
+    window: i32,
+    name: Aligned,
+) -> Option<Digits>
     requires stamp { IsConvertible (length zones.now) stamp }
     requires name { IsNearName (aligned_by name) }
-    ensures { IsMovedFrom (tables_of zones.now) window stamp (aligned_by name) result }
+    ensures { IsMovedFrom (tables_of zones.now) window stamp (aligned_by name) (option_to_list result) }
 {
     match name {
         Aligned::At(moment) => digits_of_moment(zones, stamp, window, moment),
-        Aligned::OnDay(midnight) => digits_of_day(stamp, window, midnight),
+        Aligned::OnDay(midnight) => Some(digits_of_day(stamp, window, midnight)),
     }
 }
 
@@ -128,5 +151,5 @@ pub fn moved_digits_of(
     }
     let name = component.recurrence_id?;
     let stamp = own_start(component)?;
-    Some(digits_of_name(zones, stamp, window, align(zones, name, ids)))
+    digits_of_name(zones, stamp, window, align(zones, name, ids))
 }

@@ -1,4 +1,5 @@
 use Rattle.std.proofs.Common.{◌∙◌, sym, length, rules, FitsSigned, w32, to_z-of_z}
+use Rattle.std.specs.Prelude.{option_to_list}
 use Rattle.cal_model.specs.Instances.Starts.{own_start}
 use Rattle.override_merge.specs.Conversions.{tables_of}
 use Rattle.override_merge.proofs.StampLemmas.{own_start_convertible, convertible_some}
@@ -20,10 +21,10 @@ pub returns-clause-moved : goal.returns-clause-moved
 returns-clause-moved c =
     let fits : FitsSigned w32 c.args.window = search rules in
     let is = simp to_z-of_z at (rw c.align.ensures.value at c.digits_of_name.ensures) in
-    has-moved (tables_of c.args.zones.now) c.args.ids c.args.window c.args.component.now c.in_ok-stamp.stamp c.in_ok-name.name c.digits_of_name.result c.if-not-component.false (sym c.own_start.ensures ∙ c.in_ok-stamp.was) c.in_ok-name.was is
+    has-moved (tables_of c.args.zones.now) c.args.ids c.args.window c.args.component.now c.in_ok-stamp.stamp c.in_ok-name.name (option_to_list c.digits_of_name.result) c.if-not-component.false (sym c.own_start.ensures ∙ c.in_ok-stamp.was) c.in_ok-name.was is
 
 pub returns-clause-least : goal.returns-clause-least
 returns-clause-least c =
     let fits : FitsSigned w32 c.args.window = search rules in
     let is = simp to_z-of_z at (rw c.align.ensures.value at c.digits_of_name.ensures) in
-    ends-moved (tables_of c.args.zones.now) c.args.ids c.args.window c.args.component.now c.in_ok-stamp.stamp c.in_ok-name.name c.digits_of_name.result c.if-not-component.false (sym c.own_start.ensures ∙ c.in_ok-stamp.was) c.in_ok-name.was is
+    ends-moved (tables_of c.args.zones.now) c.args.ids c.args.window c.args.component.now c.in_ok-stamp.stamp c.in_ok-name.name (option_to_list c.digits_of_name.result) c.if-not-component.false (sym c.own_start.ensures ∙ c.in_ok-stamp.was) c.in_ok-name.was is

@@ -68,5 +68,5 @@ returns-clause-rows g c =
     let needed = needed-for object c.args.ids its c.requires.ids short (simp to_z-of_z at (rw (c.requires.zones, c.as_slice-components.ensures) at c.needed-range.ensures.needed)) in
     let made = c.as_slice.ensures ∙ c.in_ok-rows.ensures.rows in
     let merged = simp to_z-of_z at c.merged_rows.ensures in
-    let found = window_found (offset_bound object.zones) (some_offset object.zones) object c.args.ids c.args.window c.needed-range.result c.as_slice.result.now (offsets-below object.zones short) c.requires.ids needed.moved needed.their_days c.requires.object.read.one_master needed.window needed.days made in
+    let found = window_found (offset_bound object.zones) (some_offset object.zones) object c.args.ids c.args.window c.needed-range.result c.as_slice.result.now (offsets-below object.zones short) short c.requires.ids needed.moved needed.their_days c.requires.object.read.one_master needed.window needed.days made in
     subst (λ (xs : List Row). IfOk c.merged_rows.result (λ all. all ≡ xs)) found merged
