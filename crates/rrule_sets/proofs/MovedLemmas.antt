@@ -33,7 +33,7 @@ use Rattle.rrule_sets.specs.declared.range.Digits.{Digits}
 use Rattle.rrule_sets.specs.declared.windows.Needed.{Needed}
 use Rattle.rrule_sets.specs.HeldGovernors.{days_of_movers, governor_at, governors_from, governors_of}
 use Rattle.rrule_sets.specs.MovedStarts.{AreEnoughDays, EndsByMoved, EndsMovedBy, HasMove, HasMovedOf, IsBeside, IsMovedFrom, IsNearName, MeansStarts, move_from, moves_of, offset_bound, parts_from}
-use Rattle.rrule_sets.specs.NeededDigits.{HasDay, HasMoved, HasRange, HasWindow, days_needed, days_of_start, id_days}
+use Rattle.rrule_sets.specs.NeededDigits.{HasDay, HasRange, HasWindow, days_needed, days_of_start, id_days}
 use Rattle.rrule_sets.specs.NeededRanges.{HasMovedOfAll, IsBehind, IsNeeded}
 use Rattle.rrule_sets.specs.SeveralWindows.{HasNeeded, IsNeededFor}
 use Rattle.rrule_sets.proofs.DateStarts.{near_instant, value_near}

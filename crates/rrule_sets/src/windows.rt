@@ -147,7 +147,8 @@ fn put_near(
 }
 
 /// Puts the rows of a window behind others, given the rows of the master, with those moved that overrides
-/// govern, in a range that has what the window needs. Without overrides they are those of the master that lie in it, as they stand.
+/// govern, in a range that has what the window needs. Without overrides they are those of the master
+/// that lie in it, as they stand.
 fn put_window(
     alloc: Global,
     zones: &[LocalTimes<'_>],
