@@ -41,7 +41,7 @@ use Rattle.override_merge.proofs.NameLemmas.{has_name-is, is_named-names}
 use Rattle.rrule_sets.specs.declared.governors.Governor.{Governor}
 use Rattle.rrule_sets.specs.HeldGovernors.{HasNoGreaterId, HoldsGovernors, governing, governor_at, governors_by, governors_from, governors_of, greatest_of, held, last_before, last_of, moved_by, moved_row, stand_in_by, with_id}
 use Rattle.rrule_sets.proofs.DateStarts.{IsNearRow, near_instant, value_near}
-use Rattle.rrule_sets.proofs.NearRowLemmas.{cut_before}
+use Rattle.rrule_sets.proofs.NearRowLemmas.{cut_before, filter_swap}
 
 -- The last of a list.
 
@@ -71,19 +71,6 @@ last_of-filter p (x ∷ z ∷ xs) y e w =
 has_last : {X : Type 0} (x : X) (xs : List X) → (y : X) × (last_of (x ∷ xs) ≡ y ∷ [])
 has_last x [] = (x, refl)
 has_last x (z ∷ xs) = has_last z xs
-
-filter_swap : {X : Type 0} (p q : X → Bool) → (xs : List X) → filter p (filter q xs) ≡ filter q (filter p xs)
-filter_swap p q [] = refl
-filter_swap p q (x ∷ xs) = elim (cases_Bool (p x)) [
-  | inl w ↦ elim (cases_Bool (q x)) [
-    | inl v ↦ rw (v, w, v) (ap (λ rest. x ∷ rest) (filter_swap p q xs))
-    | inr v ↦ rw (v, w, v) (filter_swap p q xs)
-  ]
-  | inr w ↦ elim (cases_Bool (q x)) [
-    | inl v ↦ rw (v, w) (filter_swap p q xs)
-    | inr v ↦ rw (v, w) (filter_swap p q xs)
-  ]
-]
 
 filter-map : {X Y : Type 0} (p : Y → Bool) (f : X → Y) (xs : List X) → filter p (map f xs) ≡ map f (filter (λ x. p (f x)) xs)
 filter-map p f [] = refl

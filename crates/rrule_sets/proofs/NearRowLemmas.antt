@@ -52,6 +52,19 @@ filter_both p q (x ∷ xs) = elim (cases_Bool (p x)) [
   ]
 ]
 
+pub filter_swap : {X : Type 0} (p q : X → Bool) → (xs : List X) → filter p (filter q xs) ≡ filter q (filter p xs)
+filter_swap p q [] = refl
+filter_swap p q (x ∷ xs) = elim (cases_Bool (p x)) [
+  | inl w ↦ elim (cases_Bool (q x)) [
+    | inl v ↦ rw (v, w, v) (ap (λ rest. x ∷ rest) (filter_swap p q xs))
+    | inr v ↦ rw (v, w, v) (filter_swap p q xs)
+  ]
+  | inr w ↦ elim (cases_Bool (q x)) [
+    | inl v ↦ rw (v, w) (filter_swap p q xs)
+    | inr v ↦ rw (v, w) (filter_swap p q xs)
+  ]
+]
+
 -- Ids.
 
 pub partitioned_by_id : (rows : List Row) (t : ℤ) → AllPairs HasLesserId rows → IsPartitionedBy (λ (row : Row). int_lt row.id t) rows

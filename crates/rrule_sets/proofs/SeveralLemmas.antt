@@ -37,10 +37,6 @@ use Rattle.rrule_sets.proofs.WindowLemmas.{HasMovedBy, HasTheirDays, ends_by_las
 
 -- Lists.
 
-filter-map : {X Y : Type 0} (p : Y → Bool) (f : X → Y) (xs : List X) → filter p (map f xs) ≡ map f (filter (λ x. p (f x)) xs)
-filter-map p f [] = refl
-filter-map p f (x ∷ xs) = elim (cases_Bool (p (f x))) [ inl w ↦ rw w (ap (λ rest. f x ∷ rest) (filter-map p f xs)) | inr w ↦ rw w (filter-map p f xs) ]
-
 pub filter-all : {X : Type 0} (p : X → Bool) (xs : List X) → All (λ x. p x ≡ true) xs → filter p xs ≡ xs
 filter-all p [] all = refl
 filter-all p (x ∷ xs) all = let here = All-head (λ x. p x ≡ true) x xs all in rw here (ap (λ rest. x ∷ rest) (filter-all p xs (All-tail (λ x. p x ≡ true) x xs all)))

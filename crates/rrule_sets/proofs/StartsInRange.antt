@@ -18,6 +18,7 @@ use Rattle.cal_model.proofs.Ranges.WindowLaws.{Contains-filter, Contains-unfilte
 use Rattle.rrule_sets.specs.declared.range.Digits.{Digits}
 use Rattle.rrule_sets.specs.DigitRanges.{starts_in}
 use Rattle.rrule_sets.specs.AskedStarts.{later_starts}
+use Rattle.rrule_sets.proofs.NearRowLemmas.{filter_swap}
 
 -- two lists have the same members
 pub record SameMembers (xs ys : List ℤ) : Type 0 where
@@ -50,19 +51,6 @@ filter-ascending keep xs =
     ascending-is (filter keep (ascending xs)) (filter keep xs) (AllPairs-filter IsBelow keep (ascending xs) (ascending-rising xs))
     (λ z c. let both = Contains-unfilter keep z (ascending xs) c in Contains-filter keep z xs both.0 (ascending-only z xs both.1))
     (λ z c. let both = Contains-unfilter keep z xs c in Contains-filter keep z (ascending xs) both.0 (ascending-has z xs both.1))
-
-filter_swap : (p q : ℤ → Bool) (xs : List ℤ) → filter p (filter q xs) ≡ filter q (filter p xs)
-filter_swap p q [] = refl
-filter_swap p q (x ∷ xs) = elim (cases_Bool (p x)) [
-  | inl w ↦ elim (cases_Bool (q x)) [
-    | inl v ↦ rw (v, w, v) (ap (λ rest. x ∷ rest) (filter_swap p q xs))
-    | inr v ↦ rw (v, w, v) (filter_swap p q xs)
-  ]
-  | inr w ↦ elim (cases_Bool (q x)) [
-    | inl v ↦ rw (v, w) (filter_swap p q xs)
-    | inr v ↦ rw (v, w) (filter_swap p q xs)
-  ]
-]
 
 -- the starts of a component that are kept: the exceptions are looked at in these alone
 pub recurring_starts-kept : (keep : ℤ → Bool) (moments : List ℕ) (zones : List ZoneTable) (s : Stamp) (c : Component) →

@@ -15,6 +15,7 @@ use Rattle.cal_model.proofs.Instances.RisingLists.{Contains-there}
 use Rattle.cal_model.proofs.Instances.RowsInOrder.{flat_map_same, kept_instances, rows_in-parts}
 use Rattle.cal_model.proofs.Instances.KeptStarts.{GoverningsAgree, row_at-same}
 use Rattle.cal_model.proofs.Words.AllLemmas.{All-everywhere}
+use Rattle.rrule_sets.proofs.NearRowLemmas.{filter_swap}
 
 -- Filters.
 
@@ -28,19 +29,6 @@ filter_within p q (x ∷ xs) h = elim (cases_Bool (p x)) [
   | inr w ↦ elim (cases_Bool (q x)) [
     | inl v ↦ absurd (let holds = h x (0, omega arith, refl) v in cc)
     | inr v ↦ rw (w, v) (filter_within p q xs (λ y c. h y (Contains-there x y xs c)))
-  ]
-]
-
-filter_swap : {X : Type 0} (p q : X → Bool) → (xs : List X) → filter p (filter q xs) ≡ filter q (filter p xs)
-filter_swap p q [] = refl
-filter_swap p q (x ∷ xs) = elim (cases_Bool (p x)) [
-  | inl w ↦ elim (cases_Bool (q x)) [
-    | inl v ↦ rw (v, w, v) (ap (λ rest. x ∷ rest) (filter_swap p q xs))
-    | inr v ↦ rw (v, w, v) (filter_swap p q xs)
-  ]
-  | inr w ↦ elim (cases_Bool (q x)) [
-    | inl v ↦ rw (v, w) (filter_swap p q xs)
-    | inr v ↦ rw (v, w) (filter_swap p q xs)
   ]
 ]
 
