@@ -36,8 +36,15 @@ fn object_beside(
     ensures components { IfOk result (λ object. length object.components < 2 ^ 32) }
     ensures fault { IfErr result (IsFound (spec.first_there (spec.object_faults (placed_lines octets.now) calendar (spec.object_in every_moment (placed_lines octets.now) calendar)))) }
 {
-    let names = names_of(alloc, zones.as_slice())?;
-    let object = object_with(alloc, zones, &names, calendar)?;
+    let Ok(names) = names_of(alloc, zones.as_slice()) else {
+        drop(zones);
+        drop(calendar);
+        return Err(ReadFault::NoMemory);
+    };
+    let Ok(object) = object_with(alloc, zones, &names, calendar) else {
+        drop(names);
+        return Err(ReadFault::NoMemory);
+    };
     match check_object(alloc, octets, scan, &names, &object) {
         Ok(()) => Ok(object),
         Err(fault) => {

@@ -25,24 +25,24 @@ names_of-requires c =
 
 pub check_object-requires-clause-ids : goal.check_object-requires-clause-ids
 check_object-requires-clause-ids c =
-    subst (λ (object : Object). All HasReadId object.components) (sym c.in_ok-object.ensures) (ids_read (zone_names c.args.zones) 0 (children_of c.args.calendar))
+    subst (λ (object : Object). All HasReadId object.components) (sym c.in-Ok-object_with.ensures) (ids_read (zone_names c.args.zones) 0 (children_of c.args.calendar))
 
-pub returns-in-Ok-clause-object : goal.returns-in-Ok-clause-object
-returns-in-Ok-clause-object c = c.in_ok-object.ensures ∙ object_in-with c.args.zones (placed_lines c.args.octets.now) c.args.calendar c.requires.zones
+pub returns-in-Ok-check_object-clause-object : goal.returns-in-Ok-check_object-clause-object
+returns-in-Ok-check_object-clause-object c = c.in-Ok-object_with.ensures ∙ object_in-with c.args.zones (placed_lines c.args.octets.now) c.args.calendar c.requires.zones
 
-pub returns-in-Ok-clause-components : goal.returns-in-Ok-clause-components
-returns-in-Ok-clause-components c =
+pub returns-in-Ok-check_object-clause-components : goal.returns-in-Ok-check_object-clause-components
+returns-in-Ok-check_object-clause-components c =
     let short = components_short (zone_names c.args.zones) 0 (children_of c.args.calendar) in
     let room = c.requires.tree.few in
-    let same = ap (λ (object : Object). length object.components) c.in_ok-object.ensures in
+    let same = ap (λ (object : Object). length object.components) c.in-Ok-object_with.ensures in
     omega (arith, short, room, same)
 
 pub returns-clause-fault : goal.returns-clause-fault
 returns-clause-fault c =
     let placed = placed_lines c.args.octets.now in
-    let made = c.in_ok-object.ensures in
+    let made = c.in-Ok-object_with.ensures in
     let whole = made ∙ object_in-with c.args.zones placed c.args.calendar c.requires.zones in
-    let tree : c.in_ok-object.object.tree ≡ c.args.calendar = ap (λ (object : Object). object.tree) made in
+    let tree : c.in-Ok-object_with.object.tree ≡ c.args.calendar = ap (λ (object : Object). object.tree) made in
     subst (λ found. IsFound found c.in-Err.fault)
-    (ap (λ calendar. first_there (object_faults placed calendar c.in_ok-object.object)) tree ∙ ap (λ object. first_there (object_faults placed c.args.calendar object)) whole)
+    (ap (λ calendar. first_there (object_faults placed calendar c.in-Ok-object_with.object)) tree ∙ ap (λ object. first_there (object_faults placed c.args.calendar object)) whole)
     c.in-Err.ensures.fault
