@@ -1,10 +1,10 @@
 -- The rows of each object that was read can be shown: their moments lie between the years 1050 and 2650.
 use Rattle.std.proofs.Common.{◌≡◌, ℕ, ◌≤◌, Bool, true, false, List, [], ◌∷◌, ◌++◌, map, length, get_or, Option, Some, None, refl, sym, ◌∙◌, arith, ℤ, pos, neg_ℤ, ◌+ℤ◌, ◌-ℤ◌, ◌≤ℤ◌, inl, inr}
-use Rattle.std.specs.Prelude.{◌*◌, All, Contains, filter, flat_map, not, option_to_list, unwrap_or, is_none, unsigned_abs, nat_abs}
+use Rattle.std.specs.Prelude.{◌*◌, All, Contains, filter, flat_map, option_to_list, unwrap_or, unsigned_abs, nat_abs}
 use Rattle.std.proofs.lemmas.Bool.{cases_Bool, false≢true}
 use Rattle.std.proofs.lemmas.Bool.Decides.{nat_tests}
 use Rattle.std.proofs.lemmas.Int.{ints}
-use Rattle.std.proofs.lemmas.List.Elements.{All-append, All-cons, All-contains, All-filter, All-head, All-map, All-nil, All-tail, All-weaker}
+use Rattle.std.proofs.lemmas.List.Elements.{All-cons, All-contains, All-filter, All-head, All-map, All-nil, All-tail, All-weaker, filter_passes}
 use Rattle.cal_moment.specs.Calendar.{IsCalendarMoment}
 use Rattle.cal_moment.specs.declared.stamp.Length.{Length}
 use Rattle.cal_moment.specs.declared.stamp.Period.{Period}
@@ -21,8 +21,8 @@ use Rattle.cal_model.specs.declared.object.Kind.TheVariants.{Event, Todo, Journa
 use Rattle.cal_model.specs.declared.object.Object.{Object}
 use Rattle.cal_model.specs.declared.row.Row.{Row}
 use Rattle.cal_model.specs.declared.zone.ZoneTable.{ZoneTable}
-use Rattle.cal_model.specs.Instances.Alignment.{Aligned, at, on_day, align, align_timed, align_floating, kind_of, names_start, reading_of, value_of, written_value}
-use Rattle.cal_model.specs.Instances.Rows.{Governor, Numbered, dated_rows, end_from, end_of_instance, has_date, has_id, id_of_override, ids_start, is_dated, is_named, master_row, masters, named_by, numbered, override_row, override_row_from, overrides, row_at, row_of, rows, rows_in, starts, undated_row, undated_rows}
+use Rattle.cal_model.specs.Instances.Alignment.{Aligned, at, on_day, align, align_timed, align_floating, kind_of, midnight_of, names_start, reading_of, value_of, written_value}
+use Rattle.cal_model.specs.Instances.Rows.{Governor, Numbered, end_from, end_of_instance, has_date, has_id, id_of_override, is_dated, master_row, named_by, numbered, override_row, override_row_from, overrides, row_of, rows, rows_in, starts, undated_row}
 use Rattle.cal_model.specs.Instances.Starts.{end_beside, own_start, own_start_of}
 use Rattle.cal_model.specs.Objects.LineValues.{is_short}
 use Rattle.cal_model.specs.Objects.ObjectFacts.{HasShortEnd, IsRead, IsReadComponent, IsReadObject, IsServed, IsShort, lengths_of_extent, stamps_of_extent}
@@ -34,15 +34,17 @@ use Rattle.cal_model.specs.Recurrence.RecurrenceSet.{every_moment}
 use Rattle.cal_model.specs.Words.Limits.{first_date, last_date}
 use Rattle.cal_model.specs.Words.Lists.{first_or_else}
 use Rattle.cal_model.proofs.Instances.DayLaws.{midnight_of-holds}
-use Rattle.cal_model.proofs.Instances.EachRowLemmas.{All-in_order, All-numbered_from}
-use Rattle.cal_model.proofs.Instances.GovernedRows.{moved_row-holds, moved_to, row_at-holds}
+use Rattle.cal_model.proofs.Instances.EachRowLemmas.{All-numbered_from}
+use Rattle.cal_model.proofs.Instances.EveryRow.{rows-hold}
+use Rattle.cal_model.proofs.Instances.GovernedRows.{moved_to}
 use Rattle.cal_model.proofs.Instances.ServedStarts.{rows-served, starts-served}
 use Rattle.cal_model.proofs.Objects.ObjectFactLaws.{IsReadObject-read}
 use Rattle.cal_model.proofs.Objects.ObjectNearness.{HasNearRows-read}
 use Rattle.cal_model.proofs.Ranges.NearRows.{IsRowOf, rows-of_components}
-use Rattle.cal_model.proofs.Ranges.RowBounds.{end_of_extent-near, instant-near}
+use Rattle.cal_model.proofs.Ranges.RowBounds.{end_of_extent-near, instant-near, local-near}
 use Rattle.cal_model.proofs.Ranges.WindowLaws.{rows_in-only}
 use Rattle.cal_model.proofs.Words.AllLemmas.{All-each_part, All-everywhere, All-flat_map, All-left, All-right, All-slice_get}
+use Rattle.cal_model.proofs.Words.IntegerLemmas.{same_int-true}
 use Rattle.cal_model.proofs.Words.ListTests.{each_of}
 use Rattle.expand_limit.specs.InstanceLines.{IsShownRow}
 use Rattle.expand_limit.specs.SeenRows.{id_said, named_id}
@@ -198,11 +200,22 @@ first_holds : (z : ℤ) (xs : List ℤ) → IsStated z → All IsStated xs → I
 first_holds z [] is all = is
 first_holds z (x ∷ xs) is all = All-head IsStated x xs all
 
-id_stated : (object : Object) (ids : Stamp) (all : List ℤ) (x : Aligned) → All HasShortOffsets object.zones → All IsStated all → HasStated x → IsStated (id_of_override object ids all x)
-id_stated object ids all (at v) offsets stated is = is
-id_stated object ids all (on_day midnight) offsets stated is =
+-- a start on a local day of the stated dates
+on_day_stated : (zones : List ZoneTable) (ids : Stamp) (midnight r : ℤ) → All HasShortOffsets zones → HasStated (on_day midnight) → names_start (reading_of zones ids) r (on_day midnight) ≡ true → IsStated r
+on_day_stated zones ids midnight r offsets is names =
+    let near = local-near zones ids r offsets in
+    let day = midnight_of-holds ((reading_of zones ids).local r) in
+    let same = same_int-true midnight (midnight_of ((reading_of zones ids).local r)) names in
+    let first = is.0 in
+    let last = is.1 in
+    (omega (arith, ints, near, day, same, first), omega (arith, ints, near, day, same, last))
+
+id_stated : (object : Object) (ids : Stamp) (all : List ℤ) (x : Aligned) → All HasShortOffsets object.zones → HasStated x → IsStated (id_of_override object ids all x)
+id_stated object ids all (at v) offsets is = is
+id_stated object ids all (on_day midnight) offsets is =
     let names : ℤ → Bool = λ r. names_start (reading_of object.zones ids) r (on_day midnight) in
-    first_holds ((reading_of object.zones ids).instant midnight) (filter names all) (instant_stated object.zones ids midnight offsets is.0 is.1) (All-filter names IsStated all stated)
+    first_holds ((reading_of object.zones ids).instant midnight) (filter names all) (instant_stated object.zones ids midnight offsets is.0 is.1)
+    (All-weaker (λ r. names r ≡ true) IsStated (λ r named. on_day_stated object.zones ids midnight r offsets is named) (filter names all) (filter_passes names all))
 
 -- Rows
 
@@ -223,8 +236,8 @@ fine_row ids s id start end number stated = record { id = stated; undated = λ n
 fine_undated : (n : Numbered) → IsFine (undated_row n)
 fine_undated n = record { id = (omega (arith, ints), omega (arith, ints)); undated = λ none. (refl, refl) }
 
-overrides_fine : (object : Object) (ids : Stamp) (all : List ℤ) (n : Numbered) → All HasShortOffsets object.zones → All IsStated all → HasServed n.component → All IsFine (override_row object ids all n)
-overrides_fine object ids all n offsets stated served =
+overrides_fine : (object : Object) (ids : Stamp) (all : List ℤ) (n : Numbered) → All HasShortOffsets object.zones → HasServed n.component → All IsFine (override_row object ids all n)
+overrides_fine object ids all n offsets served =
     All-flat_map IsFine (λ s. override_row_from object ids all n s (value_of object.zones s)) (option_to_list (own_start n.component))
     (All-everywhere (λ s. All IsFine (override_row_from object ids all n s (value_of object.zones s))) from (option_to_list (own_start n.component)))
   where
@@ -240,27 +253,17 @@ overrides_fine object ids all n offsets stated served =
     from s =
         All-map IsFine (row s) (named_by object.zones ids n)
         (All-weaker HasStated (λ x. IsFine (row s x))
-        (λ x is. fine_row ids s (id_of_override object ids all x) (value_of object.zones s) (end_from object.zones n.component (value_of object.zones s)) n.number (id_stated object ids all x offsets stated is))
+        (λ x is. fine_row ids s (id_of_override object ids all x) (value_of object.zones s) (end_from object.zones n.component (value_of object.zones s)) n.number (id_stated object ids all x offsets is))
         (named_by object.zones ids n) named)
 
--- of the master's rows of a start, and of one that an override moves
-starts_fine : (object : Object) (ids : Stamp) (all : List ℤ) (r : ℤ) → IsStated r → All IsFine (row_at every_moment object ids all r)
-starts_fine object ids all r stated =
-    row_at-holds (All IsFine) every_moment object ids all r
-    (All-flat_map IsFine (master_row every_moment object ids r) (masters object)
-    (All-everywhere (λ n. All IsFine (master_row every_moment object ids r n)) of_master (masters object)))
-    (λ g governs. moved_row-holds (All IsFine) object ids r g (All-nil IsFine) (λ served. All-cons IsFine (moved_to object ids r g) [] (of_governor g) (All-nil IsFine)))
-  where
-    of_master : (n : Numbered) → All IsFine (master_row every_moment object ids r n)
-    of_master n =
-        All-map IsFine (λ s. row_of r r (end_of_instance every_moment object.zones s n.component r) n.number (kind_of ids) (kind_of s)) (option_to_list (own_start n.component))
-        (All-everywhere (λ s. IsFine (row_of r r (end_of_instance every_moment object.zones s n.component r) n.number (kind_of ids) (kind_of s)))
-        (λ s. fine_row ids s r r (end_of_instance every_moment object.zones s n.component r) n.number stated) (option_to_list (own_start n.component)))
+master_fine : (object : Object) (ids : Stamp) (r : ℤ) (n : Numbered) → IsStated r → All IsFine (master_row every_moment object ids r n)
+master_fine object ids r n stated =
+    All-map IsFine (λ s. row_of r r (end_of_instance every_moment object.zones s n.component r) n.number (kind_of ids) (kind_of s)) (option_to_list (own_start n.component))
+    (All-everywhere (λ s. IsFine (row_of r r (end_of_instance every_moment object.zones s n.component r) n.number (kind_of ids) (kind_of s)))
+    (λ s. fine_row ids s r r (end_of_instance every_moment object.zones s n.component r) n.number stated) (option_to_list (own_start n.component)))
 
-    of_governor : (g : Governor) → IsFine (moved_to object ids r g)
-    of_governor g =
-        let row = moved_to object ids r g in
-        fine_row ids g.start r row.start row.end g.override.number stated
+moved_fine : (object : Object) (ids : Stamp) (r : ℤ) (g : Governor) → IsStated r → IsFine (moved_to object ids r g)
+moved_fine object ids r g stated = let row = moved_to object ids r g in fine_row ids g.start r row.start row.end g.override.number stated
 
 numbered_served : (object : Object) → IsReadObject object → All (λ (n : Numbered). HasServed n.component) (numbered object)
 numbered_served object is =
@@ -268,39 +271,21 @@ numbered_served object is =
     (λ i j c e found. has_served object c (All-slice_get (IsReadComponent object) object.components i c is.components found))
 
 rows_fine : (object : Object) → IsRead object → All IsFine (rows object)
-rows_fine object read =
-    All-append IsFine (undated_rows object) (flat_map dated (option_to_list (ids_start object)))
-    (All-map IsFine undated_row (filter (λ (n : Numbered). is_none (own_start n.component)) (numbered object)) (All-everywhere (λ n. IsFine (undated_row n)) fine_undated (filter (λ (n : Numbered). is_none (own_start n.component)) (numbered object))))
-    (All-flat_map IsFine dated (option_to_list (ids_start object)) (All-everywhere (λ ids. All IsFine (dated ids)) dated_fine (option_to_list (ids_start object))))
+rows_fine object read = rows-hold IsFine every_moment object (record {
+  undated = fine_undated;
+  own = λ ids all n c. overrides_fine object ids all n offsets (All-contains (λ (m : Numbered). HasServed m.component) (overrides object) n served c);
+  instance = λ ids r n c d. master_fine object ids r n (All-contains IsStated (starts every_moment object) r stated c);
+  moved = λ ids r g c governs served. moved_fine object ids r g (All-contains IsStated (starts every_moment object) r stated c);
+})
   where
-    all : List ℤ
-    all = starts every_moment object
-
     offsets : All HasShortOffsets object.zones
     offsets = (HasNearRows-read object read).offsets
 
-    stated : All IsStated all
+    stated : All IsStated (starts every_moment object)
     stated = starts-served every_moment object (IsReadObject-read object read)
 
-    of_overrides : Stamp → List Row
-    of_overrides ids = flat_map (override_row object ids all) (overrides object)
-
-    of_starts : Stamp → List Row
-    of_starts ids = flat_map (row_at every_moment object ids all) all
-
-    dated : Stamp → List Row
-    dated ids = dated_rows (row_at every_moment object) every_moment object ids
-
-    dated_fine : (ids : Stamp) → All IsFine (dated ids)
-    dated_fine ids =
-        All-in_order IsFine (of_overrides ids ++ filter (λ (r : Row). not (is_named object ids r.id)) (of_starts ids))
-        (All-append IsFine (of_overrides ids) (filter (λ (r : Row). not (is_named object ids r.id)) (of_starts ids))
-        (All-flat_map IsFine (override_row object ids all) (overrides object)
-        (All-filter has_id (λ n. All IsFine (override_row object ids all n)) (numbered object)
-        (All-weaker (λ (n : Numbered). HasServed n.component) (λ n. All IsFine (override_row object ids all n)) (λ n served. overrides_fine object ids all n offsets stated served) (numbered object) (numbered_served object (IsReadObject-read object read)))))
-        (All-filter (λ (r : Row). not (is_named object ids r.id)) IsFine (of_starts ids)
-        (All-flat_map IsFine (row_at every_moment object ids all) all
-        (All-weaker IsStated (λ r. All IsFine (row_at every_moment object ids all r)) (starts_fine object ids all) all stated))))
+    served : All (λ (m : Numbered). HasServed m.component) (overrides object)
+    served = All-filter has_id (λ (m : Numbered). HasServed m.component) (numbered object) (numbered_served object (IsReadObject-read object read))
 
 shown_row : (object : Object) → IsRead object → (row : Row) → Contains (rows object) row → IsShownRow row
 shown_row object read row among = elim (cases_Bool (is_dated row)) [
