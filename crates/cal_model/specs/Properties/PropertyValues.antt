@@ -1,6 +1,7 @@
 -- The contents of properties, as they are written, where they are there (RFC 4918, 15; RFC 3744, 4 and 5; RFC 4791, 5.2 and 6.2.1; RFC 5397, 3).
 -- Given: who asks, and a resource as the caller sees it. Which property has which content, and who may see it, is `PropertyTable`.
-use Rattle.std.specs.Prelude.{ℕ, if◌then◌else◌, List, [], ◌∷◌, ◌++◌, filter, flat_map, Option, Some, None, option_map, option_and_then, option_to_list, slice_get, codes}
+use Rattle.std.specs.Prelude.{ℕ, if◌then◌else◌, List, [], ◌∷◌, ◌++◌, length, filter, flat_map, Option, Some, None, option_map, option_and_then, codes}
+use Rattle.std.specs.List.{range_with_len}
 use Rattle.cal_base.specs.Xml.CanonicalXml.{attribute, element_with}
 use Rattle.cal_model.specs.declared.path.Path.TheVariants.{Principal, Home}
 use Rattle.cal_model.specs.declared.privilege.Grant.{Grant}
@@ -11,8 +12,7 @@ use Rattle.cal_model.specs.Words.Namespaces.{dav}
 use Rattle.cal_model.specs.Access.Privileges.{privileges, has_all, all, write}
 use Rattle.cal_model.specs.Replies.XmlText.{element, xml_text}
 use Rattle.cal_model.specs.State.PropertyTexts.{text_at}
-use Rattle.cal_model.specs.State.ServerState.{Directory, user_name, user_number, group_name, group_number, groups_of}
-use Rattle.cal_model.specs.Users.UsersFile.{Group}
+use Rattle.cal_model.specs.State.ServerState.{Directory, user_name, user_number, group_name, group_number, groups_of, is_member}
 use Rattle.cal_model.specs.Sight.Views.{Sight, Contents}
 use Rattle.cal_model.specs.Replies.ReplyElements.{privilege_element, href_element}
 use Rattle.cal_model.specs.Sight.Resources.{Resource, held_of, Asker, root, principal, group, home, calendar, object}
@@ -59,7 +59,7 @@ home_href asker resource = Some (href_element (Home (owner_of resource)))
 -- RFC 3744, 4.3: the members of a group, by their numbers
 abbrev pub members_of : Directory → ℕ → List ℕ
 members_of directory number =
-    flat_map (λ (found : Group). flat_map (λ user. href_element (Principal (user_name directory user))) found.members) (option_to_list (slice_get directory.groups number))
+    flat_map (λ user. href_element (Principal (user_name directory user))) (filter (is_member directory number) (range_with_len 0 (length directory.names)))
 
 abbrev pub group_members : Value
 group_members asker (group name) = option_map (members_of asker.directory) (group_number asker.directory name)
