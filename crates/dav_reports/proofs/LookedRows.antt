@@ -6,7 +6,7 @@ use Rattle.std.proofs.lemmas.Bool.{eqb-true}
 use Rattle.std.specs.Borrow.{Bor}
 use Rattle.std.specs.Option.{option_copied}
 use Rattle.std.proofs.lemmas.Int.{ints}
-use Rattle.std.proofs.lemmas.List.Elements.{All-append, All-head, All-tail, All-map, All-filter, filter-append, filter_agree}
+use Rattle.std.proofs.lemmas.List.Elements.{All-nil, All-cons, All-append, All-head, All-tail, All-map, All-filter, filter-append, filter_agree}
 use Rattle.cal_moment.specs.declared.stamp.Stamp.{Stamp}
 use Rattle.cal_moment.specs.declared.stamp.Stamp.TheVariants.{Date, Floating, Zoned, Utc}
 use Rattle.cal_model.specs.declared.object.Object.{Object}
@@ -19,6 +19,7 @@ use Rattle.cal_model.specs.Recurrence.RecurrenceSet.{every_moment}
 use Rattle.cal_model.specs.Reports.NeededWindows.{windows_needed}
 use Rattle.cal_model.proofs.Instances.EachRowLemmas.{All-in_order}
 use Rattle.cal_model.specs.Words.Integers.{same_int}
+use Rattle.cal_model.proofs.Instances.GovernedRows.{moved_row-holds, moved_to, row_at-holds}
 use Rattle.cal_model.proofs.Instances.RowsInOrder.{rows-in_order}
 use Rattle.cal_model.proofs.Objects.ObjectFactLaws.{IsReadObject-read}
 use Rattle.cal_model.proofs.Ranges.WindowLaws.{in_order-windows, lies_in_some}
@@ -72,6 +73,13 @@ masters_dated object ids r n =
     row : Stamp → Row
     row s = row_of r r (end_of_instance every_moment object.zones s n.component r) n.number (kind_of ids) (kind_of s)
 
+-- of the master's rows of a start, and of one that an override moves
+starts_dated : (object : Object) (ids : Stamp) (all : List ℤ) (r : ℤ) → All IsDated (row_at every_moment object ids all r)
+starts_dated object ids all r =
+    row_at-holds (All IsDated) every_moment object ids all r
+    (All-flat_map IsDated (master_row every_moment object ids r) (masters object) (All-everywhere (λ n. All IsDated (master_row every_moment object ids r n)) (masters_dated object ids r) (masters object)))
+    (λ g governs. moved_row-holds (All IsDated) object ids r g (All-nil IsDated) (λ served. All-cons IsDated (moved_to object ids r g) [] (kind_dated g.start) (All-nil IsDated)))
+
 abbrev dated_of : Object → List Row
 dated_of object = flat_map (dated_rows (row_at every_moment object) every_moment object) (option_to_list (ids_start object))
 
@@ -83,18 +91,14 @@ all_dated object =
     starts_of_object : List ℤ
     starts_of_object = starts every_moment object
 
-    instances : (ids : Stamp) → All IsDated (flat_map (row_at every_moment object ids starts_of_object) starts_of_object)
-    instances ids =
-        All-flat_map IsDated (row_at every_moment object ids starts_of_object) starts_of_object
-        (All-everywhere (λ r. All IsDated (row_at every_moment object ids starts_of_object r))
-        (λ r. All-flat_map IsDated (master_row every_moment object ids r) (masters object) (All-everywhere (λ n. All IsDated (master_row every_moment object ids r n)) (masters_dated object ids r) (masters object))) starts_of_object)
-
     dated : (ids : Stamp) → All IsDated (dated_rows (row_at every_moment object) every_moment object ids)
     dated ids =
         All-in_order IsDated (flat_map (override_row object ids starts_of_object) (overrides object) ++ filter (λ (r : Row). not (is_named object ids r.id)) (flat_map (row_at every_moment object ids starts_of_object) starts_of_object))
         (All-append IsDated (flat_map (override_row object ids starts_of_object) (overrides object)) (filter (λ (r : Row). not (is_named object ids r.id)) (flat_map (row_at every_moment object ids starts_of_object) starts_of_object))
         (All-flat_map IsDated (override_row object ids starts_of_object) (overrides object) (All-everywhere (λ n. All IsDated (override_row object ids starts_of_object n)) (overrides_dated object ids starts_of_object) (overrides object)))
-        (All-filter (λ (r : Row). not (is_named object ids r.id)) IsDated (flat_map (row_at every_moment object ids starts_of_object) starts_of_object) (instances ids)))
+        (All-filter (λ (r : Row). not (is_named object ids r.id)) IsDated (flat_map (row_at every_moment object ids starts_of_object) starts_of_object)
+        (All-flat_map IsDated (row_at every_moment object ids starts_of_object) starts_of_object
+        (All-everywhere (λ r. All IsDated (row_at every_moment object ids starts_of_object r)) (starts_dated object ids starts_of_object) starts_of_object))))
 
 without_date : (P : Row → Type 0) → ((n : Numbered) → P (undated_row n)) → (object : Object) → All P (undated_rows object)
 without_date P each object =

@@ -52,7 +52,7 @@ query_rows octets object some ranges select wanted zone kept short named are =
     record {
       near = subst (All IsNearRow) (sym are) (looked_near object (filter (counts object ranges) stated_windows) kept);
       can_be_shown = rows_shown object some report kept looked;
-      shows = ap (λ rs. shown octets object rs select zone) looked ∙ shown-looked_at report select (names-query NoProps select wanted None) octets object zone near short stated;
+      shows = ap (λ rs. shown octets object rs select zone) looked ∙ shown-looked_at report select (names-query NoProps select wanted None) octets object zone near short (IsReadObject-read object kept.read).one_master stated;
       matching = ap (λ rs. matches wanted object rs zone) looked ∙ matches-looked_at NoProps select wanted None object zone near short stated;
     }
 
@@ -71,5 +71,5 @@ multiget_rows octets object some ranges select zone kept short named are =
       can_be_shown = rows_shown object some report kept looked;
       shows =
           ap (λ rs. shown octets object rs select zone) looked
-          ∙ shown-looked_at report select (names-multiget NoProps select []) octets object zone (HasNearRows-read object kept.read) short (is_stated-row object (IsReadObject-read object kept.read));
+          ∙ shown-looked_at report select (names-multiget NoProps select []) octets object zone (HasNearRows-read object kept.read) short (IsReadObject-read object kept.read).one_master (is_stated-row object (IsReadObject-read object kept.read));
     }
