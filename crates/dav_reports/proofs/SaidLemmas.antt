@@ -12,7 +12,7 @@ use Rattle.cal_model.specs.Properties.PropertyTable.{Answer, answer, row_of, wit
 use Rattle.cal_model.specs.Access.Privileges.{has_all}
 use Rattle.cal_model.specs.Replies.Hrefs.{href}
 use Rattle.cal_model.specs.Replies.XmlText.{response}
-use Rattle.cal_model.specs.Sight.Resources.{Resource, root, principal, home, calendar, object, Asker, held_of, is_object, path_of_resource}
+use Rattle.cal_model.specs.Sight.Resources.{Resource, root, principal, group, home, calendar, object, Asker, held_of, is_object, path_of_resource}
 use Rattle.std.proofs.lemmas.Bool.{false≢true}
 use Rattle.dav_reports.specs.AskedProperties.{if_there, names_asked, names_listed, said_of}
 
@@ -57,6 +57,7 @@ names_said f g (n ∷ names) = by ((f n).status == 200) (names_said f g names)
 no_texts : (resource : Resource) → is_object resource ≡ true → (names_where is_in_both resource ≡ names_listed is_in_both) × (names_where is_in_names resource ≡ names_listed is_in_names)
 no_texts root e = absurd (false≢true e)
 no_texts (principal user) e = absurd (false≢true e)
+no_texts (group name) e = absurd (false≢true e)
 no_texts (home owner) e = absurd (false≢true e)
 no_texts (calendar owner name sight) e = absurd (false≢true e)
 no_texts (object owner within name sight octets) e = (append-nil (names_listed is_in_both), append-nil (names_listed is_in_names))

@@ -10,7 +10,7 @@ use Rattle.cal_model.specs.declared.property.PropName.{PropName}
 use Rattle.cal_model.specs.Access.Privileges.{same_name, has_all, read}
 use Rattle.cal_model.specs.Properties.PropertyTable.{answer, properties, without_value}
 use Rattle.cal_model.specs.Serving.SeenResources.{seen_answer, answer_at, calendar_data}
-use Rattle.cal_model.specs.Sight.Resources.{Resource, root, principal, home, calendar, object, is_object, held_of}
+use Rattle.cal_model.specs.Sight.Resources.{Resource, root, principal, group, home, calendar, object, is_object, held_of}
 use Rattle.cal_model.specs.Sight.Views.{Sight}
 use Rattle.cal_model.specs.State.ServerState.{Directory, ServerState}
 use Rattle.multistatus.specs.ReplyPieces.{with_text}
@@ -45,6 +45,7 @@ data_answered {directory} {state} {who} {path} {text} {shown} {resource} is name
       by : (resource : Resource) → is_object resource ≡ true → has_all (held_of resource) read ≡ true → shown (octets_of resource) ≡ text → with_text calendar_data text ≡ answer (asker_of directory who shown) resource calendar_data
       by root none may is_text = absurd (false≢true none)
       by (principal user) none may is_text = absurd (false≢true none)
+      by (group name) none may is_text = absurd (false≢true none)
       by (home owner) none may is_text = absurd (false≢true none)
       by (calendar owner name sight) none may is_text = absurd (false≢true none)
       by (object owner within name sight octets) there may is_text = data_here directory who text shown owner within name sight octets may is_text
