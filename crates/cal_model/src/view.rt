@@ -19,9 +19,9 @@ use crate::store::CalendarData;
 use crate::stored::Stored;
 use cal_base::{Arc, List, NoMemory};
 
-/// A state of the server with its users and groups, as it is looked at. An object's origin is the number of the
-/// journal's entry that made it, counted from 0. No call takes memory, and each takes about the
-/// logarithm of what there is.
+/// A state of the server with its users and groups, as it is looked at. An object's origin is the
+/// number of the journal's entry that made it, counted from 0. No call takes memory, and each takes
+/// about the logarithm of what there is.
 pub trait View {
     /// The users and the groups.
     ghost directory: { Self → Directory };
@@ -67,10 +67,11 @@ pub trait View {
         ensures number { result ≡ user_number (directory self.now) name.now }
         ensures told { AreToldApart (directory self.now) };
 
-    /// How many users and groups there are.
+    /// How many users there are.
     fn user_count(&self) -> u32
         ensures { result ≡ length (directory self.now).names };
 
+    /// How many groups there are.
     fn group_count(&self) -> u32
         ensures { result ≡ length (directory self.now).groups };
 
@@ -93,7 +94,7 @@ pub trait View {
 
 /// What changes can be made in.
 pub trait Applies {
-    /// The users, whom no change touches.
+    /// The users and the groups, which no change touches.
     ghost directory: { Self → Directory };
 
     /// The state.
@@ -103,8 +104,8 @@ pub trait Applies {
     ghost origins: { Self → Origins };
 
     /// Makes a change that is accepted in this state, as the entry of a number: one that names what
-    /// can be named, and grants to users alone. After `NoMemory`
-    /// nothing is changed. A deletion takes no memory and succeeds.
+    /// can be named, and grants to users and groups that there are. After `NoMemory` nothing is
+    /// changed. A deletion takes no memory and succeeds.
     fn apply(&mut self, change: &Change, origin: u64) -> Result<(), NoMemory>
         requires acceptable { IsAcceptable (directory self.old) (state self.old) (kept_change change.now) }
         requires sound { IsSoundChange (directory self.old) (kept_change change.now) }

@@ -1,5 +1,5 @@
 -- The body of ACL (RFC 3744, 5.5 and 8.1): the grants that it makes, and the table of its refusals.
--- Given: the users of the server and the root of a body. Gives: the grants in order, or the first refusal: that of the first ace that has one.
+-- Given: the users and groups of the server, and the root of a body. Gives: the grants in order, or the first refusal: that of the first ace that has one.
 use Rattle.std.specs.Prelude.{ℕ, Bool, true, false, not, ◌&&◌, ◌||◌, nat_le, if◌then◌else◌, List, [], ◌∷◌, map, filter, flat_map, codes, Option, Some, None, is_none, option_map, option_and_then, option_to_list}
 use Rattle.std.specs.List.{list_any, filter_map, enumerate_from}
 use Rattle.cal_base.specs.declared.element.Element.{Element}

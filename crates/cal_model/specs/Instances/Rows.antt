@@ -174,7 +174,8 @@ abbrev pub merged : Object → Stamp → List ℤ → List Row → List Row
 merged object ids all instances =
     in_order (flat_map (override_row object ids all) (overrides object) ++ filter (λ (r : Row). not (is_named object ids r.id)) instances)
 
--- The same over all instances, whose ids are their starts (`dated_rows-merged` in `proofs/Instances/RowsInOrder`); these may be rows of overrides that govern. Over some of them it is another list: an override by a local day takes its id from the instances that it is given.
+-- The same over all instances, those of overrides that govern too: each has the start that it stands for as its id, so overrides find in these ids what they name (`dated_rows-merged` in `proofs/Instances/RowsInOrder`).
+-- Over some of them it is another list: an override by a local day takes its id from the instances that it is given.
 abbrev pub merged_with : Object → List Row → List Row
 merged_with object instances =
     flat_map (λ ids. merged object ids (map (λ (r : Row). r.id) instances) instances) (option_to_list (ids_start object))

@@ -81,7 +81,7 @@ days_earlier (negsuc n) = (n + 86400) / 86400
 abbrev pub all_governors : List ℕ → Object → List Governor
 all_governors moments object = flat_map (λ ids. governors object ids (starts moments object)) (option_to_list (ids_start object))
 
--- by how many days at most they move a start to earlier
+-- the most days, rounded up, by which one of them moves a start to earlier
 abbrev pub greatest_move : List ℕ → Object → ℕ
 greatest_move moments object = greatest (map (λ g. days_earlier (move_of object.zones g)) (all_governors moments object))
 
@@ -92,24 +92,27 @@ is_common offset = nat_lt (nat_abs offset) 64800
 abbrev pub has_common_offsets : ZoneTable → Bool
 has_common_offsets zone = is_common zone.before && list_all (λ (o : Onset). is_common o.offset) zone.onsets
 
--- a RECURRENCE-ID that names one moment
+-- a RECURRENCE-ID that names one value, and not a local day
 abbrev pub is_moment : Aligned → Bool
 is_moment (at v) = true
 is_moment (on_day midnight) = false
 
+-- each override that moves later instances names one
 abbrev pub names_moments : Object → Option Stamp → Bool
 names_moments object None = true
 names_moments object (Some ids) = list_all is_moment (flat_map (named_by object.zones ids) (filter moves_later (overrides object)))
 
--- How many days a start can lie beside the window that its row is moved to, the move aside: three, as four offsets lie between; and nine, whatever the offsets are and where such an override names a local day.
+-- How many days a start can lie beside the window in which its moved row lies, the move aside. Four offsets lie between the two: three days, where each is below 18 hours.
+-- Else nine: four offsets below a day; and where a local day is named, that day, and two offsets more on each side of it, since a walk ends before it is known which start of the day gives the id.
 abbrev pub days_apart : Object → ℕ
 days_apart object = if list_all has_common_offsets object.zones && names_moments object (ids_start object) then 3 else 9
 
--- the last day on which a period may begin: that of the window, where some override moves later instances so many days after it and those by which one moves to earlier, and each day that a RECURRENCE-ID names
+-- the last day of the window; where some override moves later instances, so many days after it, and the days by which one moves to earlier
 abbrev pub last_moved : List ℕ → Object → ℤ → ℕ
 last_moved moments object window =
     if list_any moves_later (overrides object) then last_of_window window + (days_apart object + greatest_move moments object) else last_of_window window
 
+-- the last day on which a period may begin: that, or the latest local day that a RECURRENCE-ID names
 abbrev pub last_day : List ℕ → Object → ℤ → ℕ
 last_day moments object window = max (last_moved moments object window) (greatest (days_named_from object (ids_start object)))
 

@@ -1,5 +1,5 @@
 -- Two states look alike to a user: no difference between them can be read by the user, or seen as busy time (RFC 3744, 3; RFC 4791, 6.1.1).
--- Given: the users, two states, and the number of one user. It speaks of the states themselves, and not of what a request sees of them.
+-- Given: the users and groups, which are the same in both, two states, and the number of one user. It speaks of the states themselves, and not of what a request sees of them.
 use Rattle.std.specs.Prelude.{◌≡◌, ℕ, true, false, List, ℤ, ◌≤ℤ◌}
 use Rattle.std.specs.List.{AllZip, enumerate_from}
 use Rattle.cal_model.specs.Words.Limits.{first_date, last_date}
@@ -27,6 +27,6 @@ abbrev pub HomesLookAlike : Directory → ℕ → ℕ × Home → ℕ × Home �
 HomesLookAlike directory who a b =
     (a.0 ≡ b.0) × AllZip (EntriesLookAlike directory a.0 who) (visible_calendars directory a.0 who a.1) (visible_calendars directory b.0 who b.1)
 
--- Two states of the same users look alike to one of them.
+-- Two states of the same users and the same groups look alike to one of the users.
 abbrev pub LookAlike : Directory → ServerState → ServerState → ℕ → Type 0
 LookAlike directory a b who = AllZip (HomesLookAlike directory who) (enumerate_from 0 a.homes) (enumerate_from 0 b.homes)

@@ -1,6 +1,6 @@
 -- What a user sees of the server: the calendars on which some privilege is held, each with the privileges held and with what these show
 -- (RFC 3744, 3 and 5.4; RFC 4791, 6.1.1). A hidden calendar is as one that is not there.
--- Given: the users, a state, and the number of one user. The reply to a request that only reads is a function of this alone; it stands for "may read, or see as busy".
+-- Given: the users and groups, a state, and the number of one user. The reply to a request that only reads is a function of this alone; it stands for "may read, or see as busy".
 use Rattle.std.specs.Prelude.{ℕ, Bool, true, false, not, ◌&&◌, ◌==◌, if◌then◌else◌, List, map, filter, Option, Some, None, ℤ, int_le}
 use Rattle.std.specs.List.{enumerate_from}
 use Rattle.cal_base.specs.Lists.NameMap.{Named}
@@ -13,7 +13,7 @@ use Rattle.cal_model.specs.Access.Privileges.{privileges_held, has_all, read, re
 use Rattle.cal_model.specs.State.PropertyTexts.{Texts}
 use Rattle.cal_model.specs.State.ServerState.{Directory, Calendar, Home, ServerState, groups_of, objects_of, own_zone}
 
--- the privileges that a user holds on a calendar
+-- the privileges that a user holds on a calendar, by grants to the user's groups too
 abbrev pub held_on : Directory → ℕ → ℕ → Calendar → ℕ
 held_on directory owner who calendar = privileges_held (groups_of directory who) calendar.grants owner who
 

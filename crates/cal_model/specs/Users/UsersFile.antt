@@ -163,10 +163,11 @@ abbrev pub repeated : List (Placed Entry) → List ℕ
 repeated [] = []
 repeated (entry ∷ more) = places (filter (λ other. bytes_eq (name_of entry.it) (name_of other.it)) more) ++ repeated more
 
--- the places of the groups that have a member whom no line before them names as a user
+-- a group has a member who is none of these users
 abbrev pub has_stranger : List (List ℕ) → NamedGroup → Bool
 has_stranger known group = list_any (λ member. not (list_any (bytes_eq member) known)) group.members
 
+-- the places of the groups that have a member whom no line before theirs names as a user
 abbrev pub with_strangers : List (List ℕ) → List (Placed Entry) → List ℕ
 with_strangers known [] = []
 with_strangers known (entry ∷ more) =
