@@ -212,8 +212,13 @@ def users():
     many = [line(f"u{n}") for n in range(33)]
     starts("users", b"".join(many[:32]))
     starts("users, and one more", b"".join(many), len(b"".join(many[:32])))
+    groups = [b"group g%d u0\n" % n for n in range(17)]
+    starts("groups", many[0] + b"".join(groups[:16]))
+    starts("groups, and one more", many[0] + b"".join(groups), len(many[0] + b"".join(groups[:16])))
     starts("octets of a user's name", line("u" * 32))
     starts("octets of a user's name, and one more", line("u" * 33), 0)
+    starts("octets of a group's name", many[0] + b"group %s u0\n" % (b"g" * 32))
+    starts("octets of a group's name, and one more", many[0] + b"group %s u0\n" % (b"g" * 33), len(many[0]))
     starts("octets of a users file", b"\n" * 65536)
     starts("octets of a users file, and one more", b"\n" * 65537, 65536)
 
