@@ -1,5 +1,5 @@
 -- Worked examples of calendar objects that are read, and of the faults of others.
-use Rattle.std.specs.Prelude.{◌≡◌, refl, ℕ, ◌*◌, List, [], ◌∷◌, ◌++◌, map, Option, Some, None, false, option_map, Result, Ok, Err, codes, pos, neg_ℤ}
+use Rattle.std.specs.Prelude.{◌≡◌, refl, ℕ, ◌*◌, Bool, List, [], ◌∷◌, ◌++◌, map, Option, Some, None, true, false, option_map, Result, Ok, Err, codes, pos, neg_ℤ}
 use Rattle.std.specs.Str.{is_utf8, chars}
 use lib.Utf8.{encode}
 use Rattle.cal_base.specs.declared.line.Node as N
@@ -115,6 +115,27 @@ leap_day : shown (read_object (calendar (codes "BEGIN:VEVENT\nUID:one\nDTSTART;V
 )
 unfolding is_utf8 chars encode date_of time_of date_time_of count_of integer_of length_of offset_of stamps_in_grammar periods_in_grammar trigger_of rule_in_grammar N.out-Node N.roll-Node B.shown-the_row-Node-0 B.hidden-the_row-Node-0 B.shape-the_row-Node-0 H.out H.roll H.shown H.hidden
 leap_day = refl
+
+-- which components of a text move all later instances
+abbrev move_later : List ℕ → Option (List Bool)
+move_later inside = option_map (λ components. map (λ (c : Component). c.future) components) (components_in inside)
+
+-- any of the values of RANGE may say so, in any case; DTSTART has to be there, of the kind of the ids
+later_ones : map move_later (
+    codes "BEGIN:VEVENT\nUID:one\nRECURRENCE-ID;RANGE=x,ThisAndFuture:20250310T090000Z\nDTSTART:20250310T100000Z\nEND:VEVENT\n"
+    ∷ codes "BEGIN:VEVENT\nUID:one\nRECURRENCE-ID;RANGE=x,ThisAndFuture:20250310T090000Z\nEND:VEVENT\n"
+    ∷ codes "BEGIN:VEVENT\nUID:one\nRECURRENCE-ID;RANGE=x,ThisAndFuture:20250310T090000Z\nDTSTART:20250310\nEND:VEVENT\n"
+    ∷ codes "BEGIN:VEVENT\nUID:one\nRECURRENCE-ID;RANGE=THISANDPRIOR:20250310T090000Z\nDTSTART:20250310T100000Z\nEND:VEVENT\n"
+    ∷ codes "BEGIN:VTODO\nUID:one\nDTSTART:20250303T090000Z\nRRULE:FREQ=WEEKLY;COUNT=3\nEND:VTODO\nBEGIN:VTODO\nUID:one\nRECURRENCE-ID;RANGE=THISANDFUTURE:20250310T090000Z\nDUE:20250311T090000Z\nEND:VTODO\n"
+    ∷ []
+    ) ≡ Some (true ∷ [])
+    ∷ Some (false ∷ [])
+    ∷ Some (false ∷ [])
+    ∷ Some (false ∷ [])
+    ∷ Some (false ∷ false ∷ [])
+    ∷ []
+unfolding is_utf8 chars encode date_of time_of date_time_of count_of integer_of length_of offset_of stamps_in_grammar periods_in_grammar trigger_of rule_in_grammar N.out-Node N.roll-Node B.shown-the_row-Node-0 B.hidden-the_row-Node-0 B.shape-the_row-Node-0 H.out H.roll H.shown H.hidden
+later_ones = refl
 
 -- a VTODO ends by DUE and not by DTEND, and a day alone has no length there
 todo : components_in (codes "BEGIN:VTODO\nUID:one\nDUE:20250310T090000\nCOMPLETED:20250310T080000\nCREATED:20250310T070000Z\nEND:VTODO\n") ≡ Some (record (nothing_said Todo) {

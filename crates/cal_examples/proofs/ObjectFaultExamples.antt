@@ -272,6 +272,12 @@ not_stored : map fault_in (
 unfolding is_utf8 chars encode date_of time_of date_time_of count_of integer_of length_of offset_of stamps_in_grammar periods_in_grammar trigger_of rule_in_grammar offset_at exists_in instant_of N.out-Node N.roll-Node B.shown-the_row-Node-0 B.hidden-the_row-Node-0 B.shape-the_row-Node-0 H.out H.roll H.shown H.hidden
 not_stored = refl
 
+-- two that move later instances from one start are refused like any two of one start: here one is in UTC, and the other has the same digits and no zone
+move_one_start : fault_in (codes "BEGIN:VEVENT\nUID:1\nDTSTART:20250303T090000Z\nRRULE:FREQ=WEEKLY;COUNT=3\nEND:VEVENT\nBEGIN:VEVENT\nUID:1\nRECURRENCE-ID;RANGE=THISANDFUTURE:20250310T090000Z\nDTSTART:20250310T100000Z\nEND:VEVENT\nBEGIN:VEVENT\nUID:1\nRECURRENCE-ID;RANGE=THISANDFUTURE:20250310T090000\nDTSTART:20250310T110000Z\nEND:VEVENT\n")
+    ≡ Some (not_resource SameRecurrenceId)
+unfolding is_utf8 chars encode date_of time_of date_time_of count_of integer_of length_of offset_of stamps_in_grammar periods_in_grammar trigger_of rule_in_grammar offset_at exists_in instant_of N.out-Node N.roll-Node B.shown-the_row-Node-0 B.hidden-the_row-Node-0 B.shape-the_row-Node-0 H.out H.roll H.shown H.hidden
+move_one_start = refl
+
 -- ids are compared as instants, digits or days, beside the start of the component that has none, and where the zones that this needs are there
 same_instance : map fault_in (
     codes "BEGIN:VTIMEZONE\nTZID:X\nBEGIN:STANDARD\nDTSTART:19700101T000000\nTZOFFSETFROM:+0100\nTZOFFSETTO:+0100\nEND:STANDARD\nEND:VTIMEZONE\nBEGIN:VEVENT\nUID:1\nDTSTART;TZID=X:20250310T100000\nEND:VEVENT\nBEGIN:VEVENT\nUID:1\nRECURRENCE-ID;TZID=X:20250317T100000\nEND:VEVENT\nBEGIN:VEVENT\nUID:1\nRECURRENCE-ID:20250317T090000Z\nEND:VEVENT\n"

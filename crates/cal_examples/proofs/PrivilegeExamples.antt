@@ -2,9 +2,10 @@
 use Rattle.std.specs.Prelude.{◌≡◌, refl, ℕ, true, false, List, [], ◌∷◌, map, Some, None, codes}
 use Rattle.cal_model.specs.declared.privilege.Grant.{Grant}
 use Rattle.cal_model.specs.declared.privilege.Who.{Who}
-use Rattle.cal_model.specs.declared.privilege.Who.TheVariants.{Everyone, Owner, Principal}
+use Rattle.cal_model.specs.declared.privilege.Who.TheVariants.{Everyone, Owner, Principal, Group}
 use Rattle.cal_model.specs.Words.Namespaces.{dav, caldav}
 use Rattle.cal_model.specs.Access.Privileges.{privileges, all, united, set_named, privileges_held, has_all, is_visible, is_home_visible, read, write, read_free_busy}
+use Rattle.cal_model.specs.State.ServerState.{Directory, groups_of, is_member}
 
 -- a grant of a sum of bits
 abbrev grant : Who → ℕ → Grant
@@ -43,6 +44,25 @@ several : (privileges_held [] (grant Everyone 1 ∷ grant (Principal bob) 68 ∷
     × (privileges_held [] (grant Owner 511 ∷ []) alice bob ≡ 0)
 unfolding privileges_held
 several = (refl, refl)
+
+-- what a group of the user was granted is held too, and nothing of another group; the owner in a group holds no more by it
+by_group : (privileges_held (0 ∷ []) (grant (Group 0) 2 ∷ grant (Principal bob) 64 ∷ []) alice bob ≡ 66)
+    × (privileges_held [] (grant (Group 0) 2 ∷ []) alice bob ≡ 0)
+    × (privileges_held (1 ∷ []) (grant (Group 0) 2 ∷ []) alice carol ≡ 0)
+    × (privileges_held (0 ∷ []) (grant (Group 0) 2 ∷ []) alice alice ≡ 511)
+unfolding privileges_held
+by_group = (refl, refl, refl, refl)
+
+-- the groups of each user, by their numbers
+abbrev team : Directory
+team = record {
+  names = codes "alice" ∷ codes "bob" ∷ codes "carol" ∷ [];
+  groups = record { name = codes "team"; members = bob ∷ carol ∷ [] } ∷ record { name = codes "g.2"; members = alice ∷ bob ∷ [] } ∷ [];
+}
+
+in_groups : (groups_of team alice ≡ 1 ∷ []) × (groups_of team bob ≡ 0 ∷ 1 ∷ []) × (groups_of team carol ≡ 0 ∷ [])
+    × (is_member team 0 bob ≡ true) × (is_member team 0 alice ≡ false)
+in_groups = (refl, refl, refl, refl, refl)
 
 -- write is held with all four of its parts, and not with three
 parts_of_write : (has_all 60 write ≡ true) × (has_all 52 write ≡ false)

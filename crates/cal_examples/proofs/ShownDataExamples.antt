@@ -36,6 +36,7 @@ use Rattle.cal_model.specs.Values.ValueTexts.{date_of, time_of, date_time_of, co
 use Rattle.cal_model.specs.TimeZones.Zones.{exists_in, instant_of, offset_at}
 use Rattle.cal_model.proofs.Filters.FilterLemmas.{name_of_roll, lines_of_roll, children_of_roll, printed_roll, picked_roll, plain_roll, busy_limited_roll}
 use Rattle.cal_examples.proofs.MatchingExamples.{line, node}
+use Rattle.cal_examples.proofs.LaterRowExamples.{seven_weeks, rows_of_seven_weeks}
 use Rattle.cal_examples.proofs.OverrideExamples.{moved}
 use Rattle.cal_examples.proofs.PassingExamples.{each}
 use Rattle.cal_examples.proofs.RecurrenceSetExamples.{daily_at}
@@ -215,6 +216,44 @@ limited_text : shown [] plan plan_rows (asked (Limit (range 3 4 3 5))) utc_zone
     ≡ codes "BEGIN:VCALENDAR\r\nVERSION:2.0\r\nBEGIN:VTIMEZONE\r\nTZID:NY\r\nEND:VTIMEZONE\r\nBEGIN:VEVENT\r\nUID:meet\r\nDTSTART;TZID=NY:20250304T100000\r\nDTEND;TZID=NY:20250304T110000\r\nRRULE:FREQ=WEEKLY;COUNT=5\r\nEXDATE;TZID=NY:20250318T100000\r\nSUMMARY:Plan\r\nEND:VEVENT\r\nEND:VCALENDAR\r\n"
 unfolding chars encode H.out H.roll H.shown H.hidden exists_in instant_of offset_at
 limited_text = simp (name_of_roll, lines_of_roll, children_of_roll, printed_roll) refl
+
+-- Overrides that move later instances: over 1 April the one that governs the row of that day stays, though its own row and its original instance lie elsewhere
+
+abbrev pub later_id : List ℕ → Line
+later_id value = record {
+  name = codes "RECURRENCE-ID";
+  params = record { name = codes "RANGE"; values = codes "THISANDFUTURE" ∷ [] } ∷ [];
+  value = value;
+  raw = codes "RECURRENCE-ID;RANGE=THISANDFUTURE:" ++ value;
+}
+
+abbrev pub weeks : Object
+weeks = record plan {
+  uid = codes "u";
+  tree = node (codes "VCALENDAR") []
+      (node (codes "VEVENT") (line (codes "UID") (codes "u") ∷ line (codes "DTSTART") (codes "20250303T090000Z") ∷ line (codes "DTEND") (codes "20250303T100000Z") ∷ line (codes "RRULE") (codes "FREQ=WEEKLY;COUNT=7") ∷ []) []
+      ∷ node (codes "VEVENT") (line (codes "UID") (codes "u") ∷ later_id (codes "20250317T090000Z") ∷ line (codes "DTSTART") (codes "20250318T110000Z") ∷ line (codes "DTEND") (codes "20250318T123000Z") ∷ []) []
+      ∷ node (codes "VEVENT") (line (codes "UID") (codes "u") ∷ line (codes "RECURRENCE-ID") (codes "20250324T090000Z") ∷ line (codes "DTSTART") (codes "20250324T150000Z") ∷ line (codes "DTEND") (codes "20250324T160000Z") ∷ []) []
+      ∷ node (codes "VEVENT") (line (codes "UID") (codes "u") ∷ later_id (codes "20250407T090000Z") ∷ line (codes "DTSTART") (codes "20250406T080000Z") ∷ line (codes "DURATION") (codes "PT15M") ∷ []) []
+      ∷ []);
+  components = seven_weeks;
+}
+
+kept_by_governed_row : left_out weeks rows_of_seven_weeks utc_zone (range 4 1 4 2) ≡ 2 ∷ 3 ∷ []
+unfolding exists_in instant_of offset_at
+kept_by_governed_row = refl
+
+-- it stays as it is
+weeks_limited : shown [] weeks rows_of_seven_weeks (asked (Limit (range 4 1 4 2))) utc_zone
+    ≡ codes "BEGIN:VCALENDAR\r\nBEGIN:VEVENT\r\nUID:u\r\nDTSTART:20250303T090000Z\r\nDTEND:20250303T100000Z\r\nRRULE:FREQ=WEEKLY;COUNT=7\r\nEND:VEVENT\r\nBEGIN:VEVENT\r\nUID:u\r\nRECURRENCE-ID;RANGE=THISANDFUTURE:20250317T090000Z\r\nDTSTART:20250318T110000Z\r\nDTEND:20250318T123000Z\r\nEND:VEVENT\r\nEND:VCALENDAR\r\n"
+unfolding chars encode H.out H.roll H.shown H.hidden exists_in instant_of offset_at
+weeks_limited = simp (name_of_roll, lines_of_roll, children_of_roll, printed_roll) refl
+
+-- and expanded it is the one instance of that day, without RANGE
+weeks_expanded : shown [] weeks rows_of_seven_weeks (asked (Expand (range 4 1 4 2))) utc_zone
+    ≡ codes "BEGIN:VCALENDAR\r\nBEGIN:VEVENT\r\nUID:u\r\nRECURRENCE-ID:20250331T090000Z\r\nDTSTART:20250401T110000Z\r\nDTEND:20250401T123000Z\r\nEND:VEVENT\r\nEND:VCALENDAR\r\n"
+unfolding chars encode H.out H.roll H.shown H.hidden year_of month_of day_of_month
+weeks_expanded = simp (name_of_roll, lines_of_roll, children_of_roll, plain_roll, printed_roll) refl
 
 -- One instance
 
