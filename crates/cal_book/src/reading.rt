@@ -19,7 +19,8 @@ use piece_claims::Claims;
 use std::alloc::Global;
 use std::sync::ledger::Ledger;
 
-/// Names of users are short, so a body that tells which privilege is lacking fits the room for it.
+/// Names of users and groups are short, so a body that tells which privilege is lacking fits the
+/// room for it.
 pub(crate) fn names_are_short(history: &History)
     ensures { AreShort (directory_in history.now) }
 {
