@@ -3,6 +3,7 @@ ghost use Rattle.std.specs.Prelude.{◌≡◌, ◌+◌, ◌≤◌, ◌^◌, leng
 ghost use Rattle.cal_keeper.specs.Disks.CrashModel.{reading};
 ghost use Rattle.cal_keeper.specs.Files.NextEntries.{IsFound, disk_left};
 ghost use Rattle.cal_keeper.specs.Files.RecordForm.{IsPayloadSize, HasRecord};
+ghost use Rattle.cal_keeper.specs.Steps.RecordSteps.{FindsBehind};
 
 use crate::decoding::read_event;
 use crate::disk::Disk;
@@ -124,7 +125,7 @@ fn behind<D: Disk>(
     requires within { place + 5 + length payload ≤ 2 ^ 62 }
     requires few { records ≤ place }
     requires there { IfSome (D.past disk) (λ p. HasRecord payload (drop place (reading p))) }
-    ensures found { (old : D) → D.past old ≡ D.past disk → IsFound D.past D.faults users.now (record { disk = old; users = count; place = place; records = records }) result }
+    ensures found { FindsBehind D.past D.faults users.now (record { disk = disk; users = count; place = place; records = records }) result }
     ensures past_kept { D.past (disk_left result) ≡ D.past disk }
     ensures never_falls { D.faults disk ≤ D.faults (disk_left result) }
 {

@@ -1,10 +1,14 @@
 -- What was read at the place of a gate: a record, a closed gate, or neither.
 -- Given: the place, and the past of the file where the disk tells it.
 use Rattle.std.specs.Prelude.{◌≡◌, ℕ, ◌<◌, Bool, true, false, List, ◌++◌, length, drop, Option, Some, None, Result, Ok, Err}
+use Rattle.cal_model.specs.Users.UsersFile.{User}
+use Rattle.cal_keeper.specs.declared.reader.NextEntry.{NextEntry}
 use Rattle.cal_keeper.specs.declared.record_reading.NoRecord.{NoRecord}
 use Rattle.cal_keeper.specs.declared.record_reading.NoRecord.TheVariants.{Bad, Failed, NoMemory}
 use Rattle.cal_keeper.specs.Disks.CrashModel.{Past, reading}
+use Rattle.cal_keeper.specs.Files.NextEntries.{IsFound}
 use Rattle.cal_keeper.specs.Files.RecordForm.{IsPayloadSize, HasRecord, HasClosedGate, counted_payload}
+use Rattle.cal_keeper.specs.Keepers.{ReaderState}
 
 -- neither a record nor a closed gate stands there
 pub record HasNeither (octets : List ℕ) : Type 0 where
@@ -48,3 +52,9 @@ GivenOf octets (Err NoMemory) = Unit {0}
 abbrev pub Gives : ℕ → Result (List ℕ) NoRecord → Option Past → Type 0
 Gives place given None = Unit {0}
 Gives place given (Some past) = GivenOf (drop place (reading past)) given
+
+-- Behind a payload that was read
+
+-- what a reader finds, whichever disk of the same past it had before the payload was read
+abbrev pub FindsBehind : {D : Type 0} → (D → Option Past) → (D → ℕ) → List User → ReaderState D → NextEntry D → Type 0
+FindsBehind past faults users reader found = (old : _) → past old ≡ past reader.disk → IsFound past faults users (record reader { disk = old }) found
