@@ -15,7 +15,7 @@ use Rattle.cal_model.specs.declared.path.Path.{Path}
 use Rattle.cal_model.specs.declared.path.Path.TheVariants.{Root, Principal, Home, Calendar, Object}
 use Rattle.cal_model.specs.declared.privilege.Grant.{Grant}
 use Rattle.cal_model.specs.declared.privilege.Who.{Who}
-use Rattle.cal_model.specs.declared.privilege.Who.TheVariants.{Everyone, Owner, Principal as PrincipalWho}
+use Rattle.cal_model.specs.declared.privilege.Who.TheVariants.{Everyone, Owner, Principal as PrincipalWho, Group as GroupWho}
 use Rattle.cal_model.specs.declared.reply.Refusal.{Refusal}
 use Rattle.cal_model.specs.declared.reply.Reply.{Reply}
 use Rattle.cal_model.specs.declared.request.Content.{Content}
@@ -40,7 +40,7 @@ use Rattle.cal_model.specs.Sight.Scenes.{Scene, scene_at, visible_home, at_both}
 use Rattle.cal_model.specs.Sight.Views.{Contents, Sight, contents_of, whole_sight, view_by, home_by, visible_calendars}
 use Rattle.cal_model.specs.State.Changes.{Change, put, delete_object, delete_calendar, make, patch, acl, change_of, change_of_object, change_of_calendar}
 use Rattle.cal_model.specs.State.ServerState.{Directory, Calendar as CalendarState, Home as HomeState, ServerState, directory_of, user_number}
-use Rattle.cal_model.specs.Users.UsersFile.{User}
+use Rattle.cal_model.specs.Users.UsersFile.{User, Users}
 use Rattle.cal_model.specs.Words.Limits.{last_moment}
 use Rattle.cal_model.specs.Words.Lists.{is_empty}
 use Rattle.cal_model.proofs.History.JournalLaws.{outcome-effect}
@@ -49,6 +49,8 @@ use Rattle.cal_keeper.specs.Files.EntryLaws.{AcceptedHasForm}
 use Rattle.cal_keeper.specs.Files.Payloads.{home_of, calendar_of, seconds_of, IsName, IsKnown, GrantHasForm, ChangeHasForm}
 use Rattle.cal_keeper.proofs.PayloadBounds.{IsShortChange, payload_is_short}
 use Rattle.cal_keeper.proofs.ShortNames.{made_short, patched_short}
+use Rattle.cal_keeper.specs.Principals.{counts_of}
+use Rattle.cal_keeper.specs.declared.principals.PrincipalCounts.{PrincipalCounts}
 
 -- Tests
 
@@ -83,9 +85,9 @@ name_200 name is =
     second_of_six (nat_le 1 (length name)) (nat_le (length name) 200) (is_utf8 name) (list_all (λ (octet : ℕ). nat_le 32 octet && not (octet == slash)) name) (not (bytes_eq name (codes "."))) (not (bytes_eq name (codes ".."))) is in
     grind (arith, nat_tests, few)
 
-user_within : (users : List User) (name : List ℕ) (home : ℕ) → user_number (directory_of users) name ≡ Some home → home < length users
+user_within : (users : Users) (name : List ℕ) (home : ℕ) → user_number (directory_of users) name ≡ Some home → home < length users.people
 user_within users name home found =
-    omega (arith, (position-Some (bytes_eq name) (directory_of users).names home [] found).0, length-map users (λ (user : User). user.name))
+    omega (arith, (position-Some (bytes_eq name) (directory_of users).names home [] found).0, length-map users.people (λ (user : User). user.name))
 
 from_1970 : (moment : ℤ) → pos 0 ≤ℤ moment → moment ≡ pos (seconds_of moment)
 from_1970 (pos seconds) from = refl
@@ -159,28 +161,29 @@ put_short state scene size media_ok octets contents there rows =
 
 -- Grants
 
-known : (users : List User) (who : Who) → IsAmong users who → IsKnown (length users) who
+known : (users : Users) (who : Who) → IsAmong users who → IsKnown (counts_of users) who
 known users Everyone among = tt
 known users Owner among = tt
 known users (PrincipalWho user) among = among
+known users (GroupWho group) among = among
 
-grants_formed : (users : List User) (grants : List Grant) → All (IsGrantAmong users) grants → All (GrantHasForm (length users)) grants
+grants_formed : (users : Users) (grants : List Grant) → All (IsGrantAmong users) grants → All (GrantHasForm (counts_of users)) grants
 grants_formed users grants among = λ k d within. let grant = among k d within in (known users (get_or grants k d).who grant.0, omega (arith, grant.1))
 
 -- Changes
 
 -- what the form wants of a change
-record IsFormed (users : ℕ) (change : Change) : Type 0 where
-  pub home : home_of change < users
+record IsFormed (counts : PrincipalCounts) (change : Change) : Type 0 where
+  pub home : home_of change < counts.users
   pub calendar : IsName (calendar_of change)
-  pub own : ChangeHasForm users change
+  pub own : ChangeHasForm counts change
   pub short : IsShortChange change
 
 and_then_some : {X : Type 0} (o : Option ℕ) (f : ℕ → Option X) (x : X) → option_and_then f o ≡ Some x → (n : ℕ) × (o ≡ Some n) × (f n ≡ Some x)
 and_then_some None f x is = absurd cc
 and_then_some (Some n) f x is = (n, refl, is)
 
-module _ (users : List User) (state after : ServerState) (session who : ℕ) (moment : ℤ) (if_match if_none : Option Tags) (size status : ℕ) (small : size < 2 ^ 32) where
+module _ (users : Users) (state after : ServerState) (session who : ℕ) (moment : ℤ) (if_match if_none : Option Tags) (size status : ℕ) (small : size < 2 ^ 32) where
   abbrev request_of : Method → Path → Content → Request
   request_of method path what = record { method = method; path = path; if_match = if_match; if_none = if_none; size = size; content = what }
 
@@ -201,8 +204,8 @@ module _ (users : List User) (state after : ServerState) (session who : ℕ) (mo
       (accepted-rows (first_there (rows_of_change state (scene_of method path what) (request_of method path what)))
       (changed state (scene_of method path what) method (change_of (directory_of users) (request_of method path what))) status after as_change).0
 
-  in_object : (method : Method) (what : Content) (user calendar object : List ℕ) (home : ℕ) (change : Change) → home < length users → IsName calendar → IsName object
-      → change_of_object method what home calendar object ≡ Some change → outcome (directory_of users) state (event_of method (Object user calendar object) what) ≡ accepted status after → IsFormed (length users) change
+  in_object : (method : Method) (what : Content) (user calendar object : List ℕ) (home : ℕ) (change : Change) → home < length users.people → IsName calendar → IsName object
+      → change_of_object method what home calendar object ≡ Some change → outcome (directory_of users) state (event_of method (Object user calendar object) what) ≡ accepted status after → IsFormed (counts_of users) change
   unfolding shared_rows scene_at
   in_object Put (content.Put media_ok octets) user calendar object home change within name own asks done =
       let rows = no_rows Put (Object user calendar object) (content.Put media_ok octets) refl done in
@@ -211,27 +214,27 @@ module _ (users : List User) (state after : ServerState) (session who : ℕ) (mo
       let contents = contents_seen (directory_of users) state who (user_number (directory_of users) user) (Some calendar) scene.calendar refl some in
       let octets_few = put_short state scene size media_ok octets contents.0 contents.1 rows.1.1.1.1.1.1 in
       let change_is : put home calendar object octets ≡ change = cc in
-      subst (IsFormed (length users)) change_is (record { home = within; calendar = name; own = own; short = (name_200 object own, octets_few) })
+      subst (IsFormed (counts_of users)) change_is (record { home = within; calendar = name; own = own; short = (name_200 object own, octets_few) })
   in_object Put what user calendar object home change within name own asks done = absurd cc
   in_object Delete what user calendar object home change within name own asks done =
       let change_is : delete_object home calendar object ≡ change = cc in
-      subst (IsFormed (length users)) change_is (record { home = within; calendar = name; own = own; short = name_200 object own })
+      subst (IsFormed (counts_of users)) change_is (record { home = within; calendar = name; own = own; short = name_200 object own })
   in_object method what user calendar object home change within name own asks done = absurd cc
 
-  in_calendar : (method : Method) (what : Content) (user calendar : List ℕ) (home : ℕ) (change : Change) → home < length users → IsName calendar
+  in_calendar : (method : Method) (what : Content) (user calendar : List ℕ) (home : ℕ) (change : Change) → home < length users.people → IsName calendar
       → change_of_calendar method what home calendar size ≡ Some change → IsBookable users who (request_of method (Calendar user calendar) what)
-      → outcome (directory_of users) state (event_of method (Calendar user calendar) what) ≡ accepted status after → IsFormed (length users) change
+      → outcome (directory_of users) state (event_of method (Calendar user calendar) what) ≡ accepted status after → IsFormed (counts_of users) change
   unfolding shared_rows scene_at
   in_calendar Delete what user calendar home change within name asks bookable done =
       let change_is : delete_calendar home calendar ≡ change = cc in
-      subst (IsFormed (length users)) change_is (record { home = within; calendar = name; own = tt; short = tt })
+      subst (IsFormed (counts_of users)) change_is (record { home = within; calendar = name; own = tt; short = tt })
   in_calendar Mkcalendar (content.Make sets) user calendar home change within name asks bookable done =
       let rows = no_rows Mkcalendar (Calendar user calendar) (content.Make sets) refl done in
       let scene = scene_of Mkcalendar (Calendar user calendar) (content.Make sets) in
       let few = bookable.few in
       let short = made_short state scene size sets (first_there-none (make_rows state scene size (content.Make sets)) rows.1.1.1.1.1.1) in
       let change_is : make home calendar sets size ≡ change = cc in
-      subst (IsFormed (length users)) change_is (record { home = within; calendar = name; own = (few, small); short = (few.0, few.1, short) })
+      subst (IsFormed (counts_of users)) change_is (record { home = within; calendar = name; own = (few, small); short = (few.0, few.1, short) })
   in_calendar Proppatch (content.Patch sets) user calendar home change within name asks bookable done =
       let rows = no_rows Proppatch (Calendar user calendar) (content.Patch sets) refl done in
       let scene = scene_of Proppatch (Calendar user calendar) (content.Patch sets) in
@@ -240,15 +243,15 @@ module _ (users : List User) (state after : ServerState) (session who : ℕ) (mo
       let few = bookable.few in
       let short = patched_short state scene size sets contents.0 contents.1 (first_there-none (patch_rows state scene size (content.Patch sets)) rows.1.1.1.1.1.1) in
       let change_is : patch home calendar sets size ≡ change = cc in
-      subst (IsFormed (length users)) change_is (record { home = within; calendar = name; own = (few, small); short = (few.0, few.1, short) })
+      subst (IsFormed (counts_of users)) change_is (record { home = within; calendar = name; own = (few, small); short = (few.0, few.1, short) })
   in_calendar Acl (content.Acl grants) user calendar home change within name asks bookable done =
       let suits = bookable.suits in
       let change_is : acl home calendar grants size ≡ change = cc in
-      subst (IsFormed (length users)) change_is (record { home = within; calendar = name; own = (suits.1, grants_formed users grants bookable.grants, small); short = suits.1 })
+      subst (IsFormed (counts_of users)) change_is (record { home = within; calendar = name; own = (suits.1, grants_formed users grants bookable.grants, small); short = suits.1 })
   in_calendar method what user calendar home change within name asks bookable done = absurd cc
 
   formed : (method : Method) (path : Path) (what : Content) (change : Change) → change_of (directory_of users) (request_of method path what) ≡ Some change → IsBookable users who (request_of method path what)
-      → outcome (directory_of users) state (event_of method path what) ≡ accepted status after → IsFormed (length users) change
+      → outcome (directory_of users) state (event_of method path what) ≡ accepted status after → IsFormed (counts_of users) change
   unfolding change_of
   formed method (Object user calendar object) what change asks bookable done =
       let home = and_then_some (user_number (directory_of users) user) (λ (home : ℕ). change_of_object method what home calendar object) change asks in

@@ -3,7 +3,7 @@ use Rattle.std.proofs.Common.{◌≡◌, inl, inr, ⊎_elim, ℕ, ◌+◌, Bool,
 use Rattle.std.specs.List.{AllByRecursion}
 use Rattle.std.proofs.lemmas.List.{map-append}
 use Rattle.cal_model.specs.History.Journal.{Entry}
-use Rattle.cal_model.specs.Users.UsersFile.{User}
+use Rattle.cal_model.specs.Users.UsersFile.{Users}
 use Rattle.cal_keeper.specs.Disks.CrashModel.{Past, LeavesOnly}
 use Rattle.cal_keeper.specs.Files.Headers.{header_of}
 use Rattle.cal_keeper.specs.Files.Payloads.{payload_of, HasForm}
@@ -11,6 +11,7 @@ use Rattle.cal_keeper.specs.Files.RecordForm.{IsFile, IsKept}
 use Rattle.cal_keeper.specs.Steps.Committing.{IsWithOrWithout, CommitsRecord, Commits}
 use Rattle.cal_keeper.specs.Files.Standing.{recorded, IsRecorded}
 use Rattle.cal_keeper.specs.Files.Appending.{StandsWithOrWithout, Appends, AppendsTold}
+use Rattle.cal_keeper.specs.Principals.{counts_of}
 
 -- what has one property has another
 leaves_more : (P Q : List ℕ → Type 0) (old new : Past) → ((image : List ℕ) → P image → Q image) → LeavesOnly P old new → LeavesOnly Q old new
@@ -21,7 +22,7 @@ leaves_more P Q old new more leaves = record {
 }
 
 -- a record of one session is in the form of another
-recorded_form : (users : List User) (entry : Entry) → HasForm (length users) entry → IsRecorded users (recorded entry)
+recorded_form : (users : Users) (entry : Entry) → HasForm (counts_of users) entry → IsRecorded users (recorded entry)
 recorded_form users entry form = record {
   session = refl;
   form = record {
@@ -40,7 +41,7 @@ pub all_push : (P : Entry → Type 0) (entries : List Entry) (entry : Entry) →
 all_push P [] entry all one = (one, tt)
 all_push P (first ∷ entries) entry all one = (all.0, all_push P entries entry all.1 one)
 
-module _ (users : List User) (entry : Entry) (form : HasForm (length users) entry) where
+module _ (users : Users) (entry : Entry) (form : HasForm (counts_of users) entry) where
   payloads_are : (entries : List Entry) → map payload_of entries ++ payload_of entry ∷ [] ≡ map payload_of (entries ++ recorded entry ∷ [])
   payloads_are entries = sym (map-append payload_of entries (recorded entry ∷ []))
 

@@ -1,7 +1,7 @@
 -- A header that is laid in an empty file.
 use Rattle.std.proofs.Common.{◌≡◌, ℕ, zero, suc, ◌+◌, true, List, [], ◌∷◌, ◌++◌, length, drop, Option, Some, None, IfSome, option_map, refl, sym, ◌∙◌, ap, subst, arith}
 use Rattle.std.proofs.lemmas.List.{append-nil}
-use Rattle.cal_model.specs.Users.UsersFile.{User}
+use Rattle.cal_model.specs.Users.UsersFile.{Users}
 use Rattle.cal_keeper.specs.Disks.CrashModel.{Past, synced, reading, with_piece}
 use Rattle.cal_keeper.specs.Steps.WriteRuns.{Puts}
 use Rattle.cal_keeper.specs.Steps.HeaderSteps.{Begins}
@@ -40,7 +40,7 @@ begun header (Some old) mid new puts settled = (
 )
 
 -- so it is a file of no entries
-pub begun_file : (users : List User) (header : List ℕ) (place : ℕ) (old new : Option Past) → header ≡ header_of users → place ≡ length header → IfSome old (λ p. 0 ≡ length (reading p)) → Begins header true old new → IfSome new (IsKeptFor users [] place)
+pub begun_file : (users : Users) (header : List ℕ) (place : ℕ) (old new : Option Past) → header ≡ header_of users → place ≡ length header → IfSome old (λ p. 0 ≡ length (reading p)) → Begins header true old new → IfSome new (IsKeptFor users [] place)
 begun_file users header place None new header_is place_is empty begins = subst (λ (told : Option Past). IfSome told (IsKeptFor users [] place)) (sym begins) tt
 begun_file users header place (Some old) new header_is place_is empty begins =
     subst (λ (told : Option Past). IfSome told (IsKeptFor users [] place)) (sym begins.1) (record {

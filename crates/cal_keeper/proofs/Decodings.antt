@@ -3,7 +3,7 @@ use Rattle.std.proofs.Common.{◌≡◌, ℕ, ◌<◌, ◌≤◌, ◌^◌, List,
 use Rattle.std.specs.Int.{w16, w32, w64, to_be_bytes}
 use Rattle.cal_model.specs.declared.request.Request.{Request}
 use Rattle.cal_model.specs.History.Journal.{Entry}
-use Rattle.cal_model.specs.Users.UsersFile.{User}
+use Rattle.cal_model.specs.Users.UsersFile.{Users}
 use Rattle.cal_model.specs.Words.Limits.{last_moment}
 use Rattle.cal_keeper.specs.declared.decoding.Head.{Head}
 use Rattle.cal_keeper.specs.Steps.Decoding.{head_text, AsksForOwn, HasNoOwn, ReadsEvent, IsOutside}
@@ -11,7 +11,7 @@ use Rattle.cal_keeper.specs.Files.Payloads.{name_text, own_text, kind_of, home_o
 use Rattle.cal_keeper.specs.Files.RecordForm.{payload_limit}
 use Rattle.cal_keeper.proofs.PartLaws.{name_told, same_4}
 
-pub payload_outside : (users : List User) (payload rest calendar after : List ℕ) (head : Head) → payload ≡ head_text head ++ rest → head.home < length users → length users < 2 ^ 32 → rest ≡ name_text calendar ++ after
+pub payload_outside : (users : Users) (payload rest calendar after : List ℕ) (head : Head) → payload ≡ head_text head ++ rest → head.home < length users.people → length users.people < 2 ^ 32 → rest ≡ name_text calendar ++ after
     → HasNoOwn users head.kind head.home calendar after → IsOutside users payload
 payload_outside users payload rest calendar after head head_is known few rest_is none entry form is =
     let same : head_text head ++ rest ≡ payload_of entry = sym head_is ∙ is in
@@ -21,7 +21,7 @@ payload_outside users payload rest calendar after head head_is known few rest_is
     let told = name_told rest calendar (calendar_of entry.change) after (own_text entry.change) rest_is behind in
     none entry.change (record { kind_is = sym kind; home_is = sym home; calendar_is = sym told.0; form = form.change; text = told.1 })
 
-pub payload_read : (users : List User) (payload rest calendar after : List ℕ) (head : Head) (request : Request) → length payload ≤ payload_limit → payload ≡ head_text head ++ rest → head.who < length users → head.home < length users
+pub payload_read : (users : Users) (payload rest calendar after : List ℕ) (head : Head) (request : Request) → length payload ≤ payload_limit → payload ≡ head_text head ++ rest → head.who < length users.people → head.home < length users.people
     → head.moment ≤ last_moment → head.status < 2 ^ 16 → IsName calendar → rest ≡ name_text calendar ++ after → AsksForOwn users head.kind head.home calendar after request
     → ReadsEvent users payload (record { session = 0; who = head.who; moment = pos head.moment; request = request }) head.status
 payload_read users payload rest calendar after head request short head_is who_known home_known moment_known status_small name rest_is asks =
@@ -43,7 +43,7 @@ payload_read users payload rest calendar after head request short head_is who_kn
           session = refl;
           form = record {
             who = who_known;
-            home = subst (λ (home : ℕ). home < length users) (sym own.home_is) home_known;
+            home = subst (λ (home : ℕ). home < length users.people) (sym own.home_is) home_known;
             moment = refl;
             to_9999 = moment_known;
             status = status_small;

@@ -3,7 +3,7 @@ use Rattle.std.proofs.Common.{◌≡◌, ℕ, ◌<◌, Bool, true, false, IsTrue
 use Rattle.std.proofs.lemmas.List.{length-map}
 use Rattle.std.proofs.lemmas.Bool.{ne_eqb}
 use Rattle.cal_model.specs.declared.privilege.Who.{Who}
-use Rattle.cal_model.specs.declared.privilege.Who.TheVariants.{Everyone, Owner, Principal}
+use Rattle.cal_model.specs.declared.privilege.Who.TheVariants.{Everyone, Owner, Principal, Group}
 use Rattle.cal_model.specs.Bodies.AclLaws.{IsAmong}
 use Rattle.cal_model.specs.History.Journal.{asked, request_for, replay_from, IsLegalFrom}
 use Rattle.cal_model.specs.Paths.TargetPaths.{is_path}
@@ -14,11 +14,12 @@ use Rattle.cal_model.specs.Serving.EventReplies.{state_of, state_after}
 use Rattle.cal_model.specs.State.Changes.{Change, put, delete_object, delete_calendar, make, patch, acl}
 use Rattle.cal_model.specs.State.ServerState.{ServerState, directory_of, user_name, user_number}
 use Rattle.cal_model.specs.State.UserNames.{AreToldApart}
-use Rattle.cal_model.specs.Users.UsersFile.{User}
+use Rattle.cal_model.specs.Users.UsersFile.{User, Users}
 use Rattle.cal_model.specs.Words.Lists.{is_empty}
 use Rattle.cal_keeper.specs.Files.EntryLaws.{FormIsBookable, SessionsAreAlike, RecordedIsLegal, RecordedLeadsAlike}
 use Rattle.cal_keeper.specs.Files.Payloads.{home_of, calendar_of, IsName, IsKnown, ChangeHasForm}
 use Rattle.cal_keeper.specs.Files.Standing.{recorded}
+use Rattle.cal_keeper.specs.Principals.{counts_of}
 
 -- Sessions
 
@@ -47,11 +48,11 @@ recorded_leads_alike directory state (entry ∷ entries) =
 
 -- What can be booked
 
-module _ (users : List User) (told : AreToldApart (directory_of users)) where
+module _ (users : Users) (told : AreToldApart (directory_of users)) where
   -- no user is without a name
-  named : (home : ℕ) → home < length users → is_empty (user_name (directory_of users) home) ≡ false
+  named : (home : ℕ) → home < length users.people → is_empty (user_name (directory_of users) home) ≡ false
   named home within = not_empty (user_name (directory_of users) home) (λ none.
-      let own = told.own home (omega (arith, within, length-map users (λ (user : User). user.name))) in
+      let own = told.own home (omega (arith, within, length-map users.people (λ (user : User). user.name))) in
       different (user_number (directory_of users) []) (user_number (directory_of users) (user_name (directory_of users) home)) told.named own (ap (user_number (directory_of users)) (sym none)))
     where
       different : (a b : Option ℕ) → a ≡ None → b ≡ Some home → a ≡ b → ⊥
@@ -61,12 +62,13 @@ module _ (users : List User) (told : AreToldApart (directory_of users)) where
       not_empty [] some = absurd (some refl)
       not_empty (x ∷ xs) some = ne_eqb (length (x ∷ xs)) 0 (λ same. omega (arith, same))
 
-  among : (who : Who) → IsKnown (length users) who → IsAmong users who
+  among : (who : Who) → IsKnown (counts_of users) who → IsAmong users who
   among Everyone known = tt
   among Owner known = tt
   among (Principal user) known = known
+  among (Group group) known = known
 
-  grants_among : (change : Change) → ChangeHasForm (length users) change → GrantsAmong users (request_for (directory_of users) change).content
+  grants_among : (change : Change) → ChangeHasForm (counts_of users) change → GrantsAmong users (request_for (directory_of users) change).content
   grants_among (put home calendar object octets) form = tt
   grants_among (delete_object home calendar object) form = tt
   grants_among (delete_calendar home calendar) form = tt
@@ -91,7 +93,7 @@ module _ (users : List User) (told : AreToldApart (directory_of users)) where
   zone_short (patch home calendar sets size) = tt
   zone_short (acl home calendar grants size) = tt
 
-  few : (change : Change) → ChangeHasForm (length users) change → PropertiesAreFew (request_for (directory_of users) change).content
+  few : (change : Change) → ChangeHasForm (counts_of users) change → PropertiesAreFew (request_for (directory_of users) change).content
   few (put home calendar object octets) form = tt
   few (delete_object home calendar object) form = tt
   few (delete_calendar home calendar) form = tt
@@ -99,7 +101,7 @@ module _ (users : List User) (told : AreToldApart (directory_of users)) where
   few (patch home calendar sets size) form = form.0
   few (acl home calendar grants size) form = tt
 
-  suits : (change : Change) → ChangeHasForm (length users) change → Suits (request_for (directory_of users) change).method (request_for (directory_of users) change).content
+  suits : (change : Change) → ChangeHasForm (counts_of users) change → Suits (request_for (directory_of users) change).method (request_for (directory_of users) change).content
   suits (put home calendar object octets) form = refl
   suits (delete_object home calendar object) form = refl
   suits (delete_calendar home calendar) form = refl
@@ -115,13 +117,13 @@ module _ (users : List User) (told : AreToldApart (directory_of users)) where
   allowed (patch home calendar sets size) = refl
   allowed (acl home calendar grants size) = refl
 
-  calendar_path : (home : ℕ) (calendar : List ℕ) → home < length users → IsName calendar → IsTrue (is_path (request_for (directory_of users) (delete_calendar home calendar)).path)
+  calendar_path : (home : ℕ) (calendar : List ℕ) → home < length users.people → IsName calendar → IsTrue (is_path (request_for (directory_of users) (delete_calendar home calendar)).path)
   calendar_path home calendar within name = rw (named home within, name) refl
 
-  object_path : (home : ℕ) (calendar object : List ℕ) → home < length users → IsName calendar → IsName object → IsTrue (is_path (request_for (directory_of users) (delete_object home calendar object)).path)
+  object_path : (home : ℕ) (calendar object : List ℕ) → home < length users.people → IsName calendar → IsName object → IsTrue (is_path (request_for (directory_of users) (delete_object home calendar object)).path)
   object_path home calendar object within name own = rw (named home within, name, own) refl
 
-  path_is : (change : Change) → home_of change < length users → IsName (calendar_of change) → ChangeHasForm (length users) change → IsTrue (is_path (request_for (directory_of users) change).path)
+  path_is : (change : Change) → home_of change < length users.people → IsName (calendar_of change) → ChangeHasForm (counts_of users) change → IsTrue (is_path (request_for (directory_of users) change).path)
   path_is (put home calendar object octets) within name form = object_path home calendar object within name form
   path_is (delete_object home calendar object) within name form = object_path home calendar object within name form
   path_is (delete_calendar home calendar) within name form = calendar_path home calendar within name

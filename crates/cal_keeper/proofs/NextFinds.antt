@@ -1,10 +1,10 @@
 -- What a reader finds next, by what stands at its place.
-use Rattle.std.proofs.Common.{◌≡◌, ◌≢◌, ℕ, ◌+◌, ◌<◌, ◌^◌, List, [], ◌∷◌, ◌++◌, length, get_or, drop, map, Option, Some, None, Ok, Err, IfSome, sym, ◌∙◌, ap, subst, arith, length-append, append_assoc}
+use Rattle.std.proofs.Common.{◌≡◌, ◌≢◌, ℕ, ◌+◌, List, [], ◌∷◌, ◌++◌, length, get_or, drop, map, Option, Some, None, Ok, Err, IfSome, sym, ◌∙◌, ap, subst, arith, length-append, append_assoc}
 use Rattle.std.specs.List.{AllByRecursion}
 use Rattle.std.proofs.lemmas.List.{append-nil, map-append}
 use Rattle.cal_model.specs.declared.request.Event.{Event}
 use Rattle.cal_model.specs.History.Journal.{Entry}
-use Rattle.cal_model.specs.Users.UsersFile.{User}
+use Rattle.cal_model.specs.Users.UsersFile.{Users}
 use Rattle.cal_keeper.specs.declared.record_reading.NoRecord.TheVariants.{Bad}
 use Rattle.cal_keeper.specs.Disks.CrashModel.{Past, reading}
 use Rattle.cal_keeper.specs.Steps.Decoding.{ReadsEvent, IsOutside}
@@ -18,8 +18,9 @@ use Rattle.cal_keeper.proofs.Appending.{all_push}
 use Rattle.cal_keeper.proofs.Commits.{front_longer}
 use Rattle.cal_keeper.proofs.GatePlaces.{one_record, record_or_gate}
 use Rattle.cal_keeper.proofs.NextLaws.{texts, entry_told, record_there, behind_place, left_there}
+use Rattle.cal_keeper.specs.Principals.{counts_of, AreFew}
 
-read_one : (users : List User) (entries : List Entry) (entry : Entry) (place : ℕ) (past : Past) → IsRecorded users entry → HasRecord (payload_of entry) (drop place (reading past)) → IsRead users entries place past
+read_one : (users : Users) (entries : List Entry) (entry : Entry) (place : ℕ) (past : Past) → IsRecorded users entry → HasRecord (payload_of entry) (drop place (reading past)) → IsRead users entries place past
     → IsRead users (entries ++ entry ∷ []) (place + 5 + length (payload_of entry)) past
 read_one users entries entry place past recorded there read =
     let longer : front_of (header_of users) (map payload_of (entries ++ entry ∷ [])) ≡ front_of (header_of users) (map payload_of entries) ++ open_record (payload_of entry) =
@@ -40,7 +41,7 @@ read_one users entries entry place past recorded there read =
     longer_place : (front payload whole : List ℕ) (at : ℕ) → at ≡ length front → whole ≡ front ++ open_record payload → at + 5 + length payload ≡ length whole
     longer_place front payload whole at is whole_is = omega (arith, is, ap length whole_is, length-append front (open_record payload))
 
-pub goes_on : (users : List User) → length users < 2 ^ 32 → (entry : Entry) (place next : ℕ) (past : Past) → next ≡ place + 5 + length (payload_of entry) → IsRecorded users entry → HasRecord (payload_of entry) (drop place (reading past))
+pub goes_on : (users : Users) → AreFew (counts_of users) → (entry : Entry) (place next : ℕ) (past : Past) → next ≡ place + 5 + length (payload_of entry) → IsRecorded users entry → HasRecord (payload_of entry) (drop place (reading past))
     → GoesOn users entry place next past
 goes_on users few entry place next past next_is recorded there = record {
   there = there;
@@ -58,7 +59,7 @@ goes_on users few entry place next past next_is recorded there = record {
         let same = entry_told users few e entry in_more.0 recorded (one_record (drop place (reading past)) (payload_of e) (payload_of entry) has there) in
         (more, all_are ∙ ap (λ (x : Entry). entries ++ x ∷ more) same)
 
-pub ends : (users : List User) → length users < 2 ^ 32 → (place : ℕ) (past : Past) → HasClosedGate (drop place (reading past)) → Ends users place past
+pub ends : (users : Users) → AreFew (counts_of users) → (place : ℕ) (past : Past) → HasClosedGate (drop place (reading past)) → Ends users place past
 ends users few place past gate = record {
   gate = gate;
   kept = λ entries read. record {
@@ -85,7 +86,7 @@ ends users few place past gate = record {
         let has = record_there users e (drop place (reading past)) (texts more ++ other ∷ tail) in_more.0 (is ∙ append_assoc (open_record (payload_of e)) (texts more) (other ∷ tail)) in
         absurd (record_or_gate (drop place (reading past)) (payload_of e) has gate)
 
-pub is_bad : (users : List User) → length users < 2 ^ 32 → (place : ℕ) (past : Past) → ((entry : Entry) → IsRecorded users entry → HasRecord (payload_of entry) (drop place (reading past)) → ⊥)
+pub is_bad : (users : Users) → AreFew (counts_of users) → (place : ℕ) (past : Past) → ((entry : Entry) → IsRecorded users entry → HasRecord (payload_of entry) (drop place (reading past)) → ⊥)
     → (HasClosedGate (drop place (reading past)) → ⊥) → IsBadAt users place past
 is_bad users few place past no_record no_gate = record {
   no_record = no_record;
@@ -102,7 +103,7 @@ is_bad users few place past no_record no_gate = record {
 
 -- where the past is told
 
-pub entry_found : (users : List User) → length users < 2 ^ 32 → (told : Option Past) (place next : ℕ) (payload : List ℕ) (event : Event) (status : ℕ) → ReadsEvent users payload event status → next ≡ place + 5 + length payload
+pub entry_found : (users : Users) → AreFew (counts_of users) → (told : Option Past) (place next : ℕ) (payload : List ℕ) (event : Event) (status : ℕ) → ReadsEvent users payload event status → next ≡ place + 5 + length payload
     → IfSome told (λ p. HasRecord payload (drop place (reading p))) → (entry : Entry) × IsEventOf users event status entry × (next ≡ place + 5 + length (payload_of entry)) × IfSome told (GoesOn users entry place next)
 entry_found users few told place next payload event status reads next_is there = (
   reads.0,
@@ -118,16 +119,16 @@ entry_found users few told place next payload event status reads next_is there =
     by None there = tt
     by (Some past) there = goes_on users few reads.0 place next past is reads.1.recorded (subst (λ (xs : List ℕ). HasRecord xs (drop place (reading past))) reads.1.payload_is there)
 
-pub outside_found : (users : List User) → length users < 2 ^ 32 → (told : Option Past) (place : ℕ) (payload : List ℕ) → IsOutside users payload → IfSome told (λ p. HasRecord payload (drop place (reading p))) → IfSome told (IsBadAt users place)
+pub outside_found : (users : Users) → AreFew (counts_of users) → (told : Option Past) (place : ℕ) (payload : List ℕ) → IsOutside users payload → IfSome told (λ p. HasRecord payload (drop place (reading p))) → IfSome told (IsBadAt users place)
 outside_found users few None place payload outside there = tt
 outside_found users few (Some past) place payload outside there =
     is_bad users few place past (λ entry recorded has. outside entry recorded.form (one_record (drop place (reading past)) payload (payload_of entry) there has))
     (λ gate. record_or_gate (drop place (reading past)) payload there gate)
 
-pub neither_found : (users : List User) → length users < 2 ^ 32 → (told : Option Past) (place : ℕ) → Finds place (Err Bad) told → IfSome told (IsBadAt users place)
+pub neither_found : (users : Users) → AreFew (counts_of users) → (told : Option Past) (place : ℕ) → Finds place (Err Bad) told → IfSome told (IsBadAt users place)
 neither_found users few None place finds = tt
 neither_found users few (Some past) place finds = is_bad users few place past (λ entry recorded has. finds.no_record (payload_of entry) has) finds.no_gate
 
-pub end_found : (users : List User) → length users < 2 ^ 32 → (told : Option Past) (place : ℕ) → Finds place (Ok None) told → IfSome told (Ends users place)
+pub end_found : (users : Users) → AreFew (counts_of users) → (told : Option Past) (place : ℕ) → Finds place (Ok None) told → IfSome told (Ends users place)
 end_found users few None place finds = tt
 end_found users few (Some past) place finds = ends users few place past finds

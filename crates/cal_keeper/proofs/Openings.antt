@@ -1,13 +1,10 @@
 -- Which files are opened.
-use Rattle.std.proofs.Common.{◌≡◌, ℕ, suc, ◌*◌, ◌<◌, ◌≤◌, ◌^◌, All, List, [], ◌∷◌, ◌++◌, length, get_or, take, drop, map, Option, Some, None, Err, IfSome, option_map, flat_map, codes, sym, ◌∙◌, ap, subst, arith, length-append, append_assoc}
-use Rattle.std.proofs.lemmas.List.{length-map}
-use Rattle.cal_base.specs.Texts.Octets.{line_feed}
+use Rattle.std.proofs.Common.{◌≡◌, ℕ, ◌<◌, ◌^◌, List, ◌∷◌, ◌++◌, length, take, drop, map, Option, Some, None, Err, IfSome, option_map, flat_map, sym, ◌∙◌, ap, subst, append_assoc}
 use Rattle.cal_model.specs.History.Journal.{Entry}
-use Rattle.cal_model.specs.State.ServerState.{directory_of}
-use Rattle.cal_model.specs.Users.UsersFile.{User}
+use Rattle.cal_model.specs.Users.UsersFile.{Users}
 use Rattle.cal_keeper.specs.declared.opening.NoHeader.TheVariants.{NotJournal, OtherUsers}
 use Rattle.cal_keeper.specs.Disks.CrashModel.{Past, reading, synced}
-use Rattle.cal_keeper.specs.Files.Headers.{user_line, users_text, header_with, header_of, HasHeader}
+use Rattle.cal_keeper.specs.Files.Headers.{users_text, header_with, header_of, HasHeader}
 use Rattle.cal_keeper.specs.Files.Standing.{StandsFor}
 use Rattle.cal_keeper.specs.Files.Opening.{IsNoJournal, IsOfOthers, StandsForNone}
 use Rattle.cal_keeper.specs.Steps.HeaderSteps.{FindsHeader}
@@ -17,24 +14,16 @@ use Rattle.cal_keeper.proofs.PartLaws.{same_4, same_front}
 
 -- What a sync in front of it changes: nothing that a read gives
 
-pub not_journal : (users : List User) (old new : Option Past) → FindsHeader users (Err NotJournal) new → new ≡ option_map synced old → IfSome old (λ p. IsNoJournal (reading p))
+pub not_journal : (users : Users) (old new : Option Past) → FindsHeader users (Err NotJournal) new → new ≡ option_map synced old → IfSome old (λ p. IsNoJournal (reading p))
 not_journal users None new found is = tt
 not_journal users (Some past) new found is = subst (FindsHeader users (Err NotJournal)) is found
 
-pub of_others : (users : List User) (place : ℕ) (old new : Option Past) → FindsHeader users (Err (OtherUsers place)) new → new ≡ option_map synced old → IfSome old (λ p. IsOfOthers users place (reading p))
+pub of_others : (users : Users) (place : ℕ) (old new : Option Past) → FindsHeader users (Err (OtherUsers place)) new → new ≡ option_map synced old → IfSome old (λ p. IsOfOthers users place (reading p))
 of_others users place None new found is = tt
 of_others users place (Some past) new found is = subst (FindsHeader users (Err (OtherUsers place))) is found
 
--- the text of users is short
-users_short : (users : List User) → ((k : ℕ) → (d : List ℕ) → k < length users → length (get_or (map (λ (user : User). user.name) users) k d) ≤ 200) → length (users_text users) ≤ 206 * length users
-users_short [] short = omega arith
-users_short (user ∷ users) short =
-    let own : length user.name ≤ 200 = short 0 [] (omega arith) in
-    let others = users_short users (λ k d within. short (suc k) d (omega (arith, within))) in
-    omega (arith, own, others, length-append (codes "user " ++ user.name) (line_feed ∷ []), length-append (codes "user ") user.name, length-append (user_line user) (users_text users))
-
 -- a file that stands for entries begins with the header of its users
-header_there : (users : List User) (entries : List Entry) (octets : List ℕ) → length (users_text users) < 2 ^ 32 → StandsFor users entries octets → HasHeader (users_text users) octets
+header_there : (users : Users) (entries : List Entry) (octets : List ℕ) → length (users_text users) < 2 ^ 32 → StandsFor users entries octets → HasHeader (users_text users) octets
 header_there users entries octets small stands = (
   small,
   flat_map open_record (map payload_of entries) ++ stands.file.gate ∷ stands.file.rest,
@@ -48,15 +37,10 @@ one_header a b octets has_a has_b =
     let size = same_4 (length a) (length b) has_a.0 has_b.0 (ap (λ (xs : List ℕ). take 4 (drop 16 xs)) same) in
     (same_front a b has_a.1 has_b.1 size (ap (drop 20) same)).0
 
-pub text_small : (users : List User) → length users ≤ 32 → All (λ name. length name ≤ 200) (directory_of users).names → length (users_text users) < 2 ^ 32
-text_small users few short =
-    let each = users_short users (λ k d within. short k d (omega (arith, within, length-map users (λ (user : User). user.name)))) in
-    omega (arith, few, each)
-
-pub no_journal : (users : List User) (told : Option Past) → length (users_text users) < 2 ^ 32 → IfSome told (λ p. IsNoJournal (reading p)) → IfSome told (λ p. StandsForNone users (reading p))
+pub no_journal : (users : Users) (told : Option Past) → length (users_text users) < 2 ^ 32 → IfSome told (λ p. IsNoJournal (reading p)) → IfSome told (λ p. StandsForNone users (reading p))
 no_journal users None small found = tt
 no_journal users (Some past) small found = λ entries stands. found (users_text users) (header_there users entries (reading past) small stands)
 
-pub other_users : (users : List User) (told : Option Past) (place : ℕ) → length (users_text users) < 2 ^ 32 → IfSome told (λ p. IsOfOthers users place (reading p)) → IfSome told (λ p. StandsForNone users (reading p))
+pub other_users : (users : Users) (told : Option Past) (place : ℕ) → length (users_text users) < 2 ^ 32 → IfSome told (λ p. IsOfOthers users place (reading p)) → IfSome told (λ p. StandsForNone users (reading p))
 other_users users None place small found = tt
 other_users users (Some past) place small found = λ entries stands. found.2 (one_header found.0 (users_text users) (reading past) found.1 (header_there users entries (reading past) small stands))

@@ -4,7 +4,7 @@ use Rattle.std.proofs.lemmas.List.{append-nil, map-append}
 use Rattle.cal_model.specs.declared.request.Event.{Event}
 use Rattle.cal_model.specs.History.Journal.{Entry, asked}
 use Rattle.cal_model.specs.State.ServerState.{directory_of}
-use Rattle.cal_model.specs.Users.UsersFile.{User}
+use Rattle.cal_model.specs.Users.UsersFile.{Users}
 use Rattle.cal_keeper.specs.Disks.CrashModel.{Past, found, wrote, synced, reading, MayLeave, moment, LeftSince}
 use Rattle.cal_keeper.specs.Files.Appending.{StandsWithOrWithout}
 use Rattle.cal_keeper.specs.Files.ReadingLaws.{GoesThrough, ReadingsAreExact, StandingFilesAreRead, ReadsAs, CrashesAreRecovered, FailuresLeaveFiles, AppendsThrough, HistoriesAreKept}
@@ -12,20 +12,20 @@ use Rattle.cal_keeper.proofs.Commits.{only_now}
 use Rattle.cal_keeper.specs.Files.Standing.{recorded, events_of, StandsFor, IsKeptFor, IsRead}
 
 -- Entries were read so far, whose events these are, and they are the front of those for which the file stands.
-record IsReached (users : List User) (past : Past) (given : List (Event × ℕ)) (place : ℕ) : Type 0 where
+record IsReached (users : Users) (past : Past) (given : List (Event × ℕ)) (place : ℕ) : Type 0 where
   pub entries : List Entry
   pub read : IsRead users entries place past
   pub events_are : events_of users entries ≡ given
   pub front : (all : List Entry) → StandsFor users all (reading past) → (more : List Entry) × (all ≡ entries ++ more)
 
-started : (users : List User) (past : Past) (first : ℕ) → IsRead users [] first past → IsReached users past [] first
+started : (users : Users) (past : Past) (first : ℕ) → IsRead users [] first past → IsReached users past [] first
 started users past first read = record { entries = []; read = read; events_are = refl; front = λ all stands. (all, refl) }
 
 -- an event beside its status, by its parts
 pair_is : (given : Event × ℕ) (event : Event) (status : ℕ) → given.0 ≡ event → given.1 ≡ status → (event, status) ≡ given
 pair_is given event status event_is status_is = sym (ap (λ (e : Event). (e, given.1)) event_is ∙ ap (λ (s : ℕ). (event, s)) status_is)
 
-reached : (users : List User) (past : Past) (done given : List (Event × ℕ)) (first last : ℕ) → IsReached users past done first → GoesThrough users past first given last → IsReached users past (done ++ given) last
+reached : (users : Users) (past : Past) (done given : List (Event × ℕ)) (first last : ℕ) → IsReached users past done first → GoesThrough users past first given last → IsReached users past (done ++ given) last
 reached users past done [] first last was through =
     subst (λ (place : ℕ). IsReached users past (done ++ []) place) through (subst (λ (events : List (Event × ℕ)). IsReached users past events first) (sym (append-nil done)) was)
 reached users past done (one ∷ given) first last was through =
@@ -44,7 +44,7 @@ reached users past done (one ∷ given) first last was through =
     } in
     subst (λ (events : List (Event × ℕ)). IsReached users past events last) (append_assoc done (one ∷ []) given) (reached users past (done ++ one ∷ []) given through.1 last step through.4)
 
-kept_stands : (users : List User) (entries : List Entry) (place : ℕ) (past : Past) → IsKeptFor users entries place past → StandsFor users entries (reading past)
+kept_stands : (users : Users) (entries : List Entry) (place : ℕ) (past : Past) → IsKeptFor users entries place past → StandsFor users entries (reading past)
 kept_stands users entries place past kept = record { recorded = kept.recorded; file = kept.kept.file }
 
 pub readings_are_exact : ReadingsAreExact
@@ -72,7 +72,7 @@ standing_files_are_read users given all first place past opened through stands =
     }
 
 -- what is read of octets that stand for entries
-read_as : (users : List User) (entries : List Entry) (octets : List ℕ) (events : List (Event × ℕ)) → StandsFor users entries octets → ReadsAs users octets events → events ≡ events_of users entries
+read_as : (users : Users) (entries : List Entry) (octets : List ℕ) (events : List (Event × ℕ)) → StandsFor users entries octets → ReadsAs users octets events → events ≡ events_of users entries
 read_as users entries octets events stands reads =
     let there : StandsFor users entries (reading reads.0) = subst (StandsFor users entries) (sym reads.1) stands in
     let exact = readings_are_exact users events reads.0 reads.2 in
@@ -105,14 +105,14 @@ failures_leave_files users entries entry place next went_through old new kept ap
 -- Histories
 
 -- an image stands for the entries before and the first of those appended since
-record IsFrontStanding (users : List User) (entries appended : List Entry) (image : List ℕ) : Type 0 where
+record IsFrontStanding (users : Users) (entries appended : List Entry) (image : List ℕ) : Type 0 where
   pub front : List Entry
   pub rest : List Entry
   pub appended_are : appended ≡ front ++ rest
   pub stands : StandsFor users (entries ++ map recorded front) image
 
 -- none of them
-none_standing : (users : List User) (entries appended : List Entry) (image : List ℕ) → StandsFor users entries image → IsFrontStanding users entries appended image
+none_standing : (users : Users) (entries appended : List Entry) (image : List ℕ) → StandsFor users entries image → IsFrontStanding users entries appended image
 none_standing users entries appended image stands = record {
   front = [];
   rest = appended;
@@ -121,7 +121,7 @@ none_standing users entries appended image stands = record {
 }
 
 -- the first of them, and none or some or all of the others
-first_standing : (users : List User) (entries : List Entry) (entry : Entry) (more : List Entry) (image : List ℕ) → IsFrontStanding users (entries ++ recorded entry ∷ []) more image → IsFrontStanding users entries (entry ∷ more) image
+first_standing : (users : Users) (entries : List Entry) (entry : Entry) (more : List Entry) (image : List ℕ) → IsFrontStanding users (entries ++ recorded entry ∷ []) more image → IsFrontStanding users entries (entry ∷ more) image
 first_standing users entries entry more image was = record {
   front = entry ∷ was.front;
   rest = was.rest;
@@ -129,7 +129,7 @@ first_standing users entries entry more image was = record {
   stands = subst (λ (es : List Entry). StandsFor users es image) (append_assoc entries (recorded entry ∷ []) (map recorded was.front)) was.stands;
 }
 
-history_later : (users : List User) (appended : List Entry) (entries : List Entry) (place last : ℕ) (old new : Past) → IsKeptFor users entries place old → AppendsThrough users place old appended last new
+history_later : (users : Users) (appended : List Entry) (entries : List Entry) (place last : ℕ) (old new : Past) → IsKeptFor users entries place old → AppendsThrough users place old appended last new
     → (start : ℕ) (image : List ℕ) → start ≤ moment old → LeftSince start new image → LeftSince start old image ⊎ IsFrontStanding users entries appended image
 history_later users [] entries place last old new kept through start image early left = inl (subst (λ (past : Past). LeftSince start past image) (sym through.1) left)
 history_later users (entry ∷ more) entries place last old new kept through start image early left =
@@ -146,7 +146,7 @@ history_later users (entry ∷ more) entries place last old new kept through sta
     by (inl before) = none_standing users entries (entry ∷ more) image before
     by (inr with_it) = first_standing users entries entry more image (none_standing users (entries ++ recorded entry ∷ []) more image with_it)
 
-history_kept : (users : List User) (appended : List Entry) (entries : List Entry) (place last : ℕ) (old new : Past) → IsKeptFor users entries place old → AppendsThrough users place old appended last new
+history_kept : (users : Users) (appended : List Entry) (entries : List Entry) (place last : ℕ) (old new : Past) → IsKeptFor users entries place old → AppendsThrough users place old appended last new
     → IsKeptFor users (entries ++ map recorded appended) last new
 history_kept users [] entries place last old new kept through =
     subst (λ (past : Past). IsKeptFor users (entries ++ []) last past) through.1

@@ -1,4 +1,5 @@
 pub mod Disks
 pub mod Files
 pub mod Keepers
+pub mod Principals
 pub mod Steps

@@ -1,7 +1,8 @@
 //! One more record in a journal file.
-ghost use Rattle.std.specs.Prelude.{◌≡◌, ℕ, ◌+◌, ◌<◌, ◌≤◌, ◌^◌, ◌∷◌, ◌++◌, [], length, is_ok, IfOk, OnErr};
+ghost use Rattle.std.specs.Prelude.{◌≡◌, ◌+◌, ◌<◌, ◌≤◌, ◌^◌, ◌∷◌, ◌++◌, [], length, is_ok, IfOk, OnErr};
 ghost use Rattle.cal_base.specs.World.Outside.{Rose};
 ghost use Rattle.cal_journal.specs.KeptEntries.{kept_entry};
+ghost use Rattle.cal_keeper.specs.declared.principals.PrincipalCounts.{PrincipalCounts};
 ghost use Rattle.cal_keeper.specs.Steps.WriteRuns.{Puts};
 ghost use Rattle.cal_keeper.specs.Files.Payloads.{payload_of, HasForm};
 ghost use Rattle.cal_keeper.specs.Steps.Committing.{Commits};
@@ -18,7 +19,7 @@ use cal_journal::Entry;
 /// Brings a record to the disk behind the gate at a place: first the record and the next gate, closed, and
 /// then the gate open. Gives the place of the next gate.
 pub(crate) fn commit<D: Disk>(disk: &mut D, place: u64, entry: &Entry) -> Result<u64, Failed>
-    requires form { (users : ℕ) × HasForm users (kept_entry entry.now) }
+    requires form { (counts : PrincipalCounts) × HasForm counts (kept_entry entry.now) }
     requires within { place < 2 ^ 62 }
     ensures never_falls { D.faults disk.old ≤ D.faults disk.new }
     ensures failed { OnErr result (Rose (D.faults disk.old) (D.faults disk.new)) }
@@ -33,7 +34,7 @@ pub(crate) fn commit<D: Disk>(disk: &mut D, place: u64, entry: &Entry) -> Result
 
 /// Writes a payload behind its length, and a closed gate behind it. Gives the place behind all.
 fn stage<D: Disk>(disk: &mut D, place: u64, entry: &Entry) -> Result<u64, Failed>
-    requires { (users : ℕ) × HasForm users (kept_entry entry.now) }
+    requires { (counts : PrincipalCounts) × HasForm counts (kept_entry entry.now) }
     ensures never_falls { D.faults disk.old ≤ D.faults disk.new }
     ensures failed { OnErr result (Rose (D.faults disk.old) (D.faults disk.new)) }
     ensures puts { Puts place (counted_payload (payload_of (kept_entry entry.now)) ++ 0 ∷ []) (is_ok result) (D.past disk.old) (D.past disk.new) }

@@ -1,13 +1,13 @@
 //! A new journal file.
 ghost use Rattle.std.specs.Prelude.{◌≡◌, ◌≢◌, ℕ, ◌+◌, ◌<◌, ◌≤◌, ◌^◌, false, length, is_ok, IfOk, OnErr};
 ghost use Rattle.cal_base.specs.World.Outside.{Rose};
-ghost use Rattle.cal_model.specs.Users.UsersFile.{User};
 ghost use Rattle.cal_keeper.specs.Files.Creating.{disk_left, IsCreated};
 ghost use Rattle.cal_keeper.specs.Steps.HeaderSteps.{Begins};
 
 use crate::disk::Disk;
 use crate::header::header_of;
 use crate::keeper::Keeper;
+use crate::principals::counts_of;
 use crate::writing::put_two;
 use cal_base::{Failed, NoMemory};
 use privileges::Users;
@@ -45,7 +45,7 @@ pub fn create<D: Disk>(alloc: Global, disk: D, users: &Users) -> Created<D>
         Err(NoMemory) => return Created::NoMemory(disk),
     };
     match lay_header(&mut disk, header.as_slice()) {
-        Ok(place) => Created::Done(Keeper::at(disk, users.len(), place, 0)),
+        Ok(place) => Created::Done(Keeper::at(disk, counts_of(users), place, 0)),
         Err(Failed) => Created::Failed(disk),
     }
 }

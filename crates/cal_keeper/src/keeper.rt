@@ -7,6 +7,7 @@ ghost use Rattle.cal_keeper.specs.Files.Appending.{AppendsTo};
 
 use crate::commit::commit;
 use crate::disk::Disk;
+use crate::principals::PrincipalCounts;
 use cal_base::Failed;
 use cal_journal::Entry;
 use std::marker::Model;
@@ -20,8 +21,7 @@ pub struct DiskFault(());
 #[derive(Drop)]
 pub struct Keeper<D: Disk> {
     disk: D,
-    /// How many users the file is of.
-    users: u32,
+    principals: PrincipalCounts,
     /// Where the closed gate stands.
     place: u64,
     records: u64,
@@ -34,21 +34,21 @@ impl<D: Disk> Model for Keeper<D> {
 
     ghost Value = { KeeperState D };
 
-    ghost view = { λ k. record { disk = k.disk; users = k.users; place = k.place; records = k.records; broken = k.broken } };
+    ghost view = { λ k. record { disk = k.disk; principals = k.principals; place = k.place; records = k.records; broken = k.broken } };
 
     ghost invariant = { λ k. (k.place < 2 ^ 62) × (k.records ≤ k.place) };
 }
 
 impl<D: Disk> Keeper<D> {
     /// A keeper of a file, behind its records.
-    pub(crate) fn at(disk: D, users: u32, place: u64, records: u64) -> Keeper<D>
+    pub(crate) fn at(disk: D, principals: PrincipalCounts, place: u64, records: u64) -> Keeper<D>
         requires within { place < 2 ^ 62 }
         requires few { records ≤ place }
-        ensures { result ≡ record { disk = disk; users = users; place = place; records = records; broken = false } }
+        ensures { result ≡ record { disk = disk; principals = principals; place = place; records = records; broken = false } }
     {
         Keeper {
             disk,
-            users,
+            principals,
             place,
             records,
             broken: false,
@@ -60,11 +60,11 @@ impl<D: Disk> Keeper<D> {
     /// for these and the new one. Takes no memory of its own.
     pub fn append(&mut self, entry: &Entry) -> Result<(), Failed>
         requires unbroken { self.old.broken ≡ false }
-        requires form { HasForm self.old.users (kept_entry entry.now) }
+        requires form { HasForm self.old.principals (kept_entry entry.now) }
         ensures appends { AppendsTo D.past self.old self.new (kept_entry entry.now) (is_ok result) }
         ensures broken { self.new.broken ≡ is_err result }
         ensures records { self.new.records ≡ (if is_ok result then self.old.records + 1 else self.old.records) }
-        ensures users { self.new.users ≡ self.old.users }
+        ensures principals { self.new.principals ≡ self.old.principals }
         ensures failed { OnErr result (Rose (D.faults self.old.disk) (D.faults self.new.disk)) }
         ensures never_falls { D.faults self.old.disk ≤ D.faults self.new.disk }
     {

@@ -23,6 +23,7 @@ mod opening;
 mod parts;
 mod payload;
 mod payload_size;
+mod principals;
 mod reader;
 mod record_reading;
 mod request_reading;

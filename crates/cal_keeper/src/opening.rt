@@ -7,6 +7,7 @@ ghost use Rattle.cal_keeper.specs.Steps.HeaderSteps.{FindsHeader, ReadsHeader};
 
 use crate::disk::Disk;
 use crate::header::{MARK, users_text};
+use crate::principals::counts_of;
 use crate::reader::Reader;
 use crate::record_reading::{NoRecord, fill, read_octets};
 use cal_base::{Failed, NoMemory, Octets};
@@ -49,14 +50,14 @@ pub fn open<D: Disk>(alloc: Global, disk: D, users: &Users) -> Opened<D>
     ensures unwritten { IsUnwritten (D.past disk) (D.past (disk_left result)) }
     ensures never_falls { D.faults disk ≤ D.faults (disk_left result) }
 {
-    let count = users.len();
+    let principals = counts_of(users);
     let mut disk = disk;
     match disk.sync() {
         Ok(()) => {}
         Err(Failed) => return Opened::Failed(disk),
     }
     match find_header(alloc, &mut disk, users) {
-        Ok(place) => Opened::Ready(Reader::at(disk, count, place)),
+        Ok(place) => Opened::Ready(Reader::at(disk, principals, place)),
         Err(NoHeader::NotJournal) => Opened::NotJournal(disk),
         Err(NoHeader::OtherUsers(place)) => Opened::OtherUsers(disk, place),
         Err(NoHeader::Failed) => Opened::Failed(disk),

@@ -1,10 +1,11 @@
 //! The payload of a record, written field by field.
-ghost use Rattle.std.specs.Prelude.{◌≡◌, ℕ, ◌+◌, ◌<◌, ◌≤◌, ◌^◌, ◌++◌, ◌∷◌, [], length, All, flat_map, is_ok, IfOk, OnErr, ℤ, pos};
+ghost use Rattle.std.specs.Prelude.{◌≡◌, ◌+◌, ◌<◌, ◌≤◌, ◌^◌, ◌++◌, ◌∷◌, [], length, All, flat_map, is_ok, IfOk, OnErr, ℤ, pos};
 ghost use Rattle.std.specs.Int.{w16, w32, w64, to_be_bytes};
 ghost use Rattle.cal_base.specs.World.Outside.{Rose};
 ghost use Rattle.cal_journal.specs.KeptEntries.{kept_entry};
 ghost use Rattle.cal_model.specs.History.KeptChanges.{kept_change};
 ghost use Rattle.cal_keeper.specs.Steps.WriteRuns.{Puts};
+ghost use Rattle.cal_keeper.specs.declared.principals.PrincipalCounts.{PrincipalCounts};
 ghost use Rattle.cal_keeper.specs.Files.Payloads as spec;
 
 use crate::disk::Disk;
@@ -117,6 +118,7 @@ fn who_parts(who: Who) -> (u8, u32)
         Who::Everyone => (0, 0),
         Who::Owner => (1, 0),
         Who::Principal(user) => (2, user),
+        Who::Group(group) => (3, group),
     }
 }
 
@@ -197,7 +199,7 @@ fn put_each_grant<D: Disk>(disk: &mut D, place: u64, grants: &[Grant]) -> Result
 /// Writes what a change's kind has behind the calendar's name.
 fn put_own<D: Disk>(disk: &mut D, place: u64, change: &Change) -> Result<u64, Failed>
     requires short { length (spec.own_text (kept_change change.now)) < 2 ^ 32 }
-    requires form { (users : ℕ) × spec.ChangeHasForm users (kept_change change.now) }
+    requires form { (counts : PrincipalCounts) × spec.ChangeHasForm counts (kept_change change.now) }
     requires within { place ≤ 2 ^ 62 }
     ensures never_falls { D.faults disk.old ≤ D.faults disk.new }
     ensures failed { OnErr result (Rose (D.faults disk.old) (D.faults disk.new)) }
@@ -220,7 +222,7 @@ fn put_own<D: Disk>(disk: &mut D, place: u64, change: &Change) -> Result<u64, Fa
 
 /// Writes an entry's payload.
 pub(crate) fn put_payload<D: Disk>(disk: &mut D, place: u64, entry: &Entry) -> Result<u64, Failed>
-    requires { (users : ℕ) × spec.HasForm users (kept_entry entry.now) }
+    requires { (counts : PrincipalCounts) × spec.HasForm counts (kept_entry entry.now) }
     ensures never_falls { D.faults disk.old ≤ D.faults disk.new }
     ensures failed { OnErr result (Rose (D.faults disk.old) (D.faults disk.new)) }
     ensures puts { Puts place (spec.payload_of (kept_entry entry.now)) (is_ok result) (D.past disk.old) (D.past disk.new) }

@@ -3,11 +3,13 @@ ghost use Rattle.std.specs.Prelude.{◌≡◌, ◌+◌, ◌≤◌, ◌^◌, leng
 ghost use Rattle.cal_keeper.specs.Disks.CrashModel.{reading};
 ghost use Rattle.cal_keeper.specs.Files.NextEntries.{IsFound, disk_left};
 ghost use Rattle.cal_keeper.specs.Files.RecordForm.{IsPayloadSize, HasRecord};
+ghost use Rattle.cal_keeper.specs.Principals.{counts_of, AreFew};
 ghost use Rattle.cal_keeper.specs.Steps.RecordSteps.{FindsBehind};
 
 use crate::decoding::read_event;
 use crate::disk::Disk;
 use crate::keeper::Keeper;
+use crate::principals::PrincipalCounts;
 use crate::record_reading::{NoRecord, read_record};
 use cal_base::{NoMemory, Octets};
 use cal_model::Event;
@@ -34,7 +36,7 @@ pub enum NextEntry<D: Disk> {
 #[derive(Drop)]
 pub struct Reader<D: Disk> {
     disk: D,
-    users: u32,
+    principals: PrincipalCounts,
     /// The place of the next gate.
     place: u64,
     records: u64,
@@ -43,23 +45,25 @@ pub struct Reader<D: Disk> {
 impl<D: Disk> Model for Reader<D> {
     ghost use Rattle.std.specs.Prelude.{◌<◌, ◌≤◌, ◌^◌};
     ghost use Rattle.cal_keeper.specs.Keepers.{ReaderState};
+    ghost use Rattle.cal_keeper.specs.Principals.{AreFew};
 
     ghost Value = { ReaderState D };
 
-    ghost view = { λ r. record { disk = r.disk; users = r.users; place = r.place; records = r.records } };
+    ghost view = { λ r. record { disk = r.disk; principals = r.principals; place = r.place; records = r.records } };
 
-    ghost invariant = { λ r. (r.place ≤ 2 ^ 62) × (r.records ≤ r.place) × (r.users < 2 ^ 32) };
+    ghost invariant = { λ r. (r.place ≤ 2 ^ 62) × (r.records ≤ r.place) × AreFew r.principals };
 }
 
 impl<D: Disk> Reader<D> {
     /// A reader in front of the first record.
-    pub(crate) fn at(disk: D, users: u32, place: u64) -> Reader<D>
-        requires { place ≤ 2 ^ 62 }
-        ensures { result ≡ record { disk = disk; users = users; place = place; records = 0 } }
+    pub(crate) fn at(disk: D, principals: PrincipalCounts, place: u64) -> Reader<D>
+        requires within { place ≤ 2 ^ 62 }
+        requires few { AreFew principals }
+        ensures { result ≡ record { disk = disk; principals = principals; place = place; records = 0 } }
     {
         Reader {
             disk,
-            users,
+            principals,
             place,
             records: 0,
         }
@@ -68,26 +72,26 @@ impl<D: Disk> Reader<D> {
     /// The next event, with its status; or a keeper, where there is none. The users are those of the
     /// file. Takes memory for one record at most.
     pub fn next(self, alloc: Global, users: &Users) -> NextEntry<D>
-        requires { length users.now ≡ self.users }
+        requires { counts_of users.now ≡ self.principals }
         ensures found { IsFound D.past D.faults users.now self result }
         ensures past_kept { D.past (disk_left result) ≡ D.past self.disk }
         ensures never_falls { D.faults self.disk ≤ D.faults (disk_left result) }
     {
         let Reader {
             disk,
-            users: count,
+            principals,
             place,
             records,
         } = self;
         let mut disk = disk;
         match read_record(alloc, &mut disk, place) {
-            Ok(None) => NextEntry::End(Keeper::at(disk, count, place, records)),
-            Ok(Some(payload)) => { behind(alloc, users, disk, count, place, records, payload) }
+            Ok(None) => NextEntry::End(Keeper::at(disk, principals, place, records)),
+            Ok(Some(payload)) => { behind(alloc, users, disk, principals, place, records, payload) }
             Err(NoRecord::Bad) => NextEntry::Bad(disk, place),
             Err(NoRecord::Failed) => NextEntry::Failed(disk),
             Err(NoRecord::NoMemory) => NextEntry::NoMemory(Reader {
                 disk,
-                users: count,
+                principals,
                 place,
                 records,
             }),
@@ -115,17 +119,18 @@ fn behind<D: Disk>(
     alloc: Global,
     users: &Users,
     disk: D,
-    count: u32,
+    principals: PrincipalCounts,
     place: u64,
     records: u64,
     payload: Octets,
 ) -> NextEntry<D>
-    requires count { length users.now ≡ count }
+    requires counts { counts_of users.now ≡ principals }
+    requires known { AreFew principals }
     requires size { IsPayloadSize (length payload) }
     requires within { place + 5 + length payload ≤ 2 ^ 62 }
     requires few { records ≤ place }
     requires there { IfSome (D.past disk) (λ p. HasRecord payload (drop place (reading p))) }
-    ensures found { FindsBehind D.past D.faults users.now (record { disk = disk; users = count; place = place; records = records }) result }
+    ensures found { FindsBehind D.past D.faults users.now (record { disk = disk; principals = principals; place = place; records = records }) result }
     ensures past_kept { D.past (disk_left result) ≡ D.past disk }
     ensures never_falls { D.faults disk ≤ D.faults (disk_left result) }
 {
@@ -133,7 +138,7 @@ fn behind<D: Disk>(
         Ok(Some((event, status))) => {
             let reader = Reader {
                 disk,
-                users: count,
+                principals,
                 place: place + 5 + payload.len() as u64,
                 records: records + 1,
             };
@@ -142,7 +147,7 @@ fn behind<D: Disk>(
         Ok(None) => NextEntry::Bad(disk, place),
         Err(NoMemory) => NextEntry::NoMemory(Reader {
             disk,
-            users: count,
+            principals,
             place,
             records,
         }),

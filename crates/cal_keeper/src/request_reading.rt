@@ -6,6 +6,7 @@ ghost use Rattle.cal_keeper.specs.Steps.Decoding.{AsksForOwn, HasNoOwn};
 
 use crate::grant_reading::all_grants_at;
 use crate::parts::{long_at, name_at};
+use crate::principals::counts_of;
 use crate::set_reading::settings_at;
 use cal_base::{NoMemory, Octets};
 use cal_model::{Content, Method, Path, Request};
@@ -21,7 +22,7 @@ pub(crate) fn request_at(
     calendar: &[u8],
     octets: &[u8],
 ) -> Result<Option<Request>, NoMemory>
-    requires known { home < length users.now }
+    requires known { home < length users.now.people }
     requires short { length octets.now < 2 ^ 32 }
     ensures found { IfOk result (λ found. IfSome found (AsksForOwn users.now kind home calendar.now octets.now)) }
     ensures none { IfOk result (λ found. IsNone found → HasNoOwn users.now kind home calendar.now octets.now) }
@@ -45,7 +46,7 @@ fn put_at(
     calendar: &[u8],
     octets: &[u8],
 ) -> Result<Option<Request>, NoMemory>
-    requires known { home < length users.now }
+    requires known { home < length users.now.people }
     requires short { length octets.now < 2 ^ 32 }
     ensures found { IfOk result (λ found. IfSome found (AsksForOwn users.now 1 home calendar.now octets.now)) }
     ensures none { IfOk result (λ found. IsNone found → HasNoOwn users.now 1 home calendar.now octets.now) }
@@ -76,7 +77,7 @@ fn object_deletion_at(
     calendar: &[u8],
     octets: &[u8],
 ) -> Result<Option<Request>, NoMemory>
-    requires known { home < length users.now }
+    requires known { home < length users.now.people }
     ensures found { IfOk result (λ found. IfSome found (AsksForOwn users.now 2 home calendar.now octets.now)) }
     ensures none { IfOk result (λ found. IsNone found → HasNoOwn users.now 2 home calendar.now octets.now) }
 {
@@ -98,7 +99,7 @@ fn calendar_deletion_at(
     calendar: &[u8],
     octets: &[u8],
 ) -> Result<Option<Request>, NoMemory>
-    requires known { home < length users.now }
+    requires known { home < length users.now.people }
     ensures found { IfOk result (λ found. IfSome found (AsksForOwn users.now 3 home calendar.now octets.now)) }
     ensures none { IfOk result (λ found. IsNone found → HasNoOwn users.now 3 home calendar.now octets.now) }
 {
@@ -117,7 +118,7 @@ fn make_at(
     calendar: &[u8],
     octets: &[u8],
 ) -> Result<Option<Request>, NoMemory>
-    requires known { home < length users.now }
+    requires known { home < length users.now.people }
     requires short { length octets.now < 2 ^ 32 }
     ensures found { IfOk result (λ found. IfSome found (AsksForOwn users.now 4 home calendar.now octets.now)) }
     ensures none { IfOk result (λ found. IsNone found → HasNoOwn users.now 4 home calendar.now octets.now) }
@@ -137,7 +138,7 @@ fn patch_at(
     calendar: &[u8],
     octets: &[u8],
 ) -> Result<Option<Request>, NoMemory>
-    requires known { home < length users.now }
+    requires known { home < length users.now.people }
     requires short { length octets.now < 2 ^ 32 }
     ensures found { IfOk result (λ found. IfSome found (AsksForOwn users.now 5 home calendar.now octets.now)) }
     ensures none { IfOk result (λ found. IsNone found → HasNoOwn users.now 5 home calendar.now octets.now) }
@@ -157,12 +158,12 @@ fn acl_at(
     calendar: &[u8],
     octets: &[u8],
 ) -> Result<Option<Request>, NoMemory>
-    requires known { home < length users.now }
+    requires known { home < length users.now.people }
     requires short { length octets.now < 2 ^ 32 }
     ensures found { IfOk result (λ found. IfSome found (AsksForOwn users.now 6 home calendar.now octets.now)) }
     ensures none { IfOk result (λ found. IsNone found → HasNoOwn users.now 6 home calendar.now octets.now) }
 {
-    let Some((size, grants)) = all_grants_at(alloc, octets, users.len())? else {
+    let Some((size, grants)) = all_grants_at(alloc, octets, counts_of(users))? else {
         return Ok(None);
     };
     let path = calendar_path(alloc, users, home, calendar)?;
@@ -177,7 +178,7 @@ fn object_path(
     calendar: &[u8],
     object: &[u8],
 ) -> Result<Path, NoMemory>
-    requires { home < length users.now }
+    requires { home < length users.now.people }
     ensures { IfOk result (λ path. path ≡ Path.Object (user_name (directory_of users.now) home) calendar.now object.now) }
 {
     let user = Octets::of(alloc, users.name(home))?;
@@ -188,7 +189,7 @@ fn object_path(
 
 /// The path of a calendar in it.
 fn calendar_path(alloc: Global, users: &Users, home: u32, calendar: &[u8]) -> Result<Path, NoMemory>
-    requires { home < length users.now }
+    requires { home < length users.now.people }
     ensures { IfOk result (λ path. path ≡ Path.Calendar (user_name (directory_of users.now) home) calendar.now) }
 {
     let user = Octets::of(alloc, users.name(home))?;

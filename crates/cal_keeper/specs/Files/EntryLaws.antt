@@ -1,6 +1,6 @@
 -- Laws of the entries of a file: each accepted change may be one, they may be asked of a book again, and their sessions play no part.
 -- Given: the users. These laws are part of the contract of `file_laws`.
-use Rattle.std.specs.Prelude.{◌≡◌, ℕ, ◌<◌, ◌^◌, List, map, length, Some, pos, ◌≤ℤ◌}
+use Rattle.std.specs.Prelude.{◌≡◌, ℕ, ◌<◌, ◌^◌, List, map, Some, pos, ◌≤ℤ◌}
 use Rattle.cal_model.specs.declared.request.Event.{Event}
 use Rattle.cal_model.specs.History.Journal.{Entry, asked, entry_of, replay_from, IsLegalFrom}
 use Rattle.cal_model.specs.Requests.BookableRequests.{IsBookable}
@@ -8,23 +8,24 @@ use Rattle.cal_model.specs.Serving.Outcomes.{accepted, outcome}
 use Rattle.cal_model.specs.State.Changes.{Change, change_of}
 use Rattle.cal_model.specs.State.ServerState.{Directory, ServerState, directory_of}
 use Rattle.cal_model.specs.State.UserNames.{AreToldApart}
-use Rattle.cal_model.specs.Users.UsersFile.{User}
+use Rattle.cal_model.specs.Users.UsersFile.{Users}
 use Rattle.cal_model.specs.Words.Limits.{last_moment}
 use Rattle.cal_keeper.specs.Files.Payloads.{HasForm}
 use Rattle.cal_keeper.specs.Files.Standing.{recorded}
+use Rattle.cal_keeper.specs.Principals.{counts_of}
 
 -- the entry of an accepted change is in the form
 abbrev pub AcceptedHasForm : Type 0
 AcceptedHasForm =
-    (users : List User) (state after : ServerState) (event : Event) (change : Change) (status : ℕ)
+    (users : Users) (state after : ServerState) (event : Event) (change : Change) (status : ℕ)
     → IsBookable users event.who event.request → event.request.size < 2 ^ 32 → pos 0 ≤ℤ event.moment → event.moment ≤ℤ pos last_moment
     → change_of (directory_of users) event.request ≡ Some change → outcome (directory_of users) state event ≡ accepted status after
-    → HasForm (length users) (entry_of event change status)
+    → HasForm (counts_of users) (entry_of event change status)
 
 -- what an entry in the form asks can be booked
 abbrev pub FormIsBookable : Type 0
 FormIsBookable =
-    (users : List User) (entry : Entry) → AreToldApart (directory_of users) → HasForm (length users) entry → IsBookable users entry.who (asked (directory_of users) entry).request
+    (users : Users) (entry : Entry) → AreToldApart (directory_of users) → HasForm (counts_of users) entry → IsBookable users entry.who (asked (directory_of users) entry).request
 
 -- an event does the same on each session
 abbrev pub SessionsAreAlike : Type 0

@@ -4,7 +4,7 @@ use Rattle.std.specs.Prelude.{◌≡◌, ℕ, ◌<◌, ◌≤◌, ◌^◌, IsTru
 use Rattle.std.specs.Int.{w16, w32, w64, to_be_bytes}
 use Rattle.cal_model.specs.declared.privilege.Grant.{Grant}
 use Rattle.cal_model.specs.declared.privilege.Who.{Who}
-use Rattle.cal_model.specs.declared.privilege.Who.TheVariants.{Everyone, Owner, Principal}
+use Rattle.cal_model.specs.declared.privilege.Who.TheVariants.{Everyone, Owner, Principal, Group}
 use Rattle.cal_model.specs.declared.property.PropSet.{PropSet}
 use Rattle.cal_model.specs.Bodies.AclBodies.{grant_limit}
 use Rattle.cal_model.specs.Bodies.ContentSizes.{values_size}
@@ -15,6 +15,7 @@ use Rattle.cal_model.specs.State.Changes.{Change, put, delete_object, delete_cal
 use Rattle.cal_model.specs.Streams.WireLimits.{body_limit}
 use Rattle.cal_model.specs.Words.Limits.{last_moment}
 use Rattle.cal_keeper.specs.Files.RecordForm.{payload_limit}
+use Rattle.cal_keeper.specs.declared.principals.PrincipalCounts.{PrincipalCounts}
 
 -- Fields
 
@@ -40,6 +41,7 @@ abbrev pub who_text : Who → List ℕ
 who_text Everyone = 0 ∷ to_be_bytes w32 0
 who_text Owner = 1 ∷ to_be_bytes w32 0
 who_text (Principal user) = 2 ∷ to_be_bytes w32 user
+who_text (Group group) = 3 ∷ to_be_bytes w32 group
 
 -- a grant: whom it is for, and the privileges as bits
 abbrev pub grant_text : Grant → List ℕ
@@ -111,35 +113,36 @@ payload_of entry = shared_text entry ++ own_text entry.change
 abbrev pub IsName : List ℕ → Type 0
 IsName name = IsTrue (is_resource_name name)
 
--- a grant is for one of so many users, or for no user in particular
-abbrev pub IsKnown : ℕ → Who → Type 0
-IsKnown users (Principal user) = user < users
-IsKnown users other = Unit {0}
+-- a grant is for one of so many users or groups, or for none in particular
+abbrev pub IsKnown : PrincipalCounts → Who → Type 0
+IsKnown counts (Principal user) = user < counts.users
+IsKnown counts (Group group) = group < counts.groups
+IsKnown counts other = Unit {0}
 
 -- there are few enough properties, with few enough octets in all their values
 abbrev pub SettingsHaveForm : List PropSet → Type 0
 SettingsHaveForm sets = (length sets ≤ most_properties) × (values_size sets ≤ body_limit)
 
--- a grant is for one of so many users, and of the nine privileges
-abbrev pub GrantHasForm : ℕ → Grant → Type 0
-GrantHasForm users grant = IsKnown users grant.who × (grant.held.0 ≤ 511)
+-- a grant is for such a principal, and of the nine privileges
+abbrev pub GrantHasForm : PrincipalCounts → Grant → Type 0
+GrantHasForm counts grant = IsKnown counts grant.who × (grant.held.0 ≤ 511)
 
-abbrev pub ChangeHasForm : ℕ → Change → Type 0
-ChangeHasForm users (put home calendar object octets) = IsName object
-ChangeHasForm users (delete_object home calendar object) = IsName object
-ChangeHasForm users (delete_calendar home calendar) = Unit {0}
-ChangeHasForm users (make home calendar sets size) = SettingsHaveForm sets × (size < 2 ^ 32)
-ChangeHasForm users (patch home calendar sets size) = SettingsHaveForm sets × (size < 2 ^ 32)
-ChangeHasForm users (acl home calendar grants size) = (length grants ≤ grant_limit) × All (GrantHasForm users) grants × (size < 2 ^ 32)
+abbrev pub ChangeHasForm : PrincipalCounts → Change → Type 0
+ChangeHasForm counts (put home calendar object octets) = IsName object
+ChangeHasForm counts (delete_object home calendar object) = IsName object
+ChangeHasForm counts (delete_calendar home calendar) = Unit {0}
+ChangeHasForm counts (make home calendar sets size) = SettingsHaveForm sets × (size < 2 ^ 32)
+ChangeHasForm counts (patch home calendar sets size) = SettingsHaveForm sets × (size < 2 ^ 32)
+ChangeHasForm counts (acl home calendar grants size) = (length grants ≤ grant_limit) × All (GrantHasForm counts) grants × (size < 2 ^ 32)
 
--- An entry's payload is in the form, for so many users.
-pub record HasForm (users : ℕ) (entry : Entry) : Type 0 where
-  pub who : entry.who < users
-  pub home : home_of entry.change < users
+-- An entry's payload is in the form, for so many users and groups.
+pub record HasForm (counts : PrincipalCounts) (entry : Entry) : Type 0 where
+  pub who : entry.who < counts.users
+  pub home : home_of entry.change < counts.users
   -- from 1970 to the last second of the year 9999
   pub moment : entry.moment ≡ pos (seconds_of entry.moment)
   pub to_9999 : seconds_of entry.moment ≤ last_moment
   pub status : entry.status < 2 ^ 16
   pub calendar : IsName (calendar_of entry.change)
-  pub change : ChangeHasForm users entry.change
+  pub change : ChangeHasForm counts entry.change
   pub short : length (payload_of entry) ≤ payload_limit

@@ -1,7 +1,7 @@
 -- What was read at the place of a gate: a record, a closed gate, or neither.
 -- Given: the place, and the past of the file where the disk tells it.
 use Rattle.std.specs.Prelude.{◌≡◌, ℕ, ◌<◌, Bool, true, false, List, ◌++◌, length, drop, Option, Some, None, Result, Ok, Err}
-use Rattle.cal_model.specs.Users.UsersFile.{User}
+use Rattle.cal_model.specs.Users.UsersFile.{Users}
 use Rattle.cal_keeper.specs.declared.reader.NextEntry.{NextEntry}
 use Rattle.cal_keeper.specs.declared.record_reading.NoRecord.{NoRecord}
 use Rattle.cal_keeper.specs.declared.record_reading.NoRecord.TheVariants.{Bad, Failed, NoMemory}
@@ -56,5 +56,5 @@ Gives place given (Some past) = GivenOf (drop place (reading past)) given
 -- Behind a payload that was read
 
 -- what a reader finds, whichever disk of the same past it had before the payload was read
-abbrev pub FindsBehind : {D : Type 0} → (D → Option Past) → (D → ℕ) → List User → ReaderState D → NextEntry D → Type 0
+abbrev pub FindsBehind : {D : Type 0} → (D → Option Past) → (D → ℕ) → Users → ReaderState D → NextEntry D → Type 0
 FindsBehind past faults users reader found = (old : _) → past old ≡ past reader.disk → IsFound past faults users (record reader { disk = old }) found

@@ -16,7 +16,7 @@ returns-in-Ok-lay_header-clause-created g c =
     rw c.at.ensures (
       empty,
       begun_file c.args.users.now c.as_slice.result.now c.in-Ok-lay_header.place (g.D.Disk.past c.args.disk) (g.D.Disk.past c.lay_header.new.disk) header_is c.in-Ok-lay_header.ensures.gate empty begins,
-      c.len-in-Ok-lay_header.ensures.len,
+      c.counts_of.ensures.counts,
       refl,
       refl,
     )

@@ -6,5 +6,5 @@ abbrev pub invariant-granting : goal.invariant-granting
 invariant-granting l = record {
   so_far : l.octets ≡ flat_map grant_text l.grants ++ l.rest;
   count_is : length l.grants ≡ l.done;
-  form : All (GrantHasForm l.users) l.grants;
+  form : All (GrantHasForm l.counts) l.grants;
 }

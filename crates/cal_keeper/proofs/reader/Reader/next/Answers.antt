@@ -1,18 +1,19 @@
-use Rattle.std.proofs.Common.{◌<◌, ◌^◌, length, None, Ok, Err, sym, ◌∙◌, ap, subst, arith}
+use Rattle.std.proofs.Common.{None, Ok, Err, sym, ◌∙◌, ap, subst}
 use Rattle.cal_keeper.specs.declared.record_reading.NoRecord.TheVariants.{Bad}
 use Rattle.cal_keeper.specs.Files.NextEntries.{IsFound}
 use Rattle.cal_keeper.specs.Steps.RecordSteps.{Finds}
 use Rattle.cal_keeper.specs.Keepers.{KeeperState, ReaderState}
+use Rattle.cal_keeper.specs.Principals.{counts_of, AreFew}
 use Rattle.cal_keeper.proofs.NextFinds.{end_found, neither_found}
 use Rattle.cal_keeper.proofs.reader.Reader.next.Goals as goal
 
 pub returns-in-Ok-None-clause-found : goal.returns-in-Ok-None-clause-found
 returns-in-Ok-None-clause-found g c =
-    let few : length c.args.users.now < 2 ^ 32 = omega (arith, c.requires, ap (λ (s : ReaderState _). s.users) c.self.view_is, c.self.invariant.2) in
+    let few : AreFew (counts_of c.args.users.now) = subst AreFew (ap (λ (s : ReaderState _). s.principals) c.self.view_is ∙ sym c.requires) c.self.invariant.2 in
     let finds = rw c.in-Ok-None.field-0-is at c.in-Ok-None.ensures.finds in
     let at_self = subst (λ (s : ReaderState _). Finds s.place (Ok None) (g.D.Disk.past s.disk)) c.self.view_is finds in (
       end_found c.args.users.now few (g.D.Disk.past c.args.self.disk) c.args.self.place at_self,
-      ap (λ (k : KeeperState _). k.users) c.at.ensures ∙ ap (λ (s : ReaderState _). s.users) c.self.view_is ∙ sym c.requires,
+      ap (λ (k : KeeperState _). k.principals) c.at.ensures ∙ ap (λ (s : ReaderState _). s.principals) c.self.view_is ∙ sym c.requires,
       ap (λ (k : KeeperState _). k.place) c.at.ensures ∙ ap (λ (s : ReaderState _). s.place) c.self.view_is,
       ap (λ (k : KeeperState _). k.records) c.at.ensures ∙ ap (λ (s : ReaderState _). s.records) c.self.view_is,
       ap (λ (k : KeeperState _). k.broken) c.at.ensures,
@@ -29,7 +30,7 @@ returns-in-Ok-Some-clause-found g c =
 
 pub returns-in-Err-Bad-clause-found : goal.returns-in-Err-Bad-clause-found
 returns-in-Err-Bad-clause-found g c =
-    let few : length c.args.users.now < 2 ^ 32 = omega (arith, c.requires, ap (λ (s : ReaderState _). s.users) c.self.view_is, c.self.invariant.2) in
+    let few : AreFew (counts_of c.args.users.now) = subst AreFew (ap (λ (s : ReaderState _). s.principals) c.self.view_is ∙ sym c.requires) c.self.invariant.2 in
     let finds = rw c.in-Err-Bad.field-0-is at c.in-Err-Bad.ensures.finds in
     let at_self = subst (λ (s : ReaderState _). Finds s.place (Err Bad) (g.D.Disk.past s.disk)) c.self.view_is finds in (
       neither_found c.args.users.now few (g.D.Disk.past c.args.self.disk) c.args.self.place at_self,
