@@ -1,7 +1,8 @@
 //! What the tests share: users, one entry, and the reading of a file to its end.
-ghost use Rattle.std.specs.Prelude.{◌≡◌, length, IfOk};
+ghost use Rattle.std.specs.Prelude.{◌≡◌, ◌<◌, length, IfOk};
 ghost use Rattle.cal_journal.specs.KeptEntries.{kept_entry};
 ghost use Rattle.cal_keeper.specs.Files.Payloads.{HasForm};
+ghost use Rattle.cal_keeper.specs.Principals.{counts_of};
 
 use cal_base::{Arc, List, NoMemory, Octets};
 use cal_journal::Entry;
@@ -47,9 +48,10 @@ pub(super) fn three_users(alloc: Global) -> Result<Users, UsersFault> {
     read_users(alloc, USERS.as_bytes())
 }
 
-/// The entry of the deletion in `ONE_DELETION`.
-fn deletion(alloc: Global) -> Result<Entry, NoMemory>
-    ensures { IfOk result (λ entry. HasForm 3 (kept_entry entry)) }
+/// The entry of the deletion in `ONE_DELETION`, by the second of some users.
+fn deletion(alloc: Global, users: &Users) -> Result<Entry, NoMemory>
+    requires { 1 < length users.now.people }
+    ensures { IfOk result (λ entry. HasForm (counts_of users.now) (kept_entry entry)) }
 {
     let name = Octets::of(alloc, b"calendar".as_slice())?;
     Ok(Entry {
@@ -68,12 +70,12 @@ pub(super) fn keep_deletion<D: Disk + Drop>(
     disk: D,
     users: &Users,
 ) -> Result<(D, bool), NoMemory> {
-    let entry = deletion(alloc)?;
+    if users.len() < 2 {
+        return Ok((disk, false));
+    }
+    let entry = deletion(alloc, users)?;
     match create(alloc, disk, users) {
         Created::Done(mut keeper) => {
-            if users.len() != 3 {
-                return Ok((keeper.into_disk(), false));
-            }
             let kept = keeper.append(&entry).is_ok();
             Ok((keeper.into_disk(), kept))
         }
@@ -96,7 +98,7 @@ pub(super) fn read_whole<D: Disk + Drop>(alloc: Global, disk: D, users: &Users) 
 
 /// How many records a reader has in front of it, and how their reading ended.
 fn read_on<D: Disk + Drop>(alloc: Global, first: Reader<D>, users: &Users) -> (u32, Ending)
-    requires { length users.now ≡ first.users }
+    requires { counts_of users.now ≡ first.principals }
 {
     let mut reader = first;
     'reading: for records in 0..MOST_RECORDS {

@@ -12,6 +12,8 @@ mod cases;
 #[cfg(test)]
 mod damaged_files;
 #[cfg(test)]
+mod groups;
+#[cfg(test)]
 mod real_files;
 #[cfg(test)]
 mod records;

@@ -1,15 +1,17 @@
-use Rattle.std.proofs.Common.{◌≡◌, ℕ, List, codes, pos, refl, sym, subst, lit<, lit≤}
+use Rattle.std.proofs.Common.{◌≡◌, ℕ, ◌<◌, List, length, codes, pos, refl, sym, subst, lit<, lit≤}
 use Rattle.cal_model.specs.History.Journal.{Entry}
 use Rattle.cal_model.specs.State.Changes.{delete_calendar}
+use Rattle.cal_model.specs.Users.UsersFile.{Users}
 use Rattle.cal_keeper.specs.Files.Payloads.{HasForm}
+use Rattle.cal_keeper.specs.Principals.{counts_of}
 use Rattle.tests_keeper.proofs.cases.deletion.Goals as goal
 
 abbrev deletion_of : List ℕ → Entry
 deletion_of name = record { session = 7; who = 1; moment = pos 1_741_600_000; change = delete_calendar 1 name; status = 204 }
 
-deletion-has_form : (name : List ℕ) → name ≡ codes "calendar" → HasForm 3 (deletion_of name)
-deletion-has_form name is =
-    subst (λ (n : List ℕ). HasForm 3 (deletion_of n)) (sym is) (record { who = lit< tt; home = lit< tt; moment = refl; to_9999 = lit≤ tt; status = lit< tt; calendar = refl; change = tt; short = lit≤ tt })
+deletion-has_form : (users : Users) (name : List ℕ) → 1 < length users.people → name ≡ codes "calendar" → HasForm (counts_of users) (deletion_of name)
+deletion-has_form users name two is =
+    subst (λ (n : List ℕ). HasForm (counts_of users) (deletion_of n)) (sym is) (record { who = two; home = two; moment = refl; to_9999 = lit≤ tt; status = lit< tt; calendar = refl; change = tt; short = lit≤ tt })
 
 pub returns : goal.returns
-returns c = deletion-has_form _ cc
+returns c = deletion-has_form c.args.users.now _ c.requires cc
