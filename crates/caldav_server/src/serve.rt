@@ -37,6 +37,7 @@ pub(crate) fn run_serve<F: Files, D: Door, R: Threads + Wait + Sync>(
     ensures users_refused { result.status ≡ 3 → IfSome (F.content files.old (spec.users_path words.now)) (λ octets. IsRefusedAt octets result.place) }
     ensures users_first { result.status ≡ 3 → door.new ≡ door.old }
     ensures users_taken { result.status ≡ 0 → IfSome (F.content files.old (spec.users_path words.now)) (λ octets. (users : Users) × AreUsersOf octets users) }
+    ensures door_behind_users { (door.new ≡ door.old) ⊎ IfSome (F.content files.old (spec.users_path words.now)) (λ octets. (users : Users) × AreUsersOf octets users) }
 
     // The connections.
     ensures limited { result.status ≡ 0 → 0 < spec.connections words.now }
@@ -69,6 +70,7 @@ fn serve_file<F: Files, D: Door, R: Threads + Wait + Sync>(
     ensures users_refused { result.status ≡ 3 → IfSome (F.content files.old words.now.users.now) (λ octets. IsRefusedAt octets result.place) }
     ensures users_first { result.status ≡ 3 → door.new ≡ door.old }
     ensures users_taken { result.status ≡ 0 → IfSome (F.content files.old words.now.users.now) (λ octets. (users : Users) × AreUsersOf octets users) }
+    ensures door_behind_users { (door.new ≡ door.old) ⊎ IfSome (F.content files.old words.now.users.now) (λ octets. (users : Users) × AreUsersOf octets users) }
     ensures limited { result.status ≡ 0 → 0 < words.now.connections }
     ensures tries { result.status ≡ 0 → RoseBy (share_of words.now.connections words.now.sessions 0) (D.tries door.old) (D.tries door.new) }
     ensures fault { result.status ≡ 4 → Rose (F.faults files.old) (F.faults files.new) ⊎ Rose (D.faults door.old) (D.faults door.new) }
