@@ -32,9 +32,9 @@ pub returns-clause-body : goal.returns-clause-body
 returns-clause-body g c =
     if_ok_then c.finished.result
     (λ body finishes k may.
-        let said = href_response (reported_of (g.V.View.directory c.args.seen.now.view.now) c.args.seen.now.who c.args.calendar.0 c.args.calendar.1.now k) c.args.asked.1.now c.args.zone.now c.args.asked.0.now in
-        finishes (flat_map said c.args.asked.2.now)
-        (subst (λ (old : List ℕ). IsWritten c.in_ok-whole.whole old c.push_hrefs.new.out (flat_map said c.args.asked.2.now)) c.in_ok-body.ensures
-        (subst (λ (hrefs : List (List ℕ)). IsWritten c.in_ok-whole.whole c.in_ok-body.body c.push_hrefs.new.out (flat_map said hrefs)) c.as_slice-2.ensures
-        (c.in_ok-whole.ensures.written k may))))
+    let said = href_response (reported_of (g.V.View.directory c.args.seen.now.view.now) c.args.seen.now.who c.args.calendar.0 c.args.calendar.1.now k) c.args.asked.1.now c.args.zone.now c.args.asked.0.now in
+    finishes (flat_map said c.args.asked.2.now)
+    (subst (λ (old : List ℕ). IsWritten c.in_ok-whole.whole old c.push_hrefs.new.out (flat_map said c.args.asked.2.now)) c.in_ok-body.ensures
+    (subst (λ (hrefs : List (List ℕ)). IsWritten c.in_ok-whole.whole c.in_ok-body.body c.push_hrefs.new.out (flat_map said hrefs)) c.as_slice-2.ensures
+    (c.in_ok-whole.ensures.written k may))))
     c.finished.ensures
