@@ -64,6 +64,7 @@ use Rattle.cal_book.specs.Answering.OwnReplies.{IsUnrefused}
 use Rattle.cal_book.specs.ReplyReasons.{HasReason, RepliesHaveReasons}
 use Rattle.cal_book.proofs.Answering.OwnRows.{first-behind, first-before, reading-refused, reading-unrefused, unrefused-good, unrefused-met, need-held}
 use Rattle.cal_book.proofs.Checking.PassedLemmas.{named, not_when}
+use Rattle.cal_book.proofs.RequestLemmas.{other-status as no_want-status}
 
 -- a status has a reason phrase
 abbrev pub Known : ℕ → Type 0
@@ -723,12 +724,15 @@ module _ (users : Users) (directory : Directory) (state : ServerState) (event : 
   pub reply-known : (reply_to directory state event).status ≢ 501
   reply-known = other-status (reply_to directory state event).status booked-fine
 
+reply-no_want : (users : Users) (directory : Directory) (state : ServerState) (event : Event) → IsBookable users event.who event.request → (reply_to directory state event).status ≢ 503
+reply-no_want users directory state event bookable = no_want-status users event.who directory state event bookable
+
 busy-reason : 0 < length (reason 503)
 busy-reason = known-reason 503 refl
 
--- and so has one that is refused before any state is looked at
+-- and so has one that is refused before any state is looked at; and none of these is that to a want of memory
 abbrev RefusedKnown : Asked → Type 0
-RefusedKnown (refused reply) = Known reply.status
+RefusedKnown (refused reply) = (not (reply.status == 503) && is_some (lookup (λ known. known == reply.status) reasons)) ≡ true
 RefusedKnown (asked who request) = Unit {0}
 
 has-fine : (has : Bool) (who : ℕ) (request : Request) (path : Path) → RefusedKnown (if has then asked who request else refused (not_allowed path))
@@ -752,8 +756,21 @@ asked-fine : (users : Users) (wire : WireRequest) → RefusedKnown (asked_of use
 unfolding asked_of
 asked-fine users wire = user-fine users wire (authenticated users wire.authorization)
 
+refused-known : (users : Users) (wire : WireRequest) (reply : Reply) → asked_of users wire ≡ refused reply → RefusedKnown (refused reply)
+refused-known users wire reply e = subst RefusedKnown e (asked-fine users wire)
+
 refused-reason : (users : Users) (wire : WireRequest) (reply : Reply) → asked_of users wire ≡ refused reply → HasReason reply
-refused-reason users wire reply e = known-reason reply.status (subst RefusedKnown e (asked-fine users wire))
+refused-reason users wire reply e = known-reason reply.status (both_hold _ _ (refused-known users wire reply e)).1
+
+refused-no_want : (users : Users) (wire : WireRequest) (reply : Reply) → asked_of users wire ≡ refused reply → reply.status ≢ 503
+refused-no_want users wire reply e is = false≢true (sym (ap (λ n. not (n == 503)) is) ∙ (both_hold _ _ (refused-known users wire reply e)).0)
 
 pub replies_have_reasons : RepliesHaveReasons
-replies_have_reasons = record { answered = reply-reason; known = reply-known; refused_before = refused-reason; busy = busy-reason }
+replies_have_reasons = record {
+  answered = reply-reason;
+  known = reply-known;
+  no_want = reply-no_want;
+  refused_before = refused-reason;
+  no_want_before = refused-no_want;
+  busy = busy-reason;
+}

@@ -14,10 +14,12 @@ use Rattle.cal_model.specs.Users.UsersFile.{Users}
 abbrev pub HasReason : Reply → Type 0
 HasReason reply = 0 < length (reason reply.status)
 
--- The reply to a request that a book can be asked has one, and is in no state that to a method with the content of another one, 501; and so have that to a request which is refused before any book is asked, and that where
--- memory is wanting.
+-- The reply to a request that a book can be asked has one, and is in no state that to a method with the content of another one, 501, nor that to a want of memory, 503; and so have that to a request which is
+-- refused before any book is asked, which is never 503 either, and that where memory is wanting.
 pub record RepliesHaveReasons : Type 0 where
   pub answered : (users : Users) (directory : Directory) (state : ServerState) (event : Event) → IsBookable users event.who event.request → HasReason (reply_to directory state event)
   pub known : (users : Users) (directory : Directory) (state : ServerState) (event : Event) → IsBookable users event.who event.request → (reply_to directory state event).status ≢ 501
+  pub no_want : (users : Users) (directory : Directory) (state : ServerState) (event : Event) → IsBookable users event.who event.request → (reply_to directory state event).status ≢ 503
   pub refused_before : (users : Users) (wire : WireRequest) (reply : Reply) → asked_of users wire ≡ refused reply → HasReason reply
+  pub no_want_before : (users : Users) (wire : WireRequest) (reply : Reply) → asked_of users wire ≡ refused reply → reply.status ≢ 503
   pub busy : HasReason (bare_reply 503)

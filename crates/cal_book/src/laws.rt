@@ -24,7 +24,7 @@ pub fn journals_are_told()
 {}
 
 /// Each reply has a status with a reason phrase, so that its octets can be written; and no request that
-/// a book can be asked is answered 501 in any state.
+/// a book can be asked is answered 501 in any state, nor 503: that tells of a want of memory alone.
 pub fn replies_have_reasons()
     ensures { RepliesHaveReasons }
 {}
