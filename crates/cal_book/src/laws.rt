@@ -1,6 +1,9 @@
-//! What holds of events.
+//! What holds of events, of journals, and of what users see of a state.
 ghost use Rattle.std.specs.Prelude.{◌++◌, List};
+ghost use Rattle.cal_model.specs.History.HistoryLaws.{AcceptedIsReplayed, AcceptedKeepsLegal, BeginningsAreLegal, PiecesStayRight, OriginsFollow};
 ghost use Rattle.cal_model.specs.History.Journal.{Entry};
+ghost use Rattle.cal_model.specs.Serving.ServingLaws.{AcceptedHasItsEffect, StatesStaySound, ShownRunsAreTheCalendars};
+ghost use Rattle.cal_model.specs.Sight.SightLaws.{RepliesAreAlike, ReadingChangesNothing, HiddenIsAbsent, ViewsDecide};
 ghost use Rattle.cal_book.specs.Answering.HeldReadings.{HeldReadingsAreFree};
 ghost use Rattle.cal_book.specs.EventSteps.{JournalsFollow};
 ghost use Rattle.cal_book.specs.LegalJournals.{LegalIsTold};
@@ -33,4 +36,28 @@ pub fn replies_have_reasons()
 /// at most is then 0.
 pub fn held_readings_are_free()
     ensures { HeldReadingsAreFree }
+{}
+
+/// What journals promise: an accepted change has its effect and no other, is accepted again from its
+/// entry, and a legal journal stays legal with it, as does each front of one; what holds of states
+/// stays; and the pieces and origins that are kept follow.
+pub fn history_laws()
+    ensures effect { AcceptedHasItsEffect }
+    ensures replayed { AcceptedIsReplayed }
+    ensures legal { AcceptedKeepsLegal }
+    ensures fronts { BeginningsAreLegal }
+    ensures sound { StatesStaySound }
+    ensures pieces { PiecesStayRight }
+    ensures origins { OriginsFollow }
+{}
+
+/// What users see: a request that only reads is answered alike in all states that look alike to who
+/// asks, and changes none; two states look alike exactly where one view shows both; a calendar on which
+/// nothing is held is as one that is not there; and the busy times that are shown are the calendar's.
+pub fn sight_laws()
+    ensures alike { RepliesAreAlike }
+    ensures unchanged { ReadingChangesNothing }
+    ensures views { ViewsDecide }
+    ensures hidden { HiddenIsAbsent }
+    ensures busy { ShownRunsAreTheCalendars }
 {}

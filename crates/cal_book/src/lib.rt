@@ -28,6 +28,7 @@ pub use claims::{Claim, Expanded, Publish};
 pub use desk::{Desk, JournalEntry, Never, Told};
 pub use expanding::expand;
 pub use laws::{
-    claims_stay, held_readings_are_free, journals_are_told, journals_follow, replies_have_reasons,
+    claims_stay, held_readings_are_free, history_laws, journals_are_told, journals_follow,
+    replies_have_reasons, sight_laws,
 };
 pub use view::BookView;
