@@ -14,3 +14,4 @@ pub mod Keeping
 pub mod Answering
 pub mod Checking
 pub mod Moves
+pub mod CompletenessLaws

@@ -182,11 +182,11 @@ shared-fine scene request fine = (
 -- What is seen
 
 -- what is held shows what it is to show
-record ShowsHeld (sight : Sight) : Type 0 where
-  contents : has_all sight.held read ≡ true → IsSome sight.contents
-  busy : has_all sight.held read_free_busy ≡ true → IsSome sight.busy
+pub record ShowsHeld (sight : Sight) : Type 0 where
+  pub contents : has_all sight.held read ≡ true → IsSome sight.contents
+  pub busy : has_all sight.held read_free_busy ≡ true → IsSome sight.busy
 
-abbrev ShowsAll : Scene → Type 0
+abbrev pub ShowsAll : Scene → Type 0
 ShowsAll scene = (sight : Sight) → scene.calendar ≡ Some sight → ShowsHeld sight
 
 abbrev AllShow : Named Sight → Type 0
@@ -239,7 +239,7 @@ module _ (directory : Directory) (state : ServerState) (who : ℕ) (path : Path)
     by None is e = absurd cc
     by (Some found) is e = visible ((user == who) || not (is_empty found)) found (home-shows view user found (homes-show directory who (enumerate_from 0 state.homes)) is) e
 
-  scene-shows : ShowsAll (scene_at directory view who path)
+  pub scene-shows : ShowsAll (scene_at directory view who path)
   unfolding scene_at
   scene-shows sight e = at-shows (option_and_then (visible_home view who) (option_and_then (user_number directory) (user_in path))) (calendar_in path) sight
       (visible-shows (option_and_then (user_number directory) (user_in path))) e
@@ -293,7 +293,7 @@ abbrev holds_all : ℕ → Option Sight → Bool
 holds_all privilege seen = has_all (option_map_or (λ (sight : Sight). sight.held) seen 0) privilege
 
 -- who holds a privilege on what is at a path sees a calendar there
-held-sight : (scene : Scene) (privilege : ℕ) → has_all 0 privilege ≡ false → has_all (held_in scene) privilege ≡ true
+pub held-sight : (scene : Scene) (privilege : ℕ) → has_all 0 privilege ≡ false → has_all (held_in scene) privilege ≡ true
     → (sight : Sight) × ((scene.calendar ≡ Some sight) × (has_all sight.held privilege ≡ true))
 held-sight scene privilege none holds = by scene.calendar refl where
   by : (seen : Option Sight) → scene.calendar ≡ seen → (sight : Sight) × ((scene.calendar ≡ Some sight) × (has_all sight.held privilege ≡ true))
@@ -580,7 +580,7 @@ module _ (directory : Directory) (state : ServerState) (who : ℕ) (request : Re
       (λ home. at_object-some request.method request.content user calendar object home changes allowed suits good)
 
   -- a request that no shared row refuses asks for a change
-  change-some : IsUnrefused scene_of request → IsTrue (has_method request.path request.method) → is_reading request.method ≡ false → Suits request.method request.content → IsSome (change_of directory request)
+  pub change-some : IsUnrefused scene_of request → IsTrue (has_method request.path request.method) → is_reading request.method ≡ false → Suits request.method request.content → IsSome (change_of directory request)
   unfolding change_of
   change-some none allowed changes suits =
       at-some request.path refl allowed changes suits (unrefused-good scene_of request none) (ap (λ path. is_missing request.method scene_of path) (sym path-is) ∙ missing-none none)

@@ -9,6 +9,7 @@ ghost use Rattle.cal_book.specs.EventSteps.{JournalsFollow};
 ghost use Rattle.cal_book.specs.LegalJournals.{LegalIsTold};
 ghost use Rattle.cal_book.specs.Publishing.{IsClaimIn};
 ghost use Rattle.cal_book.specs.ReplyReasons.{RepliesHaveReasons};
+ghost use Rattle.cal_book.specs.Completeness.{ReportsAreAnswered, ChangesAreMade};
 ghost use Rattle.cal_book.specs.declared.claims.Claim.{Claim};
 
 /// The journal after an event is legal, and leads to the state after the event.
@@ -36,6 +37,14 @@ pub fn replies_have_reasons()
 /// at most is then 0.
 pub fn held_readings_are_free()
     ensures { HeldReadingsAreFree }
+{}
+
+/// What is not refused is done, in any state: a report whose caller holds what it needs is answered 207,
+/// or 200 for busy times, unless a row of its own refuses it or the answer is too long; and a change is
+/// made unless a row refuses it.
+pub fn requests_are_complete()
+    ensures reported { ReportsAreAnswered }
+    ensures changed { ChangesAreMade }
 {}
 
 /// What journals promise: an accepted change has its effect and no other, is accepted again from its

@@ -29,6 +29,6 @@ pub use desk::{Desk, JournalEntry, Never, Told};
 pub use expanding::expand;
 pub use laws::{
     claims_stay, held_readings_are_free, history_laws, journals_are_told, journals_follow,
-    replies_have_reasons, sight_laws,
+    replies_have_reasons, requests_are_complete, sight_laws,
 };
 pub use view::BookView;

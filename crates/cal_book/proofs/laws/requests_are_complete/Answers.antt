@@ -1,0 +1,8 @@
+use Rattle.cal_book.proofs.CompletenessLaws.{reports_are_answered, changes_are_made}
+use Rattle.cal_book.proofs.laws.requests_are_complete.Goals as goal
+
+pub returns-clause-reported : goal.returns-clause-reported
+returns-clause-reported c = reports_are_answered
+
+pub returns-clause-changed : goal.returns-clause-changed
+returns-clause-changed c = changes_are_made
