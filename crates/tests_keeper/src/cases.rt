@@ -1,12 +1,12 @@
 //! What the tests share: users, one entry, and the reading of a file to its end.
-ghost use Rattle.std.specs.Prelude.{◌≡◌, ◌<◌, length, IfOk};
+ghost use Rattle.std.specs.Prelude.{◌≡◌, ◌<◌, false, length, IfOk};
 ghost use Rattle.cal_journal.specs.KeptEntries.{kept_entry};
 ghost use Rattle.cal_keeper.specs.Files.Payloads.{HasForm};
 ghost use Rattle.cal_keeper.specs.Principals.{counts_of};
 
 use cal_base::{Arc, List, NoMemory, Octets};
 use cal_journal::Entry;
-use cal_keeper::{Created, Disk, MemoryDisk, NextEntry, Opened, Reader, create, open};
+use cal_keeper::{Created, Disk, Keeper, MemoryDisk, NextEntry, Opened, Reader, create, open};
 use cal_model::Change;
 use privileges::{Users, UsersFault, read_users};
 use std::alloc::Global;
@@ -73,16 +73,29 @@ pub(super) fn keep_deletion<D: Disk + Drop>(
     if users.len() < 2 {
         return Ok((disk, false));
     }
-    let entry = deletion(alloc, users)?;
     match create(alloc, disk, users) {
-        Created::Done(mut keeper) => {
-            let kept = keeper.append(&entry).is_ok();
-            Ok((keeper.into_disk(), kept))
-        }
+        Created::Done(keeper) => append_deletion(alloc, keeper, users),
         Created::NotEmpty(disk, _) => Ok((disk, false)),
         Created::Failed(disk) => Ok((disk, false)),
         Created::NoMemory(_) => Err(NoMemory),
     }
+}
+
+/// Appends the record of the deletion. Gives the disk, and whether that went through.
+fn append_deletion<D: Disk + Drop>(
+    alloc: Global,
+    keeper: Keeper<D>,
+    users: &Users,
+) -> Result<(D, bool), NoMemory>
+    requires two { 1 < length users.now.people }
+    requires own { keeper.principals ≡ counts_of users.now }
+    requires unbroken { keeper.broken ≡ false }
+{
+    let mut keeper = keeper;
+    let entry = deletion(alloc, users)?;
+    let kept = keeper.append(&entry).is_ok();
+    drop(entry);
+    Ok((keeper.into_disk(), kept))
 }
 
 /// How many records a file on a disk has, and how its reading ended.
@@ -102,15 +115,30 @@ fn read_on<D: Disk + Drop>(alloc: Global, first: Reader<D>, users: &Users) -> (u
 {
     let mut reader = first;
     'reading: for records in 0..MOST_RECORDS {
-        match reader.next(alloc, users) {
-            NextEntry::Entry(behind, _, _) => reader = behind,
-            NextEntry::End(_) => return (records, Ending::End),
-            NextEntry::Bad(_, place) => return (records, Ending::Bad(place)),
-            NextEntry::Failed(_) => return (records, Ending::Failed),
-            NextEntry::NoMemory(_) => return (records, Ending::NoMemory),
+        match read_one(alloc, reader, users) {
+            Ok(behind) => reader = behind,
+            Err(ending) => return (records, ending),
         }
     }
     (MOST_RECORDS, Ending::Longer)
+}
+
+/// The reader behind the next record, or how the reading ended.
+fn read_one<D: Disk + Drop>(
+    alloc: Global,
+    reader: Reader<D>,
+    users: &Users,
+) -> Result<Reader<D>, Ending>
+    requires { counts_of users.now ≡ reader.principals }
+    ensures { IfOk result (λ behind. counts_of users.now ≡ behind.principals) }
+{
+    match reader.next(alloc, users) {
+        NextEntry::Entry(behind, _, _) => Ok(behind),
+        NextEntry::End(_) => Err(Ending::End),
+        NextEntry::Bad(_, place) => Err(Ending::Bad(place)),
+        NextEntry::Failed(_) => Err(Ending::Failed),
+        NextEntry::NoMemory(_) => Err(Ending::NoMemory),
+    }
 }
 
 /// A disk in memory with these octets, of whose calls the ones with the numbers in `failing` fail.

@@ -4,7 +4,7 @@ use crate::cases::{
     Ending, ONE_DELETION, is_same, keep_deletion, memory_disk, read_whole, three_users,
 };
 use cal_base::{NoMemory, Word};
-use cal_keeper::{Disk, FileDisk};
+use cal_keeper::{Disk, FileDisk, MemoryDisk};
 use privileges::Users;
 use std::alloc::Global;
 use std::fs::{File, Files};
@@ -80,14 +80,25 @@ fn is_kept<R: Files<File = File> + Copy + Drop>(
     Ok(is_new && is_alone && is_folder_refused && found == (1, Ending::End))
 }
 
+/// Whether the file at a path has these octets. The file is removed.
+fn had_octets(rt: &HostRuntime, path: &str, octets: &[u8]) -> io::Result<bool> {
+    let found = fs::read(rt, path)?;
+    let same = is_same(found.as_slice(), octets);
+    drop(found);
+    fs::remove_file(rt, path)?;
+    Ok(same)
+}
+
 #[test]
 fn a_file_is_made_locked_and_read_back(rt: HostRuntime) -> Result<(), Fail> {
-    let users = three_users(rt.alloc())?;
     let path = path_of(&rt, "kept")?;
-    let kept = is_kept(&rt, rt.alloc(), path.as_str(), &users)?;
-    let octets = fs::read(&rt, path.as_str())?;
-    fs::remove_file(&rt, path.as_str())?;
-    assert!(rt; kept && is_same(octets.as_slice(), ONE_DELETION.as_slice()));
+    let users = three_users(rt.alloc())?;
+    let kept = is_kept(&rt, rt.alloc(), path.as_str(), &users);
+    drop(users);
+    let same = had_octets(&rt, path.as_str(), ONE_DELETION.as_slice());
+    drop(path);
+    let right = kept? && same?;
+    assert!(rt; right);
     Ok(())
 }
 
@@ -100,8 +111,10 @@ enum Call {
     Sync,
 }
 
+const CALL_COUNT: usize = 34;
+
 /// Calls at the edges of what is gathered and of what is read at once, 262,144 octets.
-const CALLS: [Call; 34] = [
+const CALLS: [Call; CALL_COUNT] = [
     Call::Read(0, 1),
     Call::Sync,
     // pieces behind one another, and a read of what is not yet written
@@ -198,30 +211,62 @@ fn answer_same<A: Disk, B: Disk>(
     }
 }
 
-#[test]
-fn a_file_answers_as_the_one_in_memory(rt: HostRuntime) -> Result<(), Fail> {
-    let alloc = rt.alloc();
-    let path = path_of(&rt, "alike")?;
-    let path = path.as_str();
+/// How many of the calls two disks answer alike, up to the first that they do not.
+fn count_alike<A: Disk, B: Disk>(
+    a: &mut A,
+    b: &mut B,
+    octets: &[u8],
+    into_a: &mut [u8],
+    into_b: &mut [u8],
+) -> usize {
+    for (number, call) in CALLS.iter().enumerate() {
+        if !answer_same(a, b, call, octets, into_a, into_b) {
+            return number;
+        }
+    }
+    CALL_COUNT
+}
+
+/// The same, of octets of no short period, and of places that have them too.
+fn count_with_noise<A: Disk, B: Disk>(
+    alloc: Global,
+    a: &mut A,
+    b: &mut B,
+) -> Result<usize, NoMemory> {
     let octets = noise(alloc, 300_000)?;
     let mut one = noise(alloc, 600_000)?;
     let mut other = noise(alloc, 600_000)?;
-    let mut memory = memory_disk(alloc, &[], &[])?;
-    let mut system = disk_at(&rt, alloc, path)?;
-    for (number, call) in CALLS.iter().enumerate() {
-        let same = answer_same(
-            &mut memory,
-            &mut system,
-            call,
-            octets.as_slice(),
-            one.as_mut_slice(),
-            other.as_mut_slice(),
-        );
-        assert!(rt; same, "call {number}");
-    }
-    drop(system);
-    let found = fs::read(&rt, path)?;
-    fs::remove_file(&rt, path)?;
-    assert!(rt; found.as_slice() == memory.octets());
+    Ok(count_alike(
+        a,
+        b,
+        octets.as_slice(),
+        one.as_mut_slice(),
+        other.as_mut_slice(),
+    ))
+}
+
+/// How many of the calls the file at a path answers as a disk in memory does.
+fn count_in_file<R: Files<File = File> + Copy + Drop>(
+    rt: &R,
+    alloc: Global,
+    path: &str,
+    memory: &mut MemoryDisk,
+) -> Result<usize, NoMemory> {
+    let mut system = disk_at(rt, alloc, path)?;
+    count_with_noise(alloc, memory, &mut system)
+}
+
+#[test]
+fn a_file_answers_as_the_one_in_memory(rt: HostRuntime) -> Result<(), Fail> {
+    let path = path_of(&rt, "alike")?;
+    let mut memory = memory_disk(rt.alloc(), &[], &[])?;
+    let count = count_in_file(&rt, rt.alloc(), path.as_str(), &mut memory);
+    let same = had_octets(&rt, path.as_str(), memory.octets());
+    drop(memory);
+    drop(path);
+    let count = count?;
+    let same = same?;
+    assert!(rt; count == CALL_COUNT, "call {count}");
+    assert!(rt; same);
     Ok(())
 }
