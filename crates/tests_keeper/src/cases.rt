@@ -133,7 +133,10 @@ fn read_one<D: Disk + Drop>(
     ensures { IfOk result (λ behind. counts_of users.now ≡ behind.principals) }
 {
     match reader.next(alloc, users) {
-        NextEntry::Entry(behind, _, _) => Ok(behind),
+        NextEntry::Entry(behind, event, _) => {
+            drop(event);
+            Ok(behind)
+        }
         NextEntry::End(_) => Err(Ending::End),
         NextEntry::Bad(_, place) => Err(Ending::Bad(place)),
         NextEntry::Failed(_) => Err(Ending::Failed),

@@ -50,15 +50,21 @@ fn a_header_has_the_groups_behind_the_users(rt: HostRuntime) -> Result<(), Fail>
     Ok(())
 }
 
+/// What is found in the worked file for these users.
+fn found_for(alloc: Global, users: Result<Users, UsersFault>) -> Result<(u32, Ending), Fail> {
+    let users = users?;
+    let found = read_octets(alloc, ONE_GRANT.as_slice(), &users);
+    drop(users);
+    Ok(found?)
+}
+
 #[test]
 fn other_groups_are_other_users(rt: HostRuntime) -> Result<(), Fail> {
     let alloc = rt.alloc();
-    let without = three_users(alloc)?;
-    let found = read_octets(alloc, ONE_GRANT.as_slice(), &without)?;
-    assert!(rt; found == (0, Ending::OtherUsers(31)));
-    let others = read_users(alloc, REGROUPED.as_bytes())?;
-    let found = read_octets(alloc, ONE_GRANT.as_slice(), &others)?;
-    assert!(rt; found == (0, Ending::OtherUsers(62)));
+    let without = found_for(alloc, three_users(alloc))?;
+    let others = found_for(alloc, read_users(alloc, REGROUPED.as_bytes()))?;
+    assert!(rt; without == (0, Ending::OtherUsers(31)));
+    assert!(rt; others == (0, Ending::OtherUsers(62)));
     Ok(())
 }
 

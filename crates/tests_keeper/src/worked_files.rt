@@ -1,11 +1,13 @@
 //! The worked file, written and read, with a stop and a failure at each call.
+ghost use Rattle.std.specs.Prelude.{◌≡◌};
+ghost use Rattle.cal_keeper.specs.Principals.{counts_of};
 
 use crate::cases::{
     Ending, NO_RECORD, ONE_DELETION, ONE_PUT, is_same, keep_deletion, memory_disk, read_octets,
     read_whole, three_users,
 };
 use cal_base::NoMemory;
-use cal_keeper::{MemoryDisk, NextEntry, Opened, open};
+use cal_keeper::{MemoryDisk, NextEntry, Opened, Reader, open};
 use cal_model::{Content, Event, Method, Path};
 use privileges::Users;
 use std::alloc::Global;
@@ -108,8 +110,9 @@ fn keep_failing(
     call: u64,
 ) -> Result<(bool, (u32, Ending)), NoMemory> {
     let (disk, kept) = keep_deletion(alloc, memory_disk(alloc, &[], &[call])?, users)?;
-    let found = read_octets(alloc, disk.octets(), users)?;
-    Ok((kept, found))
+    let found = read_octets(alloc, disk.octets(), users);
+    drop(disk);
+    Ok((kept, found?))
 }
 
 #[test]
@@ -181,13 +184,26 @@ fn is_worked_content(content: &Content) -> bool {
 /// Whether the worked file gives the worked PUT with its status.
 fn reads_worked_put(alloc: Global, users: &Users) -> Result<bool, NoMemory> {
     let disk = memory_disk(alloc, ONE_PUT.as_slice(), &[])?;
-    let Opened::Ready(reader) = open(alloc, disk, users) else {
-        return Ok(false);
-    };
-    let NextEntry::Entry(behind, event, status) = reader.next(alloc, users) else {
-        return Ok(false);
-    };
-    Ok(behind.place() == 287 && status == 201 && is_worked_put(&event))
+    match open(alloc, disk, users) {
+        Opened::Ready(reader) => Ok(gives_worked_put(alloc, reader, users)),
+        _ => Ok(false),
+    }
+}
+
+/// Whether a reader of it does.
+fn gives_worked_put(alloc: Global, reader: Reader<MemoryDisk>, users: &Users) -> bool
+    requires { counts_of users.now ≡ reader.principals }
+{
+    match reader.next(alloc, users) {
+        NextEntry::Entry(behind, event, status) => {
+            let place = behind.place();
+            drop(behind);
+            let is_put = is_worked_put(&event);
+            drop(event);
+            is_put && place == 287 && status == 201
+        }
+        _ => false,
+    }
 }
 
 #[test]

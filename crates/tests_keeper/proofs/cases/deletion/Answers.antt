@@ -1,4 +1,4 @@
-use Rattle.std.proofs.Common.{◌≡◌, ℕ, ◌<◌, List, length, codes, pos, refl, sym, subst, lit<, lit≤}
+use Rattle.std.proofs.Common.{◌≡◌, ℕ, ◌<◌, List, length, codes, pos, refl, sym, ◌∙◌, subst, rules, lit<, lit≤}
 use Rattle.std.specs.Char.{encode_utf8}
 use Rattle.std.specs.Str.{is_utf8, chars}
 use Rattle.cal_model.specs.History.Journal.{Entry}
@@ -20,4 +20,8 @@ deletion-has_form users name two is =
     subst (λ (n : List ℕ). HasForm (counts_of users) (deletion_of n)) (sym is) (record { who = two; home = two; moment = refl; to_9999 = lit≤ tt; status = lit< tt; calendar = named; change = tt; short = lit≤ tt })
 
 pub returns : goal.returns
-returns c = deletion-has_form c.args.users.now _ c.requires cc
+returns c =
+    let slice : c.as_slice.result.now ≡ codes "calendar" = search rules in
+    let name : c.in_ok-name.name ≡ c.as_slice.result.now = c.in_ok-name.ensures in
+    let arc : c.in_ok-new.field-0 ≡ c.in_ok-name.name = c.in_ok-new.ensures in
+    deletion-has_form c.args.users.now _ c.requires (arc ∙ name ∙ slice)
