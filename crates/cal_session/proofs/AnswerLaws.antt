@@ -30,7 +30,7 @@ use Rattle.cal_session.specs.declared.answering.Stop.TheVariants.{Ended, Broken}
 use Rattle.cal_session.specs.declared.served.Served.{Served}
 use Rattle.cal_session.specs.declared.served.How.{How}
 use Rattle.cal_session.specs.declared.served.How.TheVariants.{Closed, CutInRequest, Limit, WireRefused, ReadFault, WriteFault, NoMemory}
-use Rattle.cal_session.proofs.SessionLaws.{IsOn, run_more, all_front, answered_some, answered_before, answered_all, rose_since}
+use Rattle.cal_session.proofs.SessionLaws.{IsOn, session_more, run_more, all_front, answered_some, answered_before, answered_all, rose_since}
 use Rattle.cal_session.proofs.StepLemmas.{adds_on, replies_further, map_further, map_len, looks_on}
 use Rattle.cal_session.proofs.StreamLemmas.{open_parts, served_closed, spells_more, spells_on, still_open}
 use Rattle.cal_session.proofs.TurnLaws.{session_later}
@@ -51,11 +51,12 @@ module _ (users : Users) (told : Option ℤ) (start now next : PassState Entry U
   reached_more r a on begins x dated left added falls stays few = record {
     answers = r.answers ++ a ∷ [];
     run = subst (λ printed. HasRun users told start next before after (turns ++ a.turn ∷ []) stream (r.answers ++ a ∷ []) printed) (sym (replies_further r.answers a))
-        (run_more users told start now next before link after turns stream r.answers a (answer_octets (length r.answers) a.wire a.reply a.turn.moment) on r.run x dated left added);
+        (run_more users told start now next before link after turns stream r.answers a (answer_octets (length r.answers) a.wire a.reply a.turn.moment) on r.run r.seen x dated left added);
     still_open = subst (λ requests. is_open requests ≡ true) (sym (requests_more r.answers a))
         (still_open (requests_of r.answers) a.wire r.still_open stays (let n = map_len (λ (answer : Answer). answer.wire) r.answers in omega (arith, n, few)));
     spelled = spelled_more r.answers a r.spelled begins;
     faults = (let h = r.faults in omega (arith, h, falls));
+    seen = (session_more users told start now next r.answers a on (r.run.session, r.seen) x).1;
   }
 
   -- all that is served was answered, where the request closes the connection
@@ -125,7 +126,7 @@ module _ (users : Users) (told : Option ℤ) (start now next : PassState Entry U
           )
 
       part : (many : ℕ) → Adds link.written (take many octets) after.written → HasRun users told start next before after (turns ++ a.turn ∷ []) stream (r.answers ++ a ∷ []) (replies_of r.answers ++ take many octets)
-      part many added = run_more users told start now next before link after turns stream r.answers a (take many octets) on r.run x dated left added
+      part many added = run_more users told start now next before link after turns stream r.answers a (take many octets) on r.run r.seen x dated left added
 
       cut_at : (many : ℕ) → IsCutShort told stream (r.answers ++ a ∷ []) (replies_of r.answers ++ take many octets)
       cut_at many = record {
@@ -161,7 +162,7 @@ module _ (users : Users) (told : Option ℤ) (start now next : PassState Entry U
         stream = stream;
         answers = r.answers ++ a ∷ [];
         printed = replies_of r.answers ++ answer_octets (length r.answers) a.wire a.reply a.turn.moment;
-        run = run_more users told start now next before link after turns stream r.answers a (answer_octets (length r.answers) a.wire a.reply a.turn.moment) on r.run x dated left added;
+        run = run_more users told start now next before link after turns stream r.answers a (answer_octets (length r.answers) a.wire a.reply a.turn.moment) on r.run r.seen x dated left added;
         ended = (
           sym (replies_further r.answers a),
           inr (record {
@@ -181,7 +182,7 @@ module _ (users : Users) (told : Option ℤ) (start now next : PassState Entry U
         stream = stream;
         answers = r.answers ++ a ∷ [];
         printed = replies_of r.answers ++ answer_octets (length r.answers) a.wire a.reply a.turn.moment;
-        run = run_more users told start now next before link after turns stream r.answers a (answer_octets (length r.answers) a.wire a.reply a.turn.moment) on r.run x dated left added;
+        run = run_more users told start now next before link after turns stream r.answers a (answer_octets (length r.answers) a.wire a.reply a.turn.moment) on r.run r.seen x dated left added;
         ended = (sym (replies_further r.answers a), record { ending = all.0; answered = all.1; full = (let n = length-append r.answers (a ∷ []) in omega (arith, n, last)) });
       }
 

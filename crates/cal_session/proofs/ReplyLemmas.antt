@@ -17,7 +17,7 @@ use Rattle.cal_book.specs.EventSteps.{state_behind}
 use Rattle.cal_book.specs.ReplyReasons.{HasReason, RepliesHaveReasons}
 use Rattle.cal_book.specs.declared.desk.Told.TheVariants.{Reply}
 use Rattle.cal_session.specs.AskedTurns.{AskedAt, AnsweredAt, IsReplied, answer_of}
-use Rattle.cal_session.specs.Turns.{Answer, IsWithin, LooksUp, IsAlike, event_of, reply_in, entries_in, is_given}
+use Rattle.cal_session.specs.Turns.{Answer, IsWithin, LooksUp, IsAlike, WhereRefused, event_of, reply_in, entries_in, is_given}
 
 within_one : (b : Bool) (a : Answer) → IsWithin (map (λ (answer : Answer). answer.turn.at) (if b then a ∷ [] else [])) (a.turn.at ∷ [])
 within_one true a = inl (refl, tt)
@@ -45,6 +45,8 @@ module _ (users : Users) (pass now : PassState Entry Users) (wire : WireRequest)
         alike = subst (λ what. IsAlike users pass.number (state_behind users x.journal) moment what reply) (sym is) t.alike;
         seen = (t.busy busy.1).1 ∙ (sym (append-nil x.journal) ∙ ap (λ b. x.journal ++ (if b then [] else entries_in users pass.number (state_behind users x.journal) moment (asked_of users wire))) (sym busy.0));
         looks = looks_once users pass.looks now.looks (answer_of wire moment (at, reply)) grown;
+        refused_at = subst (λ what. WhereRefused what (x.journal ≡ pass.seen)) (sym is) tt;
+        refused_looks = subst (λ what. WhereRefused what (now.looks ≡ pass.looks)) (sym is) tt;
       }
       by_status (inr other) = record {
         journal = x.journal;
@@ -55,6 +57,8 @@ module _ (users : Users) (pass now : PassState Entry Users) (wire : WireRequest)
         alike = subst (λ what. IsAlike users pass.number (state_behind users x.journal) moment what reply) (sym is) t.alike;
         seen = (t.answered other.1).1 ∙ (ap (λ what. x.journal ++ entries_in users pass.number (state_behind users x.journal) moment what) (sym is) ∙ ap (λ b. x.journal ++ (if b then [] else entries_in users pass.number (state_behind users x.journal) moment (asked_of users wire))) (sym other.0));
         looks = looks_once users pass.looks now.looks (answer_of wire moment (at, reply)) grown;
+        refused_at = subst (λ what. WhereRefused what (x.journal ≡ pass.seen)) (sym is) tt;
+        refused_looks = subst (λ what. WhereRefused what (now.looks ≡ pass.looks)) (sym is) tt;
       }
 
   -- and it can be written

@@ -24,11 +24,11 @@ use Rattle.cal_session.specs.Sessions.{LinkTold, HasRun, HasServed, MetEnd}
 use Rattle.cal_session.specs.UnderWay.{IsReached, IsUnderWay, IsWaiting, EndsAtEnd}
 use Rattle.cal_session.specs.declared.served.How.{How}
 use Rattle.cal_session.specs.declared.served.How.TheVariants.{Closed, CutInRequest, Limit, WireRefused, ReadFault, WriteFault, NoMemory}
-use Rattle.cal_session.specs.Turns.{Answer, IsSession, IsToldMoment}
+use Rattle.cal_session.specs.Turns.{Answer, IsToldMoment, seen_behind}
 use Rattle.cal_session.specs.declared.served.Served.{Served}
 use Rattle.cal_session.proofs.StepLemmas.{adds_on, takes_on, map_further, looks_on}
 use Rattle.cal_session.proofs.StreamLemmas.{open_parts, served_front, served_open, spells_on}
-use Rattle.cal_session.proofs.TurnLaws.{session_later, one_here}
+use Rattle.cal_session.proofs.TurnLaws.{HasSeenAll, session_later, stands_later, one_here}
 
 -- the pass is that of the start, with more seen
 abbrev pub IsOn : PassState Entry Users → PassState Entry Users → Type 0
@@ -36,24 +36,25 @@ IsOn start now = now ≡ record start { seen = now.seen; looks = now.looks }
 
 module _ (users : Users) (told : Option ℤ) (start now next : PassState Entry Users) where
   -- one answer more in the session
-  pub session_more : (answers : List Answer) (a : Answer) → IsOn start now → IsSession users start.number start.seen answers now.seen → AnsweredAt users now next a → IsSession users start.number start.seen (answers ++ a ∷ []) next.seen
+  pub session_more : (answers : List Answer) (a : Answer) → IsOn start now → HasSeenAll users start.number start.seen answers now.seen → AnsweredAt users now next a → HasSeenAll users start.number start.seen (answers ++ a ∷ []) next.seen
   session_more answers a on s x =
       let number : now.number ≡ start.number = ap (λ (p : PassState Entry Users). p.number) on in
-      let at : IsSession users now.number start.seen (answers ++ a ∷ []) next.seen =
-      subst (IsSession users now.number start.seen (answers ++ a ∷ [])) (sym x.seen)
+      let own = subst (λ n. HasSeenAll users n start.seen answers now.seen) (sym number) s in
+      let at : HasSeenAll users now.number start.seen (answers ++ a ∷ []) next.seen =
+      subst (HasSeenAll users now.number start.seen (answers ++ a ∷ [])) (sym x.seen)
       (one_here users now.number start.seen answers x.journal a
-      (session_later users now.number now.gone start.seen answers now.seen x.journal (subst (λ n. IsSession users n start.seen answers now.seen) (sym number) s) x.later)
-      x.place x.status x.reply x.alike) in
-      subst (λ n. IsSession users n start.seen (answers ++ a ∷ []) next.seen) number at
+      (session_later users now.number now.gone start.seen answers now.seen x.journal own.0 x.later)
+      x.place (stands_later users now.number now.gone start.seen answers now.seen x.journal a own.0 own.1 x.later x.place x.refused_at) x.status x.reply x.alike) in
+      subst (λ n. HasSeenAll users n start.seen (answers ++ a ∷ []) next.seen) number at
 
   -- one answer more in all that is told of a session, whose reply, or a front of it, was written
   pub run_more : (before link after : LinkTold) (turns : List Served) (stream : List ℕ) (answers : List Answer) (a : Answer) (piece : List ℕ) → IsOn start now → HasRun users told start now before link turns stream answers (replies_of answers)
-      → AnsweredAt users now next a → IsToldMoment told a.turn.moment → after.left ≡ link.left → Adds link.written piece after.written
+      → seen_behind users start.number now.seen (length start.seen) answers ≡ length now.seen → AnsweredAt users now next a → IsToldMoment told a.turn.moment → after.left ≡ link.left → Adds link.written piece after.written
       → HasRun users told start next before after (turns ++ a.turn ∷ []) stream (answers ++ a ∷ []) (replies_of answers ++ piece)
-  run_more before link after turns stream answers a piece on run x moment left added = record {
+  run_more before link after turns stream answers a piece on run seen x moment left added = record {
     taken = subst (λ l. Takes before.left stream l) (sym left) run.taken;
     turns_are = ap (λ l. l ++ a.turn ∷ []) run.turns_are ∙ sym (map_further (λ (answer : Answer). answer.turn) answers a);
-    session = session_more answers a on run.session x;
+    session = (session_more answers a on (run.session, seen) x).0;
     looks = looks_on users start.looks now.looks next.looks answers (a ∷ []) run.looks x.looks;
     moments = all_both (λ (answer : Answer). IsToldMoment told answer.turn.moment) answers (a ∷ []) run.moments (moment, tt);
     written = adds_on before.written link.written after.written (replies_of answers) piece run.written added;
@@ -193,6 +194,7 @@ module _ (users : Users) (told : Option ℤ) (start now : PassState Entry Users)
       still_open = w.reached.still_open;
       spelled = subst (λ requests. Spells (w.stream ++ piece) requests (w.rest ++ piece)) (append-nil (requests_of w.reached.answers)) (streams_grow w.stream piece (requests_of w.reached.answers) [] w.rest (w.rest ++ piece) w.reached.spelled refl);
       faults = (let h = w.reached.faults in omega (arith, h, falls));
+      seen = w.reached.seen;
     };
     stands = feeds w.rest w.stands;
   }

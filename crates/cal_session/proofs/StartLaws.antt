@@ -34,7 +34,7 @@ module _ (users : Users) (told : Option ℤ) (start : PassState Entry Users) (li
   begun wire stands = record {
     stream = [];
     rest = [];
-    reached = record { answers = []; run = nothing_ran; still_open = refl; spelled = refl; faults = omega arith };
+    reached = record { answers = []; run = nothing_ran; still_open = refl; spelled = refl; faults = omega arith; seen = refl };
     stands = stands;
   }
 

@@ -20,7 +20,7 @@ use Rattle.cal_model.specs.State.ServerState.{ServerState, directory_of}
 use Rattle.cal_model.specs.Users.UsersFile.{Users}
 use Rattle.cal_book.specs.EventSteps.{entries_by as entries_of_outcome, entries_made, state_behind}
 use Rattle.cal_session.specs.declared.served.Served.{Served}
-use Rattle.cal_session.specs.Turns.{Answer, event_of, reply_in, entries_in, IsAlike, is_busy, state_at, entries_of, IsAnswered, Rises, all_entries_of, IsSession}
+use Rattle.cal_session.specs.Turns.{Answer, event_of, reply_in, entries_in, IsAlike, is_busy, state_at, entries_of, IsAnswered, WhereRefused, StandsBehind, Rises, seen_behind, all_entries_of, IsSession}
 
 abbrev session_of : Entry → ℕ
 session_of entry = entry.session
@@ -120,9 +120,26 @@ module _ (users : Users) (number : ℕ) where
   rises_to journal from [] to on r h = (let s = r in omega (arith, s, h))
   rises_to journal from (a ∷ answers) to on r h = (r.0, rises_to journal (a.turn.at + length (entries_of users number journal a)) answers to on r.1 h)
 
-  rises_further : (journal : List Entry) (from : ℕ) (answers : List Answer) (to on : ℕ) (a : Answer) → Rises users number journal from answers to → to ≤ a.turn.at → a.turn.at + length (entries_of users number journal a) ≤ on → Rises users number journal from (answers ++ a ∷ []) on
-  rises_further journal from [] to on a r h g = ((let s = r in omega (arith, s, h)), g)
+  rises_further : (journal : List Entry) (from : ℕ) (answers : List Answer) (to on : ℕ) (a : Answer) → Rises users number journal from answers to → StandsBehind (asked_of users a.wire) (seen_behind users number journal from answers) a.turn.at
+      → a.turn.at + length (entries_of users number journal a) ≤ on → Rises users number journal from (answers ++ a ∷ []) on
+  rises_further journal from [] to on a r h g = (h, g)
   rises_further journal from (b ∷ answers) to on a r h g = (r.0, rises_further journal (b.turn.at + length (entries_of users number journal b)) answers to on a r.1 h g)
+
+  -- What was seen behind the answers
+
+  seen_later : (journal more : List Entry) (from : ℕ) (answers : List Answer) → AllByRecursion (IsAnswered users number journal) answers → seen_behind users number (journal ++ more) from answers ≡ seen_behind users number journal from answers
+  seen_later journal more from [] h = refl
+  seen_later journal more from (a ∷ answers) h =
+      ap (λ es. seen_behind users number (journal ++ more) (a.turn.at + length es) answers) (same_entries journal more a (at_within journal a h.0)) ∙ seen_later journal more (a.turn.at + length (entries_of users number journal a)) answers h.1
+
+  seen_further : (journal : List Entry) (from : ℕ) (answers : List Answer) (a : Answer) → seen_behind users number journal from (answers ++ a ∷ []) ≡ a.turn.at + length (entries_of users number journal a)
+  seen_further journal from [] a = refl
+  seen_further journal from (b ∷ answers) a = seen_further journal (b.turn.at + length (entries_of users number journal b)) answers a
+
+  -- an answer at a journal stands behind what was seen before, where a refusal's journal is that
+  stands_at : (what : Asked) (seen journal : List Entry) (at : ℕ) → at ≡ length journal → length seen ≤ length journal → WhereRefused what (journal ≡ seen) → StandsBehind what (length seen) at
+  stands_at (refused reply) seen journal at place longer same = place ∙ ap length same
+  stands_at (asked who request) seen journal at place longer same = omega (arith, place, longer)
 
   entries_further : (journal : List Entry) (answers : List Answer) (a : Answer) → all_entries_of users number journal (answers ++ a ∷ []) ≡ all_entries_of users number journal answers ++ entries_of users number journal a
   entries_further journal [] a = append-nil (entries_of users number journal a)
@@ -144,25 +161,23 @@ module _ (users : Users) (number : ℕ) where
         ∙ (append-nil (entries_by session_of number seen) ∙ (s.own ∙ ap (λ l. entries_by session_of number old ++ l) (sym (entries_later seen rest answers s.answered)))));
   })
 
-  -- one answer more, at the journal
-  pub one_here : (old : List Entry) (answers : List Answer) (journal : List Entry) (a : Answer) → IsSession users number old answers journal → a.turn.at ≡ length journal → a.turn.status ≡ a.reply.status
+  pub stands_later : (gone : List ℕ) (old : List Entry) (answers : List Answer) (seen journal : List Entry) (a : Answer) → IsSession users number old answers seen → seen_behind users number seen (length old) answers ≡ length seen
+      → IsFollowedByOthers session_of (number ∷ gone) seen journal → a.turn.at ≡ length journal → WhereRefused (asked_of users a.wire) (journal ≡ seen) → StandsBehind (asked_of users a.wire) (seen_behind users number journal (length old) answers) a.turn.at
+  stands_later gone old answers seen journal a s all (rest, more, others) place same =
+      subst (λ n. StandsBehind (asked_of users a.wire) n a.turn.at) (sym (ap (λ l. seen_behind users number l (length old) answers) more ∙ (seen_later seen rest (length old) answers s.answered ∙ all)))
+      (stands_at (asked_of users a.wire) seen journal a.turn.at place (let e = ap length more in let n = length-append seen rest in omega (arith, e, n)) same)
+
+  -- a session with these answers, which has seen no more than they tell
+  abbrev pub HasSeenAll : List Entry → List Answer → List Entry → Type 0
+  HasSeenAll old answers journal = IsSession users number old answers journal × (seen_behind users number journal (length old) answers ≡ length journal)
+
+  -- one answer more, at the journal; behind it all of the journal and of what it entered has been seen
+  pub one_here : (old : List Entry) (answers : List Answer) (journal : List Entry) (a : Answer) → IsSession users number old answers journal → a.turn.at ≡ length journal → StandsBehind (asked_of users a.wire) (seen_behind users number journal (length old) answers) a.turn.at
+      → a.turn.status ≡ a.reply.status
       → (a.reply ≡ reply_in users number (state_behind users journal) a.turn.moment (asked_of users a.wire)) ⊎ (a.reply ≡ bare_reply 503)
       → IsAlike users number (state_behind users journal) a.turn.moment (asked_of users a.wire) a.reply
-      → IsSession users number old (answers ++ a ∷ []) (journal ++ (if is_busy a.reply then [] else entries_in users number (state_behind users journal) a.turn.moment (asked_of users a.wire)))
-  one_here old answers journal a s at status reply alike = record {
-    begins = (s.begins.0 ++ added, ap (λ l. l ++ added) s.begins.1 ∙ append_assoc old s.begins.0 added);
-    answered = all_both (IsAnswered users number (journal ++ added)) answers (a ∷ []) (all_later journal added answers s.answered) (here, tt);
-    rises = rises_further (journal ++ added) (length old) answers (length journal) (length (journal ++ added)) a
-        (rises_later journal added (length old) answers (length journal) s.answered s.rises)
-        (omega (arith, at))
-        here.within;
-    own = filter-append (λ (e : Entry). nat_eq e.session number) journal added
-        ∙ (ap (λ l. entries_by session_of number journal ++ l) (keeps_own number added mine)
-        ∙ (ap (λ l. l ++ added) s.own
-        ∙ (append_assoc (entries_by session_of number old) (all_entries_of users number journal answers) added
-        ∙ ap (λ l. entries_by session_of number old ++ l) (ap (λ l. l ++ added) (sym (entries_later journal added answers s.answered))
-        ∙ (ap (λ l. all_entries_of users number (journal ++ added) answers ++ l) (sym added_is) ∙ sym (entries_further (journal ++ added) answers a))))));
-  }
+      → HasSeenAll old (answers ++ a ∷ []) (journal ++ (if is_busy a.reply then [] else entries_in users number (state_behind users journal) a.turn.moment (asked_of users a.wire)))
+  one_here old answers journal a s at stands status reply alike = (session, seen_further (journal ++ added) (length old) answers a ∙ (ap (λ es. a.turn.at + length es) added_is ∙ (let n = length-append journal added in omega (arith, at, n))))
     where
       added : List Entry
       added = if is_busy a.reply then [] else entries_in users number (state_behind users journal) a.turn.moment (asked_of users a.wire)
@@ -186,4 +201,20 @@ module _ (users : Users) (number : ℕ) where
         alike = subst (λ state. IsAlike users number state a.turn.moment (asked_of users a.wire) a.reply) (sym state_is) alike;
         within = subst (λ es. a.turn.at + length es ≤ length (journal ++ added)) (sym added_is) (let e = length-append journal added in omega (arith, e, at));
         stand = subst (λ es. take (length es) (drop a.turn.at (journal ++ added)) ≡ es) (sym added_is) (ap (λ n. take (length added) (drop n (journal ++ added))) at ∙ (ap (take (length added)) (drop_seam journal added) ∙ take_all added));
+      }
+
+      session : IsSession users number old (answers ++ a ∷ []) (journal ++ added)
+      session = record {
+        begins = (s.begins.0 ++ added, ap (λ l. l ++ added) s.begins.1 ∙ append_assoc old s.begins.0 added);
+        answered = all_both (IsAnswered users number (journal ++ added)) answers (a ∷ []) (all_later journal added answers s.answered) (here, tt);
+        rises = rises_further (journal ++ added) (length old) answers (length journal) (length (journal ++ added)) a
+            (rises_later journal added (length old) answers (length journal) s.answered s.rises)
+            (subst (λ n. StandsBehind (asked_of users a.wire) n a.turn.at) (sym (seen_later journal added (length old) answers s.answered)) stands)
+            here.within;
+        own = filter-append (λ (e : Entry). nat_eq e.session number) journal added
+            ∙ (ap (λ l. entries_by session_of number journal ++ l) (keeps_own number added mine)
+            ∙ (ap (λ l. l ++ added) s.own
+            ∙ (append_assoc (entries_by session_of number old) (all_entries_of users number journal answers) added
+            ∙ ap (λ l. entries_by session_of number old ++ l) (ap (λ l. l ++ added) (sym (entries_later journal added answers s.answered))
+            ∙ (ap (λ l. all_entries_of users number (journal ++ added) answers ++ l) (sym added_is) ∙ sym (entries_further (journal ++ added) answers a))))));
       }

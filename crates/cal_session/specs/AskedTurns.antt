@@ -17,7 +17,7 @@ use Rattle.cal_model.specs.Users.UsersFile.{Users}
 use Rattle.cal_book.specs.EventSteps.{journal_after, state_behind}
 use Rattle.cal_book.specs.declared.desk.Told.{Told}
 use Rattle.cal_book.specs.declared.desk.Told.TheVariants.{Reply, Broken}
-use Rattle.cal_session.specs.Turns.{Answer, IsAlike, is_busy, entries_in, reply_in, LooksUp}
+use Rattle.cal_session.specs.Turns.{Answer, IsAlike, WhereRefused, is_busy, entries_in, reply_in, LooksUp}
 
 -- what a pass has seen was followed by entries of others
 abbrev pub IsLater : PassState Entry Users → List Entry → Type 0
@@ -40,7 +40,7 @@ pub record AskedAt {X : Type 0} (users : Users) (pass : PassState Entry Users) (
   pub place : at ≡ length journal
   pub is : IsTold users journal event told seen
 
--- One request was answered: at a journal that the pass has seen then, with or without a turn of the lock.
+-- One request was answered: at a journal that the pass has seen then, with or without a turn of the lock. A request that is refused as it stands takes no turn, and is answered at what the pass had seen.
 pub record AnsweredAt (users : Users) (pass now : PassState Entry Users) (answer : Answer) : Type 0 where
   pub journal : List Entry
   pub later : IsLater pass journal
@@ -50,6 +50,8 @@ pub record AnsweredAt (users : Users) (pass now : PassState Entry Users) (answer
   pub alike : IsAlike users pass.number (state_behind users journal) answer.turn.moment (asked_of users answer.wire) answer.reply
   pub seen : now.seen ≡ journal ++ (if is_busy answer.reply then [] else entries_in users pass.number (state_behind users journal) answer.turn.moment (asked_of users answer.wire))
   pub looks : LooksUp users pass.looks (answer ∷ []) now.looks
+  pub refused_at : WhereRefused (asked_of users answer.wire) (journal ≡ pass.seen)
+  pub refused_looks : WhereRefused (asked_of users answer.wire) (now.looks ≡ pass.looks)
 
 -- or the desk broke
 pub record BrokeAt (users : Users) (pass now : PassState Entry Users) (wire : WireRequest) (moment : ℤ) : Type 0 where

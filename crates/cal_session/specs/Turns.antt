@@ -58,6 +58,16 @@ abbrev pub IsOfBook : Asked → Type 0
 IsOfBook (refused reply) = ⊥
 IsOfBook (asked who request) = Unit {0}
 
+-- a fact, where a request is refused before any state is looked at
+abbrev pub WhereRefused : Asked → Type 0 → Type 0
+WhereRefused (refused reply) fact = fact
+WhereRefused (asked who request) fact = Unit {0}
+
+-- the place of an answer, where so many entries had been seen: the book may have further ones when it is asked, and a refusal is told at those that had been seen
+abbrev pub StandsBehind : Asked → ℕ → ℕ → Type 0
+StandsBehind (refused reply) seen at = at ≡ seen
+StandsBehind (asked who request) seen at = seen ≤ at
+
 module _ (users : Users) (number : ℕ) where
   -- the state in which a turn is answered
   abbrev pub state_at : List Entry → Served → ServerState
@@ -78,10 +88,15 @@ module _ (users : Users) (number : ℕ) where
 
   -- All turns
 
-  -- the places rise from a length on, past each accepted change, and end at another length
+  -- the places rise from a length on, past each accepted change, and end at another length; a refusal has the place behind the answer before it
   abbrev pub Rises : List Entry → ℕ → List Answer → ℕ → Type 0
   Rises journal from [] to = from ≤ to
-  Rises journal from (answer ∷ answers) to = (from ≤ answer.turn.at) × Rises journal (answer.turn.at + length (entries_of journal answer)) answers to
+  Rises journal from (answer ∷ answers) to = StandsBehind (asked_of users answer.wire) from answer.turn.at × Rises journal (answer.turn.at + length (entries_of journal answer)) answers to
+
+  -- how many entries had been seen behind the answers, where so many had been before them
+  abbrev pub seen_behind : List Entry → ℕ → List Answer → ℕ
+  seen_behind journal before [] = before
+  seen_behind journal before (answer ∷ answers) = seen_behind journal (answer.turn.at + length (entries_of journal answer)) answers
 
   abbrev pub all_entries_of : List Entry → List Answer → List Entry
   all_entries_of journal [] = []

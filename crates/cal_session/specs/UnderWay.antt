@@ -1,6 +1,6 @@
 -- A session under way: all that the octets so far complete in front of a place was answered.
 -- Given: as in Sessions; and the wire, or what is left of the octets behind the requests that were answered.
-use Rattle.std.specs.Prelude.{◌≡◌, ◌⊎◌, ℕ, ◌≤◌, true, List, Result, Ok, Err, Option, Some, None, ℤ}
+use Rattle.std.specs.Prelude.{◌≡◌, ◌⊎◌, ℕ, ◌≤◌, true, List, length, Result, Ok, Err, Option, Some, None, ℤ}
 use Rattle.http_wire.specs.Wires.{Stands}
 use Rattle.http_wire.specs.declared.wire.Wire.{Wire}
 use Rattle.turn_lock.specs.Passes.{PassState}
@@ -10,7 +10,7 @@ use Rattle.cal_model.specs.Transcripts.ConnectionAnswers.{is_open}
 use Rattle.cal_model.specs.Users.UsersFile.{Users}
 use Rattle.cal_session.specs.Connections.{requests_of, replies_of}
 use Rattle.cal_session.specs.Sessions.{LinkTold, HasRun, HasServed, HasBroken}
-use Rattle.cal_session.specs.Turns.{Answer}
+use Rattle.cal_session.specs.Turns.{Answer, seen_behind}
 use Rattle.cal_session.specs.declared.served.Served.{Served}
 use Rattle.cal_session.specs.declared.served.How.{How}
 use Rattle.cal_session.specs.declared.served.How.TheVariants.{Closed, CutInRequest}
@@ -21,13 +21,14 @@ use Rattle.cal_session.specs.declared.served.OnEnd.TheVariants as on_end
 use Rattle.cal_session.specs.declared.answering.Stop.{Stop}
 use Rattle.cal_session.specs.declared.answering.Stop.TheVariants.{Ended, Broken}
 
--- these requests were answered, all their replies written, and what is left stands behind them
+-- these requests were answered, all their replies written, what is left stands behind them, and the pass has seen no more than they tell
 pub record IsReached (users : Users) (told : Option ℤ) (pass now : PassState Entry Users) (before after : LinkTold) (turns : List Served) (stream rest : List ℕ) : Type 0 where
   pub answers : List Answer
   pub run : HasRun users told pass now before after turns stream answers (replies_of answers)
   pub still_open : is_open (requests_of answers) ≡ true
   pub spelled : Spells stream (requests_of answers) rest
   pub faults : before.faults ≤ after.faults
+  pub seen : seen_behind users pass.number now.seen (length pass.seen) answers ≡ length now.seen
 
 pub record IsUnderWay (users : Users) (told : Option ℤ) (pass now : PassState Entry Users) (before after : LinkTold) (turns : List Served) (wire : Wire) : Type 0 where
   pub stream : List ℕ

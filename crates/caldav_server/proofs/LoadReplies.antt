@@ -103,7 +103,7 @@ module _ (users : Users) (number user : ℕ) (journal : List Entry) where
   rises-same from to (request ∷ requests) [] each rises = absurd each
   rises-same from to (request ∷ requests) (answer ∷ answers) each rises =
       let place = ap (λ entries. answer.turn.at + length entries) (entries-same request answer each.0) in (
-        rises.0,
+        subst (λ what. session.StandsBehind what from answer.turn.at) each.0.means.asks rises.0,
         subst (λ n. lone.Rises (directory_of users) journal n (turns_of number user requests answers)) place
             (rises-same (answer.turn.at + length (session.entries_of users number journal answer)) to requests answers each.1 rises.1),
       )
