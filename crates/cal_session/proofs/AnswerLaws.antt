@@ -143,7 +143,7 @@ module _ (users : Users) (told : Option ℤ) (start now next : PassState Entry U
       }
 
       by_how : (how : How) → IsSent octets link.written after.written link.faults after.faults (Some how) → HasServed users told start next before after (turns ++ a.turn ∷ []) how
-      by_how WriteFault s = record { stream = stream; answers = r.answers ++ a ∷ []; printed = replies_of r.answers ++ take s.0.0 octets; run = part s.0.0 s.0.1; ended = (cut_at s.0.0, rose_since before.faults link.faults after.faults r.faults falls s.1) }
+      by_how WriteFault s = record { stream = stream; answers = r.answers ++ a ∷ []; printed = replies_of r.answers ++ take s.0.0 octets; run = part s.0.0 s.0.2; ended = (cut_at s.0.0, rose_since before.faults link.faults after.faults r.faults falls s.1) }
       by_how NoMemory s = record { stream = stream; answers = r.answers ++ a ∷ []; printed = replies_of r.answers ++ take s.0 octets; run = part s.0 s.1; ended = cut_at s.0 }
       by_how Closed s = absurd s
       by_how CutInRequest s = absurd s
@@ -254,7 +254,7 @@ refused_in_part users told start now before link after turns stream rest why mom
     }
 
     by_how : (how : How) → IsSent (fault_octets why moment) link.written after.written link.faults after.faults (Some how) → HasServed users told start now before after turns how
-    by_how WriteFault s = record { stream = stream; answers = r.answers; printed = replies_of r.answers ++ take s.0.0 (fault_octets why moment); run = part s.0.0 s.0.1; ended = (cut_at s.0.0, rose_since before.faults link.faults after.faults r.faults falls s.1) }
+    by_how WriteFault s = record { stream = stream; answers = r.answers; printed = replies_of r.answers ++ take s.0.0 (fault_octets why moment); run = part s.0.0 s.0.2; ended = (cut_at s.0.0, rose_since before.faults link.faults after.faults r.faults falls s.1) }
     by_how NoMemory s = record { stream = stream; answers = r.answers; printed = replies_of r.answers ++ take s.0 (fault_octets why moment); run = part s.0 s.1; ended = cut_at s.0 }
     by_how Closed s = absurd s
     by_how CutInRequest s = absurd s

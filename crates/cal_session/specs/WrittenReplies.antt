@@ -1,5 +1,5 @@
 -- What became of octets that were to be written to a link, and whether a session goes on behind a request.
-use Rattle.std.specs.Prelude.{◌≡◌, ℕ, ◌+◌, ◌<◌, true, false, List, take, Option, Some, None, Result, Ok, Err}
+use Rattle.std.specs.Prelude.{◌≡◌, ℕ, ◌+◌, ◌<◌, true, false, List, length, take, Option, Some, None, Result, Ok, Err}
 use Rattle.cal_base.specs.World.Outside.{Rose, Adds}
 use Rattle.cal_model.specs.declared.wire.WireRequest.{WireRequest}
 use Rattle.cal_model.specs.Streams.WireLimits.{request_limit}
@@ -8,10 +8,10 @@ use Rattle.cal_session.specs.declared.answering.Stop.TheVariants.{Ended}
 use Rattle.cal_session.specs.declared.served.How.{How}
 use Rattle.cal_session.specs.declared.served.How.TheVariants.{Closed, Limit, WriteFault, NoMemory}
 
--- all were written; or a write failed, or memory was missing, and a front of them was
+-- all were written; or a write failed, and a front of them was, and not all; or memory was missing, and a front of them was
 abbrev pub IsSent : List ℕ → Option (List ℕ) → Option (List ℕ) → ℕ → ℕ → Option How → Type 0
 IsSent octets before after old new None = Adds before octets after
-IsSent octets before after old new (Some WriteFault) = ((many : ℕ) × Adds before (take many octets) after) × Rose old new
+IsSent octets before after old new (Some WriteFault) = ((many : ℕ) × (many < length octets) × Adds before (take many octets) after) × Rose old new
 IsSent octets before after old new (Some NoMemory) = (many : ℕ) × Adds before (take many octets) after
 IsSent octets before after old new (Some other) = ⊥
 

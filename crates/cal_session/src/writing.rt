@@ -13,7 +13,8 @@ use http_wire::{WireFault, WireRequest, write_answer, write_fault};
 use std::alloc::Global;
 
 /// Writes the reply to a request, where so many were answered before it, and says how the session
-/// ends where that fails. A front of the reply was written then.
+/// ends where that fails. A front of the reply was written then, and not all of it, where it was a
+/// write that failed.
 pub(crate) fn send_reply<L: Link>(
     alloc: Global,
     before: usize,
