@@ -1,7 +1,7 @@
 -- A session goes on by an answer, or stops at one: its reply was written, or a front of it; or the desk broke.
 use Rattle.std.proofs.Common.{◌≡◌, ℕ, ◌+◌, ◌<◌, ◌≤◌, ◌⊎◌, inl, inr, List, [], ◌∷◌, ◌++◌, length, take, arith, refl, sym, ap, subst, ◌∙◌, true, false, Option, Some}
 use Rattle.std.specs.Prelude.{ℤ, Result, Ok, Err}
-use Rattle.std.proofs.lemmas.List.{append-nil, append_assoc, length-append}
+use Rattle.std.proofs.lemmas.List.{append-nil, append_assoc, length-append, length-take-le}
 use Rattle.cal_base.specs.World.Outside.{Takes, Adds}
 use Rattle.turn_lock.specs.Passes.{PassState}
 use Rattle.turn_lock.specs.Journals.{IsFollowedByOthers}
@@ -21,7 +21,7 @@ use Rattle.http_wire.specs.declared.wire.Next.TheVariants.{Need}
 use Rattle.http_wire.specs.declared.wire.Wire.{Wire}
 use Rattle.cal_session.specs.AskedTurns.{AnsweredAt, BrokeAt}
 use Rattle.cal_session.specs.Connections.{requests_of, replies_of, AnsweredAll, AnsweredSome}
-use Rattle.cal_session.specs.Sessions.{LinkTold, HasRun, HasServed, HasBroken, IsCutShort}
+use Rattle.cal_session.specs.Sessions.{LinkTold, HasRun, HasServed, HasBroken, IsCutShort, RefusesInPart}
 use Rattle.cal_session.specs.Turns.{Answer, IsToldMoment, LooksUp, entries_in}
 use Rattle.cal_session.specs.UnderWay.{IsReached, IsUnderWay, IsWaiting, StopsSo, GoesOnOrStops}
 use Rattle.cal_session.specs.WrittenReplies.{IsSent, GoesOnBehind}
@@ -142,8 +142,16 @@ module _ (users : Users) (told : Option ℤ) (start now next : PassState Entry U
         });
       }
 
+      shorter : (many : ℕ) → many < length octets → length (replies_of r.answers ++ take many octets) < length (replies_of (r.answers ++ a ∷ []))
+      shorter many few =
+          let all = ap length (replies_further r.answers a) in
+          let whole = length-append (replies_of r.answers) octets in
+          let written = length-append (replies_of r.answers) (take many octets) in
+          let front = length-take-le many octets (omega (arith, few)) in
+          omega (arith, few, all, whole, written, front)
+
       by_how : (how : How) → IsSent octets link.written after.written link.faults after.faults (Some how) → HasServed users told start next before after (turns ++ a.turn ∷ []) how
-      by_how WriteFault s = record { stream = stream; answers = r.answers ++ a ∷ []; printed = replies_of r.answers ++ take s.0.0 octets; run = part s.0.0 s.0.2; ended = (cut_at s.0.0, rose_since before.faults link.faults after.faults r.faults falls s.1) }
+      by_how WriteFault s = record { stream = stream; answers = r.answers ++ a ∷ []; printed = replies_of r.answers ++ take s.0.0 octets; run = part s.0.0 s.0.2; ended = (cut_at s.0.0, inl (shorter s.0.0 s.0.1), rose_since before.faults link.faults after.faults r.faults falls s.1) }
       by_how NoMemory s = record { stream = stream; answers = r.answers ++ a ∷ []; printed = replies_of r.answers ++ take s.0 octets; run = part s.0 s.1; ended = cut_at s.0 }
       by_how Closed s = absurd s
       by_how CutInRequest s = absurd s
@@ -238,23 +246,22 @@ refused_in_part users told start now before link after turns stream rest why mom
       written = adds_on before.written link.written after.written (replies_of r.answers) (take many (fault_octets why moment)) r.run.written added;
     }
 
-    cut_at : (many : ℕ) → IsCutShort told stream r.answers (replies_of r.answers ++ take many (fault_octets why moment))
-    cut_at many = record {
-      missing = some.0;
-      answered = some.1;
-      front = inr (record {
-        why = why;
-        answered = answered_all stream rest r.answers (ends_at why) r.spelled is r.still_open;
-        still_open = r.still_open;
-        moment = moment;
-        moment_is = dated;
-        many = many;
-        printed_is = refl;
-      });
+    in_part : (many : ℕ) → RefusesInPart told stream r.answers (replies_of r.answers ++ take many (fault_octets why moment))
+    in_part many = record {
+      why = why;
+      answered = answered_all stream rest r.answers (ends_at why) r.spelled is r.still_open;
+      still_open = r.still_open;
+      moment = moment;
+      moment_is = dated;
+      many = many;
+      printed_is = refl;
     }
 
+    cut_at : (many : ℕ) → IsCutShort told stream r.answers (replies_of r.answers ++ take many (fault_octets why moment))
+    cut_at many = record { missing = some.0; answered = some.1; front = inr (in_part many) }
+
     by_how : (how : How) → IsSent (fault_octets why moment) link.written after.written link.faults after.faults (Some how) → HasServed users told start now before after turns how
-    by_how WriteFault s = record { stream = stream; answers = r.answers; printed = replies_of r.answers ++ take s.0.0 (fault_octets why moment); run = part s.0.0 s.0.2; ended = (cut_at s.0.0, rose_since before.faults link.faults after.faults r.faults falls s.1) }
+    by_how WriteFault s = record { stream = stream; answers = r.answers; printed = replies_of r.answers ++ take s.0.0 (fault_octets why moment); run = part s.0.0 s.0.2; ended = (cut_at s.0.0, inr (in_part s.0.0, s.0.1), rose_since before.faults link.faults after.faults r.faults falls s.1) }
     by_how NoMemory s = record { stream = stream; answers = r.answers; printed = replies_of r.answers ++ take s.0 (fault_octets why moment); run = part s.0 s.1; ended = cut_at s.0 }
     by_how Closed s = absurd s
     by_how CutInRequest s = absurd s

@@ -78,6 +78,11 @@ pub record IsCutShort (told : Option ℤ) (stream : List ℕ) (answers : List An
   pub answered : AnsweredSome stream answers missing
   pub front : IsFrontOfReplies answers printed ⊎ RefusesInPart told stream answers printed
 
+-- fewer octets were written than the replies have, or than they and the reply to the fault have
+abbrev pub LacksSome : Option ℤ → List ℕ → List Answer → List ℕ → Type 0
+LacksSome told stream answers printed =
+    (length printed < length (replies_of answers)) ⊎ ((part : RefusesInPart told stream answers printed) × (part.many < length (fault_octets part.why part.moment)))
+
 -- a read failed, where all that the octets before it complete was answered
 pub record FailsToRead (stream : List ℕ) (answers : List Answer) (before after : LinkTold) : Type 0 where
   pub ending : Ending
@@ -92,7 +97,7 @@ EndsSo CutInRequest told stream answers printed before after = (printed ≡ repl
 EndsSo Limit told stream answers printed before after = (printed ≡ replies_of answers) × MeetsLimit stream answers
 EndsSo (WireRefused why) told stream answers printed before after = Refuses told why stream answers printed
 EndsSo ReadFault told stream answers printed before after = (printed ≡ replies_of answers) × FailsToRead stream answers before after
-EndsSo WriteFault told stream answers printed before after = IsCutShort told stream answers printed × Rose before.faults after.faults
+EndsSo WriteFault told stream answers printed before after = IsCutShort told stream answers printed × LacksSome told stream answers printed × Rose before.faults after.faults
 EndsSo NoMemory told stream answers printed before after = IsCutShort told stream answers printed
 
 -- What it did
