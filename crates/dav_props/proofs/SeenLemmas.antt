@@ -14,7 +14,7 @@ use Rattle.cal_model.specs.Access.Privileges.{privileges_held, has_all, read}
 use Rattle.cal_model.specs.State.PropertyTexts.{Texts}
 use Rattle.cal_model.specs.State.ServerState.{Directory, Calendar, Home as UserHome, ServerState, groups_of, group_number, user_number, home_at, calendar_at, octets_at}
 use Rattle.cal_model.specs.State.StoredData.{data_of, data_at}
-use Rattle.cal_model.specs.State.SoundStates.{AreToUsers, IsSound}
+use Rattle.cal_model.specs.State.SoundStates.{AreToUsers, HaveGroups, IsSound}
 use Rattle.cal_model.specs.Sight.Views.{Sight, View, held_on, contents_of, only_where, sight_of, sight_with, seen_by, home_by}
 use Rattle.cal_model.specs.Sight.Scenes.{scene_at, at_both, visible_home, octets_seen}
 use Rattle.cal_model.specs.Sight.Resources.{Resource, principal, group, calendar, object}
@@ -25,7 +25,7 @@ use Rattle.dav_props.specs.declared.rows.Asked.{Asked}
 use Rattle.dav_props.specs.Answers.{answered}
 use Rattle.dav_props.specs.Rows.{asked_name, property_of}
 use Rattle.cal_model.proofs.Sight.SceneLaws.{holds_some, home_in-view, calendar_in-scene}
-use Rattle.cal_model.proofs.State.NameWalkLaws.{home-sound, calendar-sound}
+use Rattle.cal_model.proofs.State.NameWalkLaws.{home-sound, calendar-sound, have_groups}
 use Rattle.dav_props.specs.declared.subjects.Subject.{Subject}
 use Rattle.dav_props.specs.declared.subjects.Subject.TheVariants as subject
 use Rattle.dav_props.specs.Subjects.{Unseen, calendar_sight, resource_of, IsSeenAs}
@@ -99,6 +99,9 @@ module _ (directory : Directory) (state : ServerState) (who : ℕ) where
   grants_known owner name kept sound e =
       let there = some_calendar owner name kept e in
       subst (λ (k : CalendarData). AreToUsers directory k.acl.grants) (sym there.2) (calendar-sound directory state owner name there.0 sound there.1).grants
+
+  pub groups_known : (owner : ℕ) (name : List ℕ) (kept : CalendarData) → IsSound directory state → Some kept ≡ data_at state owner name → HaveGroups directory kept.acl.grants
+  groups_known owner name kept sound e = have_groups directory kept.acl.grants (grants_known owner name kept sound e)
 
   pub not_there : (user name : List ℕ) (owner : ℕ) → IsSound directory state → Some owner ≡ user_number directory user → None ≡ data_at state owner name
       → resources_seen directory state who (CalendarPath user name) ≡ []

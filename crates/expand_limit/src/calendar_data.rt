@@ -7,12 +7,12 @@ ghost use Rattle.cal_model.specs.Instances.Rows.{rows as rows_of};
 ghost use Rattle.cal_model.specs.Objects.ComponentLines as component;
 ghost use Rattle.cal_model.specs.Objects.ObjectFacts.{IsRead};
 ghost use Rattle.cal_model.specs.Objects.ObjectReading.{read_object};
+ghost use Rattle.cal_model.specs.Selections.EnoughRows.{AreEnoughToShow};
 ghost use Rattle.cal_model.specs.Selections.Expansion as expansion;
 ghost use Rattle.cal_model.specs.Selections.LimitedSets as limits;
 ghost use Rattle.cal_model.specs.Selections.Picks.{picked, picked_text, text_by};
 ghost use Rattle.cal_model.specs.Selections.ShownData as spec;
 ghost use Rattle.cal_model.specs.TimeZones.TableBounds.{IsTable};
-ghost use Rattle.cal_model.proofs.Selections.ShownDataLaws.{AreEnough};
 ghost use Rattle.expand_limit.specs.InstanceLines.{IsShownRow};
 ghost use Rattle.expand_limit.specs.KeptParts.{IsKept};
 ghost use Rattle.expand_limit.specs.ShownTexts.{body_text};
@@ -231,7 +231,7 @@ pub fn shown(
     requires zone { IsTable zone.now }
     requires rows { All IsShownRow rows.now }
     ensures given { IfOk result (λ text. text ≡ spec.shown octets.now object.now rows.now select.now zone.now) }
-    ensures whole { IfOk result (λ text. (keep : RowSpec → Bool) → rows.now ≡ filter keep (rows_of object.now) → AreEnough object.now zone.now keep (rows_of object.now) select.now.recur → text ≡ spec.shown_of_object octets.now object.now select.now zone.now) }
+    ensures whole { IfOk result (λ text. (keep : RowSpec → Bool) → rows.now ≡ filter keep (rows_of object.now) → AreEnoughToShow object.now zone.now keep (rows_of object.now) select.now.recur → text ≡ spec.shown_of_object octets.now object.now select.now zone.now) }
 {
     shown_over(alloc, octets, object, rows.as_slice(), select, zone)
 }

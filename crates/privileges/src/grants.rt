@@ -2,7 +2,7 @@
 ghost use Rattle.std.specs.Prelude.{◌≡◌, ◌^◌, ◌<◌, length};
 ghost use Rattle.cal_model.specs.Access.Privileges as spec;
 ghost use Rattle.cal_model.specs.State.ServerState.{groups_of};
-ghost use Rattle.cal_model.specs.State.SoundStates.{AreToUsers, IsToUser};
+ghost use Rattle.cal_model.specs.State.SoundStates.{HaveGroups, IsToGroup};
 
 use cal_model::view::View;
 use cal_model::{Acl, Grant, PrivilegeSet, Who};
@@ -15,7 +15,7 @@ const ALL: u16 = 511;
 /// everyone. Takes no memory.
 pub fn held<V: View>(acl: &Acl, owner: u32, who: u32, view: &V) -> PrivilegeSet
     requires known { who < length (V.directory view.now).names }
-    requires users { AreToUsers (V.directory view.now) acl.now.grants }
+    requires groups { HaveGroups (V.directory view.now) acl.now.grants }
     ensures { result.0 ≡ spec.privileges_held (groups_of (V.directory view.now) who) acl.now.grants owner who }
 {
     if owner == who {
@@ -28,7 +28,7 @@ pub fn held<V: View>(acl: &Acl, owner: u32, who: u32, view: &V) -> PrivilegeSet
 /// The union of the grants to a user.
 fn granted<V: View>(grants: &[Grant], who: u32, view: &V) -> u16
     requires known { who < length (V.directory view.now).names }
-    requires users { AreToUsers (V.directory view.now) grants.now }
+    requires groups { HaveGroups (V.directory view.now) grants.now }
     ensures { result ≡ spec.granted (groups_of (V.directory view.now) who) grants.now who }
 {
     let mut set = 0;
@@ -43,7 +43,7 @@ fn granted<V: View>(grants: &[Grant], who: u32, view: &V) -> u16
 /// Whether a grant is to a user, or to a group of the user.
 fn is_to<V: View>(whom: Who, who: u32, view: &V) -> bool
     requires known { who < length (V.directory view.now).names }
-    requires users { IsToUser (V.directory view.now) whom }
+    requires groups { IsToGroup (V.directory view.now) whom }
     ensures { result ≡ spec.fits_user (groups_of (V.directory view.now) who) who whom }
 {
     match whom {

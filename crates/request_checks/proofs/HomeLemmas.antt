@@ -13,12 +13,12 @@ use Rattle.cal_model.specs.Words.Lists.{is_empty}
 use Rattle.cal_model.specs.Access.Privileges.{privileges_held}
 use Rattle.cal_model.specs.State.ServerState.{Directory, Calendar, Home as UserHome, ServerState, groups_of, home_at}
 use Rattle.cal_model.specs.State.StoredData.{data_of, next_calendar}
-use Rattle.cal_model.specs.State.SoundStates.{AreToUsers, IsSoundCalendar, IsSoundHome, IsSound}
+use Rattle.cal_model.specs.State.SoundStates.{AreToUsers, HaveGroups, IsSoundCalendar, IsSoundHome, IsSound}
 use Rattle.cal_model.specs.State.NameWalks.{calendars_above}
 use Rattle.cal_model.specs.Sight.Views.{Look as Eyes, Sight, home_by, view_by}
 use Rattle.cal_model.specs.Sight.Scenes.{at_both, visible_home}
 use Rattle.cal_model.proofs.Sight.SceneLaws.{home_in-view, holds_some}
-use Rattle.cal_model.proofs.State.NameWalkLaws.{home-sound, calendars_above-first, calendars_above-next, calendars_above-end}
+use Rattle.cal_model.proofs.State.NameWalkLaws.{home-sound, have_groups, calendars_above-first, calendars_above-next, calendars_above-end}
 use Rattle.request_checks.specs.declared.looks.Look.{Look}
 use Rattle.request_checks.specs.Sightings.{eyes_of, home_shows, calendar_seen, held_of, held_on_sight}
 use Rattle.request_checks.specs.Walks.{any_held}
@@ -56,20 +56,21 @@ next_passes P (first ∷ named) name pair all e =
 abbrev with_data : ℕ → List ℕ × Calendar → List ℕ × CalendarData
 with_data owner entry = (entry.0, data_of owner entry.1)
 
--- so its grants are to users
+-- so its grants name groups that there are
 pub grants_of_next : (directory : Directory) (state : ServerState) (owner : ℕ) (name next : List ℕ) (kept : CalendarData) → IsSound directory state → next_calendar state owner name ≡ Some (next, kept)
-    → AreToUsers directory kept.acl.grants
+    → HaveGroups directory kept.acl.grants
 grants_of_next directory state owner name next kept sound e = by (home_at state owner) refl e where
   in_home : (home : UserHome) → IsSoundHome directory home → (found : Option (List ℕ × Calendar)) → next_above home.calendars name ≡ found
-      → option_map (with_data owner) found ≡ Some (next, kept) → AreToUsers directory kept.acl.grants
+      → option_map (with_data owner) found ≡ Some (next, kept) → HaveGroups directory kept.acl.grants
   in_home home sound None there e = absurd cc
   in_home home sound (Some pair) there e =
-      subst (λ (k : CalendarData). AreToUsers directory k.acl.grants) (ap (λ (o : Option (List ℕ × CalendarData)). (unwrap_or o (next, kept)).1) e)
-      (next_passes (IsSoundCalendar directory) home.calendars name pair sound.calendars there).grants
+      have_groups directory kept.acl.grants
+      (subst (λ (k : CalendarData). AreToUsers directory k.acl.grants) (ap (λ (o : Option (List ℕ × CalendarData)). (unwrap_or o (next, kept)).1) e)
+      (next_passes (IsSoundCalendar directory) home.calendars name pair sound.calendars there).grants)
 
   by : (found : Option UserHome) → home_at state owner ≡ found
       → option_and_then (λ (h : UserHome). option_map (with_data owner) (next_above h.calendars name)) found ≡ Some (next, kept)
-      → AreToUsers directory kept.acl.grants
+      → HaveGroups directory kept.acl.grants
   by None there e = absurd cc
   by (Some home) there e = in_home home (home-sound directory state owner home sound there) (next_above home.calendars name) refl e
 

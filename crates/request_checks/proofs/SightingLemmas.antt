@@ -12,11 +12,11 @@ use Rattle.cal_model.specs.Words.Lists.{is_empty}
 use Rattle.cal_model.specs.Access.Privileges.{privileges_held, has_all, read}
 use Rattle.cal_model.specs.State.ServerState.{Directory, Calendar, Home as UserHome, ServerState, groups_of, home_at, calendar_at, octets_at}
 use Rattle.cal_model.specs.State.StoredData.{data_of, data_at}
-use Rattle.cal_model.specs.State.SoundStates.{AreToUsers, IsSound}
+use Rattle.cal_model.specs.State.SoundStates.{AreToUsers, HaveGroups, IsSound}
 use Rattle.cal_model.specs.Sight.Views.{Sight, Contents, held_on, contents_of, only_where, home_by}
 use Rattle.cal_model.specs.Sight.Scenes.{at_both, octets_seen, object_in, calendar_in}
 use Rattle.cal_model.proofs.Sight.SceneLaws.{holds_some, home_in-view, calendar_in-scene}
-use Rattle.cal_model.proofs.State.NameWalkLaws.{calendar-sound, home-sound}
+use Rattle.cal_model.proofs.State.NameWalkLaws.{calendar-sound, home-sound, have_groups}
 use Rattle.request_checks.specs.declared.looks.Look.{Look}
 use Rattle.request_checks.specs.declared.looks.Look.TheVariants.{Own, Whole}
 use Rattle.request_checks.specs.Sightings.{eyes_of, calendar_seen, held_of, held_on_sight, held_or_nothing, shows_objects, IsSoundAt}
@@ -46,12 +46,12 @@ some_calendar state owner name kept e = by (calendar_at state owner name) (e ∙
   by None e = absurd cc
   by (Some c) e = let same : kept ≡ data_of owner c = cc in (c, refl, same)
 
--- the grants of a calendar that is looked up are to users
+-- the grants of a calendar that is looked up name groups that there are
 pub grants_of : (directory : Directory) (state : ServerState) (owner : ℕ) (name : List ℕ) (kept : CalendarData) → IsSound directory state → Some kept ≡ data_at state owner name
-    → AreToUsers directory kept.acl.grants
+    → HaveGroups directory kept.acl.grants
 grants_of directory state owner name kept sound e =
     let found = some_calendar state owner name kept e in
-    subst (λ (k : CalendarData). AreToUsers directory k.acl.grants) (sym found.2) (calendar-sound directory state owner name found.0 sound found.1).grants
+    have_groups directory kept.acl.grants (subst (λ (k : CalendarData). AreToUsers directory k.acl.grants) (sym found.2) (calendar-sound directory state owner name found.0 sound found.1).grants)
 
 -- without a name no calendar is seen, and no object
 no_name : {X : Type 0} (named : Option (Named X)) → at_both named None ≡ None

@@ -3,7 +3,7 @@ ghost use Rattle.std.specs.Prelude.{◌≡◌, ◌<◌, ◌==◌, not, [], lengt
 ghost use Rattle.cal_model.specs.Access.Privileges.{privileges_held};
 ghost use Rattle.cal_model.specs.State.ServerState.{groups_of};
 ghost use Rattle.cal_model.specs.State.NameWalks.{calendars_above};
-ghost use Rattle.cal_model.specs.State.SoundStates.{AreToUsers, IsSound};
+ghost use Rattle.cal_model.specs.State.SoundStates.{HaveGroups, IsSound};
 ghost use Rattle.request_checks.specs.declared.looks.Look.{Look as Looks};
 ghost use Rattle.request_checks.specs.Sightings.{home_shows};
 ghost use Rattle.request_checks.specs.Walks.{any_held};
@@ -15,7 +15,7 @@ use privileges::held;
 /// Whether a user holds something on a calendar.
 fn holds_something<V: View>(view: &V, kept: &CalendarData, owner: u32, who: u32) -> bool
     requires known { who < length (V.directory view.now).names }
-    requires users { AreToUsers (V.directory view.now) kept.now.acl.grants }
+    requires groups { HaveGroups (V.directory view.now) kept.now.acl.grants }
     ensures { result ≡ not (privileges_held (groups_of (V.directory view.now) who) kept.now.acl.grants owner who == 0) }
 {
     held(&kept.acl, owner, who, view).0 != 0

@@ -2,7 +2,7 @@
 //! meant, and that a file is read where there is memory.
 ghost use Rattle.std.specs.Prelude.{◌<◌, ◌≡◌, true, IfOk, length};
 ghost use Rattle.cal_model.specs.State.ServerState.{directory_of};
-ghost use Rattle.cal_model.specs.State.SoundStates.{AreToUsers, IsToUser};
+ghost use Rattle.cal_model.specs.State.SoundStates.{HaveGroups, IsToGroup};
 
 use crate::users_view::UsersView;
 use cal_base::{List, NoMemory, Octets};
@@ -241,20 +241,19 @@ fn groups_are_found(rt: HostRuntime) -> Result<(), Fail> {
     Ok(())
 }
 
-/// Whether a grant is to a user or a group that there is.
+/// Whether a grant is to no group, or to one that there is.
 fn is_known(view: &UsersView<'_>, who: Who) -> bool
-    ensures { result ≡ true → IsToUser (directory_of view.now) who }
+    ensures { result ≡ true → IsToGroup (directory_of view.now) who }
 {
     match who {
-        Who::Everyone | Who::Owner => true,
-        Who::Principal(number) => number < view.user_count(),
         Who::Group(number) => number < view.group_count(),
+        _ => true,
     }
 }
 
-/// Some grants, of which those are left out that are to nobody.
+/// Some grants, of which those are left out that are to groups that there are not.
 fn granted(alloc: Global, view: &UsersView<'_>, grants: &[(Who, u16)]) -> Result<Acl, NoMemory>
-    ensures { IfOk result (λ acl. AreToUsers (directory_of view.now) acl.grants) }
+    ensures { IfOk result (λ acl. HaveGroups (directory_of view.now) acl.grants) }
 {
     let mut list = List::new(alloc);
     'grants: for (who, bits) in grants {
@@ -272,7 +271,7 @@ fn granted(alloc: Global, view: &UsersView<'_>, grants: &[(Who, u16)]) -> Result
 /// are in group 0, and the users 0 and 2 in group 1.
 #[test]
 fn privileges_are_united(rt: HostRuntime) -> Result<(), Fail> {
-    let rows: [(&[(Who, u16)], [u16; 3]); 9] = [
+    let rows: [(&[(Who, u16)], [u16; 3]); 10] = [
         (&[], [511, 0, 0]),
         (&[(Who::Principal(1), 1)], [511, 1, 0]),
         (
@@ -286,6 +285,7 @@ fn privileges_are_united(rt: HostRuntime) -> Result<(), Fail> {
         ),
         (&[(Who::Owner, 60), (Who::Principal(0), 2)], [511, 0, 0]),
         (&[(Who::Everyone, 3), (Who::Principal(2), 48)], [511, 3, 51]),
+        (&[(Who::Principal(7), 3)], [511, 0, 0]),
         (&[(Who::Group(0), 1)], [511, 1, 1]),
         (&[(Who::Group(1), 2)], [511, 0, 2]),
         (&[(Who::Group(0), 64), (Who::Group(1), 3)], [511, 64, 67]),

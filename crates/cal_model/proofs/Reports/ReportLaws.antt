@@ -36,7 +36,8 @@ use Rattle.cal_model.specs.Reports.NeededWindows.{is_stated_window, meets_some, 
 use Rattle.cal_model.specs.Ranges.RowRanges.{row_meets, row_in_range, row_alarm_in_range, alarm_in_range, is_relative}
 use Rattle.cal_model.specs.Instances.Rows.{Numbered, rows, masters, is_dated, window_of}
 use Rattle.cal_model.proofs.Words.ListTests.{any_from, or_left, or_right, not_empty, each_of, Keeps}
-use Rattle.cal_model.proofs.Selections.ShownDataLaws.{AreEnough, is_dated_of, KeepsFirsts, shown-enough_rows}
+use Rattle.cal_model.specs.Selections.EnoughRows.{AreEnoughToShow, is_dated_of, KeepsFirsts}
+use Rattle.cal_model.proofs.Selections.ShownDataLaws.{shown-enough_rows}
 use Rattle.cal_model.proofs.Reports.OverrideWindows.{IsInWindow, first_rows-in_windows}
 use Rattle.cal_model.proofs.Filters.MatchingLaws.{matches-enough_rows_of_object}
 use Rattle.cal_model.proofs.Ranges.NearRanges.{rows-near, alarms-near}
@@ -142,7 +143,7 @@ here : (range : Range) → Contains (range ∷ []) range
 here range = (0, omega arith, refl)
 
 recur_enough : (object : Object) (zone : ZoneTable) (report : ReportRequest) → HasNearRows object → HasShortOffsets zone → length (masters object) ≤ 1 → ((row : Row) → Contains (rows object) row → is_dated row ≡ true → is_stated_window (window_of object row) ≡ true)
-    → (recur : Recur) → ((range : Range) → Contains (ranges_of_recur recur) range → Contains (ranges_named report) range) → AreEnough object zone (is_looked_at object report) (rows object) recur
+    → (recur : Recur) → ((range : Range) → Contains (ranges_of_recur recur) range → Contains (ranges_named report) range) → AreEnoughToShow object zone (is_looked_at object report) (rows object) recur
 recur_enough object zone report near short one stated Whole named = tt
 recur_enough object zone report near short one stated (Expand range) named = overlapping_looked_at object zone report near short stated range (named range (here range))
 recur_enough object zone report near short one stated (Limit range) named =

@@ -14,6 +14,7 @@ use Rattle.cal_model.specs.declared.selection.Recur.TheVariants.{Whole, Expand, 
 use Rattle.cal_model.specs.declared.selection.Selection.{Selection}
 use Rattle.cal_model.specs.declared.zone.ZoneTable.{ZoneTable}
 use Rattle.cal_model.specs.Selections.ShownData.{shown, recurrence_shown, busy_shown, takes_all}
+use Rattle.cal_model.specs.Selections.EnoughRows.{KeepsEach, KeepsFirst, is_dated_of, KeepsFirsts, AreEnoughToShow, EnoughRowsAreShown}
 use Rattle.cal_model.specs.Selections.Expansion.{expanded_children, instances_of_row, plain_lines}
 use Rattle.cal_model.specs.Selections.LimitedSets.{original_row, left_out, is_left_out}
 use Rattle.cal_model.specs.Selections.Picks.{picked_text}
@@ -22,23 +23,12 @@ use Rattle.cal_model.specs.Instances.Rows.{Numbered, overrides, masters, named_b
 use Rattle.cal_model.specs.Objects.ComponentLines.{name_of, lines_of, children_of}
 use Rattle.cal_base.specs.Lines.ComponentTrees.{component}
 use Rattle.std.proofs.lemmas.List.Folds.{list_any-append}
-use Rattle.cal_model.proofs.Words.ListTests.{any_filter, filter-filter, filter_agreed, each, Keeps, filter_kept, any_kept}
+use Rattle.cal_model.proofs.Words.ListTests.{any_filter, filter-filter, filter_agreed, each, filter_kept, any_kept}
 
 -- Limited overrides
 
 abbrev has_number : Numbered → Row → Bool
 has_number n row = row.component == n.number
-
--- the dated rows of an override
-abbrev pub is_dated_of : Numbered → Row → Bool
-is_dated_of n row = has_number n row && is_dated row
-
--- the first row that passes a test is kept
-abbrev pub KeepsFirst : (Row → Bool) → List Row → (Row → Bool) → Type 0
-KeepsFirst keep all test = All (λ row. keep row ≡ true) (take 1 (filter test all))
-
-abbrev pub KeepsFirsts : Object → (Row → Bool) → List Row → Type 0
-KeepsFirsts object keep all = (n : Numbered) → Contains (overrides object) n → KeepsFirst keep all (is_dated_of n)
 
 first_kept : (keep test : Row → Bool) (all : List Row) → KeepsFirst keep all test → take 1 (filter test (filter keep all)) ≡ take 1 (filter test all)
 first_kept keep test [] first = refl
@@ -60,7 +50,7 @@ of_first : (object : Object) (n : Numbered) (dated : List Row) → originals obj
 of_first object n [] = refl
 of_first object n (row ∷ rows) = refl
 
-is_left_out_same : (object : Object) (zone : ZoneTable) (range : Range) (keep : Row → Bool) (all : List Row) → Keeps keep all (row_in_range object zone range)
+is_left_out_same : (object : Object) (zone : ZoneTable) (range : Range) (keep : Row → Bool) (all : List Row) → KeepsEach keep all (row_in_range object zone range)
     → KeepsFirsts object keep all → (n : Numbered) → Contains (overrides object) n
     → is_left_out object (filter keep all) zone range n ≡ is_left_out object all zone range n
 is_left_out_same object zone range keep all meeting firsts n c =
@@ -79,7 +69,7 @@ is_left_out_same object zone range keep all meeting firsts n c =
     ∙ (λ i. own i || list_any overlaps (same i))
     ∙ sym (list_any-append overlaps (filter (has_number n) all) (originals object n (filter is_dated (filter (has_number n) all)))))
 
-left_out_same : (object : Object) (zone : ZoneTable) (range : Range) (keep : Row → Bool) (all : List Row) → Keeps keep all (row_in_range object zone range)
+left_out_same : (object : Object) (zone : ZoneTable) (range : Range) (keep : Row → Bool) (all : List Row) → KeepsEach keep all (row_in_range object zone range)
     → KeepsFirsts object keep all → left_out object (filter keep all) zone range ≡ left_out object all zone range
 left_out_same object zone range keep all meeting firsts =
     ap (map (λ (n : Numbered). n.component.child)) (filter_agreed (is_left_out object (filter keep all) zone range) (is_left_out object all zone range) (overrides object)
@@ -99,19 +89,12 @@ with_instances object found = component (name_of object.tree) (record {
   children = expanded_children (flat_map (instances_of_row object) found) (children_of object.tree);
 })
 
--- The law. The given rows are some rows of the object in their order; each that overlaps the range of expand or limit-recurrence-set is among them, and for limit-recurrence-set the first dated row of each override.
-abbrev pub AreEnough : Object → ZoneTable → (Row → Bool) → List Row → Recur → Type 0
-AreEnough object zone keep all Whole = Unit {0}
-AreEnough object zone keep all (Expand range) = Keeps keep all (row_in_range object zone range)
-AreEnough object zone keep all (Limit range) = Keeps keep all (row_in_range object zone range) × KeepsFirsts object keep all
-
-recurrence_same : (object : Object) (zone : ZoneTable) (keep : Row → Bool) (all : List Row) (recur : Recur) → AreEnough object zone keep all recur
+recurrence_same : (object : Object) (zone : ZoneTable) (keep : Row → Bool) (all : List Row) (recur : Recur) → AreEnoughToShow object zone keep all recur
     → recurrence_shown object (filter keep all) zone recur ≡ recurrence_shown object all zone recur
 recurrence_same object zone keep all Whole e = refl
 recurrence_same object zone keep all (Expand range) e = ap (with_instances object) (filter_kept keep (row_in_range object zone range) all e)
 recurrence_same object zone keep all (Limit range) e = ap (without object) (left_out_same object zone range keep all e.0 e.1)
 
-pub shown-enough_rows : (octets : List ℕ) (object : Object) (select : Selection) (zone : ZoneTable) (keep : Row → Bool) (all : List Row) → AreEnough object zone keep all select.recur
-    → shown octets object (filter keep all) select zone ≡ shown octets object all select zone
+pub shown-enough_rows : EnoughRowsAreShown
 shown-enough_rows octets object select zone keep all e =
     ap (λ tree. cond (takes_all select) octets (picked_text select.comp (busy_shown select.busy tree))) (recurrence_same object zone keep all select.recur e)

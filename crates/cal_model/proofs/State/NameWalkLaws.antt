@@ -9,13 +9,17 @@ use Rattle.std.specs.List.Sorted.{IsStrictlySortedBy}
 use Rattle.std.specs.Map.{keys_of}
 use Rattle.std.proofs.lemmas.Bool.{false≢true}
 use Rattle.std.proofs.lemmas.Cmp.{nat_list_cmp_total, tied_itself}
+use Rattle.std.proofs.lemmas.List.Elements.{All-weaker}
 use Rattle.std.proofs.lemmas.Map.Views.{IfSome-lookup_from_All}
 use Rattle.cal_base.specs.Lists.NameMap.{Named, name_order, IsInOrder, value_at, above, next_above}
+use Rattle.cal_model.specs.declared.privilege.Grant.{Grant}
+use Rattle.cal_model.specs.declared.privilege.Who.{Who}
+use Rattle.cal_model.specs.declared.privilege.Who.TheVariants.{Everyone, Owner, Principal, Group}
 use Rattle.cal_model.specs.declared.store.CalendarData.{CalendarData}
 use Rattle.cal_model.specs.Paths.TargetPaths.{is_resource_name}
 use Rattle.cal_model.specs.State.ServerState.{Directory, Calendar, Home, ServerState, home_at, calendar_at}
 use Rattle.cal_model.specs.State.StoredData.{data_of, next_calendar, next_object}
-use Rattle.cal_model.specs.State.SoundStates.{AreNamed, IsSoundCalendar, IsSoundHome, IsSound}
+use Rattle.cal_model.specs.State.SoundStates.{IsToUser, AreToUsers, IsToGroup, HaveGroups, AreNamed, IsSoundCalendar, IsSoundHome, IsSound}
 use Rattle.cal_model.specs.State.NameWalks.{calendars_above, objects_above, IsWalk, WalksMeetAll}
 use Rattle.cal_model.proofs.Words.AllLemmas.{All-slice_get}
 use Rattle.cal_model.proofs.State.OrderLaws.{all_weaker}
@@ -102,6 +106,15 @@ calendar-sound directory state user name calendar sound there = by (home_at stat
   by (Some home) e there =
       subst (λ o. IfSome o (IsSoundCalendar directory)) there
       (IfSome-lookup_from_All (IsSoundCalendar directory) _ home.calendars (home-sound directory state user home sound e).calendars)
+
+-- grants to users and groups that there are name no other groups
+pub have_groups : (directory : Directory) (grants : List Grant) → AreToUsers directory grants → HaveGroups directory grants
+have_groups directory grants are = All-weaker (λ (grant : Grant). IsToUser directory grant.who) (λ (grant : Grant). IsToGroup directory grant.who) (λ grant. by grant.who) grants are where
+  by : (who : Who) → IsToUser directory who → IsToGroup directory who
+  by Everyone is = tt
+  by Owner is = tt
+  by (Principal user) is = tt
+  by (Group group) is = is
 
 pub walks_meet_all : WalksMeetAll
 walks_meet_all = record {

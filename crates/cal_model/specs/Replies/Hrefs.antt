@@ -1,4 +1,4 @@
--- Paths as this server writes them (RFC 3986, 2.1 and 3.3). A request is found at such a path; the two that are read so far have theirs spelled out in `EventTexts` and `QueryTexts`.
+-- Paths as this server writes them (RFC 3986, 2.1 and 3.3). What a request's target names is `Paths.TargetPaths`.
 use Rattle.std.specs.Prelude.{ℕ, Bool, ◌&&◌, ◌||◌, ◌==◌, nat_le, if◌then◌else◌, List, [], ◌∷◌, ◌++◌, flat_map, codes}
 use Rattle.percent_encoding.specs.Percent.{percent_encode_byte}
 use Rattle.cal_model.specs.declared.path.Path.{Path}

@@ -1,5 +1,5 @@
 -- XML as this server writes it: one text for each content (RFC 4918, 14). There is no white space between elements.
--- So far only the elements of WebDAV and CalDAV, with the prefixes that the root declares.
+-- Elements are those of WebDAV and CalDAV, with the prefixes that the root declares.
 use Rattle.std.specs.Prelude.{ℕ, List, [], ◌++◌, codes}
 pub use Rattle.cal_base.specs.Xml.CanonicalXml.{text_octet, value_octet, attribute, element_with, prefixes}
 unfoldable pub use Rattle.cal_base.specs.Xml.CanonicalXml.{xml_text, attribute_text}

@@ -24,6 +24,14 @@ IsToUser directory other = Unit {0}
 abbrev pub AreToUsers : Directory → List Grant → Type 0
 AreToUsers directory grants = All (λ (grant : Grant). IsToUser directory grant.who) grants
 
+-- a grant to a group names one that there is
+abbrev pub IsToGroup : Directory → Who → Type 0
+IsToGroup directory (Group group) = group < length directory.groups
+IsToGroup directory other = Unit {0}
+
+abbrev pub HaveGroups : Directory → List Grant → Type 0
+HaveGroups directory grants = All (λ (grant : Grant). IsToGroup directory grant.who) grants
+
 -- each name is one of a calendar or an object (RFC 3986, 3.3)
 abbrev pub AreNamed : {V : Type 0} → Named V → Type 0
 AreNamed named = AllByRecursion (λ name. IsTrue (is_resource_name name)) (keys_of named)

@@ -1,9 +1,13 @@
 use Rattle.std.proofs.Common.{[], ◌++◌, ap, ◌∙◌}
 use Rattle.dav_write.proofs.Appending.{on_ok_then}
 use Rattle.cal_model.specs.Replies.Hrefs.{href as href_of}
+use Rattle.cal_model.proofs.State.NameWalkLaws.{have_groups}
 use Rattle.dav_props.proofs.MemberLemmas.{calendar_written}
 use Rattle.dav_props.proofs.SeenLemmas.{unseen_of}
 use Rattle.dav_props.proofs.members.push_calendar.Goals as goal
+
+pub held-held-requires-clause-groups : goal.held-held-requires-clause-groups
+held-held-requires-clause-groups g c = have_groups (g.V.View.directory c.args.seen.now.view.now) c.args.kept.now.acl.grants c.requires.users
 
 pub returns-clause-text : goal.returns-clause-text
 returns-clause-text g c =

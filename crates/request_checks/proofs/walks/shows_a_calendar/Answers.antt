@@ -4,8 +4,8 @@ use Rattle.request_checks.specs.Walks.{any_held}
 use Rattle.request_checks.proofs.HomeLemmas.{step_known, end_known, grants_of_next}
 use Rattle.request_checks.proofs.walks.shows_a_calendar.Goals as goal
 
-pub holds_something-requires-clause-users : goal.holds_something-requires-clause-users
-holds_something-requires-clause-users g c =
+pub holds_something-requires-clause-groups : goal.holds_something-requires-clause-groups
+holds_something-requires-clause-groups g c =
     grants_of_next (g.V.View.directory c.args.view.now) (g.V.View.state c.args.view.now) c.args.owner c.calendars.last.now c.in-Some.name.now c.in-Some.kept.now c.calendar_after.ensures.sound (sym c.in-Some.ensures.next)
 
 pub returns-then-holds_something-clause-any : goal.returns-then-holds_something-clause-any
