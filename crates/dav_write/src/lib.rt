@@ -2,10 +2,12 @@
 //!
 //! Given: a path, an element or a refusal. Gives: the octets that stand for it in a reply; and of the
 //! target of a request, or an href of a body, the path that it names. What is written is read back as
-//! what was given. Used by: the crates that read requests and those that build replies.
+//! what was given: `read_back_laws` says so of paths and of elements. Used by: the crates that read requests
+//! and those that build replies.
 #![tactic(auto)]
 
 mod elements;
+mod laws;
 mod paths;
 mod refusals;
 mod reserved_paths;
@@ -13,6 +15,7 @@ mod tags;
 mod targets;
 
 pub use elements::write_body;
+pub use laws::read_back_laws;
 pub use paths::{append_path, write_path};
 pub use refusals::{error_body, need_privileges};
 pub use targets::read_path;
