@@ -1,4 +1,5 @@
--- Octets that the formats name, and names without ASCII case.
+-- Octets that the formats name, names without ASCII case, and texts that calls lend.
 -- Given: nothing.
 pub mod Octets
 pub mod Text
+pub mod LentTexts

@@ -9,7 +9,7 @@ use std::marker::Model;
 /// The numbers of the calls that fail, counted from 0, how many calls there were, and how many of
 /// them failed. Both counts stay at the last value of a u64.
 #[derive(Drop)]
-pub(crate) struct FailingCalls {
+pub struct FailingCalls {
     failing: List<u64>,
     made: u64,
     faults: u64,
@@ -25,7 +25,7 @@ impl Model for FailingCalls {
 
 impl FailingCalls {
     /// Before the first call.
-    pub(crate) fn new(failing: List<u64>) -> FailingCalls
+    pub fn new(failing: List<u64>) -> FailingCalls
         ensures { result ≡ no_calls failing }
     {
         FailingCalls {
@@ -35,22 +35,29 @@ impl FailingCalls {
         }
     }
 
+    /// How many calls there were.
+    pub fn made(&self) -> u64
+        ensures { result ≡ self.now.made }
+    {
+        self.made
+    }
+
     /// Whether the next call is one of those that fail.
-    pub(crate) fn is_listed(&self) -> bool
+    pub fn is_listed(&self) -> bool
         ensures { result ≡ is_listed self.now }
     {
         self.failing.as_slice().contains(&self.made)
     }
 
     /// Counts a call that did not fail.
-    pub(crate) fn succeed(&mut self)
+    pub fn succeed(&mut self)
         ensures { self.new ≡ after_success self.old }
     {
         self.made = self.made.saturating_add(1);
     }
 
     /// Counts a call that failed.
-    pub(crate) fn fail(&mut self) -> Failed
+    pub fn fail(&mut self) -> Failed
         ensures after { self.new ≡ after_fault self.old }
         ensures never_falls { self.old.faults ≤ self.new.faults }
     {

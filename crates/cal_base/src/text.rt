@@ -2,8 +2,9 @@
 ghost use Rattle.std.specs.Prelude.{◌≡◌, ℕ, List, IfOk, nat_eq};
 ghost use Rattle.std.specs.Cmp.{partial_equiv_from_equiv, nat_eq_equiv};
 ghost use Rattle.std.specs.Cmp.Lexicographic.{pointwise, lists_per, nat_list_eq_equiv};
-ghost use Rattle.cal_base.specs.Texts.Text.{raised, raised_all, IsRaised};
+ghost use Rattle.cal_base.specs.Texts.Text.{raised_all, IsRaised};
 
+use crate::letters;
 use crate::list::Octets;
 use crate::no_memory::NoMemory;
 use std::alloc::{AllocError, Global};
@@ -30,7 +31,7 @@ impl Name {
     pub fn of(alloc: Global, text: &[u8]) -> Result<Name, NoMemory>
         ensures { IfOk result (λ n. n ≡ raised_all text.now) }
     {
-        let octets = raise_all(alloc, text)?;
+        let octets = letters::raised_all(alloc, text)?;
         Ok(Name { octets })
     }
 
@@ -40,25 +41,6 @@ impl Name {
         ensures raised { IsRaised self.now }
     {
         self.octets.as_slice()
-    }
-}
-
-fn raise_all(alloc: Global, text: &[u8]) -> Result<Octets, NoMemory>
-    ensures { IfOk result (λ octets. octets ≡ raised_all text.now) }
-{
-    match text.iter().map(|c| raise(*c)).collect::<Vec<u8>>(alloc) {
-        Ok(octets) => Ok(Octets::from_vec(octets)),
-        Err(_) => Err(NoMemory),
-    }
-}
-
-fn raise(octet: u8) -> u8
-    ensures { result ≡ raised octet }
-{
-    if octet.is_ascii_lowercase() {
-        octet - 32
-    } else {
-        octet
     }
 }
 
