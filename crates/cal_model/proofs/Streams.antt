@@ -2,6 +2,7 @@
 pub mod StreamFronts
 pub mod StreamHeads
 pub mod HeadLaws
+pub mod CutPlaces
 pub mod ChunkFronts
 pub mod ChunkLines
 pub mod ChunkBodies

@@ -7,3 +7,4 @@ pub mod ZoneTableLaws
 pub mod NearTimes
 pub mod ConversionLaws
 pub mod SpanLemmas
+pub mod ZonesAtHandLemmas

@@ -12,7 +12,9 @@
 
 pub mod answers;
 pub mod change;
+pub mod cuts;
 pub mod filter;
+pub mod limits;
 mod local_span;
 mod local_times;
 pub mod next_passing;
@@ -24,6 +26,7 @@ pub mod property;
 pub mod reply;
 pub mod report;
 pub mod request;
+pub mod resource_name;
 pub mod row;
 pub mod rule;
 pub mod selection;
@@ -34,12 +37,15 @@ pub mod walk;
 pub mod wire;
 pub mod zone;
 mod zone_time;
+pub mod zones_at_hand;
 
 pub use answers::{PropAnswers, Seen};
 pub use change::Change;
+pub use cuts::{cut, octets_before, text_before, trimmed};
 pub use filter::{
     Collation, CompFilter, Filter, ParamFilter, ParamTest, PropFilter, PropTest, TextMatch,
 };
+pub use limits::{ANSWER_LIMIT, CHANGE_COST, FIRST_DATE, LAST_DATE, RESOURCE_LIMIT};
 pub use local_times::LocalTimes;
 pub use next_passing::Rules;
 pub use object::{Alarm, Class, Component, Extent, Kind, NotResource, Object, Related, Trigger};
@@ -50,6 +56,7 @@ pub use property::{PropName, PropSet, Props};
 pub use reply::{Cond, Etag, Media, Refusal, Reply, date_value};
 pub use report::ReportRequest;
 pub use request::{Content, Event, Method, Request, Tags};
+pub use resource_name::is_resource_name;
 pub use row::{Fixed, Range, Row, RowKind};
 pub use rule::{DayPart, Freq, Rule, Until};
 pub use selection::{CompPick, PropPick, Recur, Selection};
@@ -58,3 +65,4 @@ pub use stored::Stored;
 pub use wire::{WireFault, WireRequest};
 pub use zone::{Onset, ZonePart, ZoneTable};
 pub use zone_time::{exists, offset_at, to_utc};
+pub use zones_at_hand::local_times_of;

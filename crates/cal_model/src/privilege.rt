@@ -2,6 +2,41 @@
 
 use cal_base::List;
 
+// The bits of the privileges, as the definition has them (`Access.Privileges`).
+
+/// The bit of CALDAV:read-free-busy.
+pub const READ_FREE_BUSY: u16 = 1;
+
+/// The bit of DAV:read.
+pub const READ: u16 = 2;
+
+/// The bit of DAV:write-content.
+pub const WRITE_CONTENT: u16 = 4;
+
+/// The bit of DAV:write-properties.
+pub const WRITE_PROPERTIES: u16 = 8;
+
+/// The bit of DAV:bind.
+pub const BIND: u16 = 16;
+
+/// The bit of DAV:unbind.
+pub const UNBIND: u16 = 32;
+
+/// The bit of DAV:read-acl.
+pub const READ_ACL: u16 = 64;
+
+/// The bit of DAV:write-acl.
+pub const WRITE_ACL: u16 = 128;
+
+/// The bit of DAV:read-current-user-privilege-set.
+pub const READ_HELD: u16 = 256;
+
+/// All that change what a calendar has, as DAV:write contains them.
+pub const WRITE: u16 = 60;
+
+/// All nine, as DAV:all contains them.
+pub const ALL: u16 = 511;
+
 /// Who a grant is for.
 #[derive(Clone, Copy, PartialEq, Eq)]
 pub enum Who {
