@@ -1,2 +1,1 @@
 pub mod GroupReading
-pub mod UnquotedParts

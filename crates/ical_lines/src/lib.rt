@@ -8,7 +8,6 @@
 mod line_text;
 mod physical;
 mod split;
-mod unquoted;
 mod write;
 
 pub use split::{LineFault, line_place, split_lines};

@@ -1,12 +1,15 @@
 //! The text of a logical line, read by its grammar (RFC 5545, 3.1).
-ghost use Rattle.std.specs.Prelude.{◌≡◌, ◌==◌, map, IfOk};
+ghost use Rattle.std.specs.Prelude.{◌≡◌, map, IfOk};
 ghost use Rattle.std.specs.List.{list_any, list_all};
-ghost use Rattle.cal_base.specs.Texts.Octets.{comma, semicolon, double_quote};
-ghost use Rattle.cal_base.specs.Lines.ContentLines.{is_name_octet, is_name, is_special, quoted_value, param_value, every, param_of, line_of};
-ghost use Rattle.ical_lines.specs.UnquotedParts.{text_there, later_pieces};
+ghost use Rattle.cal_base.specs.Texts.Octets.{comma, semicolon};
+ghost use Rattle.cal_base.specs.Lines.ContentLines.{is_name_octet, is_name, is_special, param_value, every, param_of, line_of};
+ghost use Rattle.cal_base.specs.Lines.UnquotedParts.{later_pieces};
+ghost use Rattle.cal_base.specs.Texts.LentTexts.{text_there};
 
-use crate::unquoted::{first_piece, split_unquoted};
-use cal_base::{Line, List, Name, NoMemory, Octets, Param};
+use cal_base::{
+    Line, List, Name, NoMemory, Octets, Param, first_unquoted_piece, split_unquoted,
+    without_end_quote,
+};
 use std::alloc::Global;
 
 /// The line that a logical line's text is, if it is in the grammar.
@@ -16,7 +19,7 @@ pub fn read_line(alloc: Global, raw: Octets) -> Result<Option<Line>, NoMemory>
     let Some((head, value)) = split_unquoted(raw.as_slice(), b':') else {
         return Ok(None);
     };
-    let (name, params) = first_piece(head, b';');
+    let (name, params) = first_unquoted_piece(head, b';');
     if !is_name(name) {
         return Ok(None);
     }
@@ -40,7 +43,7 @@ fn read_params(alloc: Global, text: Option<&[u8]>) -> Result<Option<List<Param>>
     let mut params = List::new(alloc);
     let mut rest = text;
     'params: while let Some(text) = rest {
-        let (piece, behind) = first_piece(text, b';');
+        let (piece, behind) = first_unquoted_piece(text, b';');
         let Some(param) = read_param(alloc, piece)? else {
             return Ok(None);
         };
@@ -74,7 +77,7 @@ fn read_values(alloc: Global, text: Option<&[u8]>) -> Result<Option<List<Octets>
     let mut values = List::new(alloc);
     let mut rest = text;
     'values: while let Some(text) = rest {
-        let (piece, behind) = first_piece(text, b',');
+        let (piece, behind) = first_unquoted_piece(text, b',');
         let Some(value) = unquote(piece) else {
             return Ok(None);
         };
@@ -93,28 +96,6 @@ fn unquote(text: &[u8]) -> Option<&[u8]>
         [b'"', behind @ ..] => without_end_quote(behind),
         _ => { if has_special(text) { None } else { Some(text) } }
     }
-}
-
-/// What stands behind an opening quote, without the closing quote, if that is its one quote.
-fn without_end_quote(text: &[u8]) -> Option<&[u8]>
-    ensures { text_there result ≡ quoted_value text.now }
-{
-    if text.is_empty() {
-        return None;
-    }
-    let end = text.len() - 1;
-    let inside = &text[..end];
-    if text[end] == b'"' && !has_quote(inside) {
-        Some(inside)
-    } else {
-        None
-    }
-}
-
-fn has_quote(text: &[u8]) -> bool
-    ensures { result ≡ list_any (λ octet. octet == double_quote) text.now }
-{
-    text.iter().any(|octet| *octet == b'"')
 }
 
 fn has_special(text: &[u8]) -> bool

@@ -1,7 +1,8 @@
 use Rattle.std.proofs.Common.{◌≡◌, map}
 use Rattle.cal_base.specs.Texts.Octets.{comma}
 use Rattle.cal_base.specs.Lines.ContentLines.{every, param_value}
-use Rattle.ical_lines.specs.UnquotedParts.{later_pieces, preceded, text_left, text_there}
+use Rattle.cal_base.specs.Lines.UnquotedParts.{later_pieces, preceded, text_left}
+use Rattle.cal_base.specs.Texts.LentTexts.{text_there}
 use Rattle.ical_lines.proofs.line_text.read_values.Given as goal
 
 -- those that are read, before those of the rest
