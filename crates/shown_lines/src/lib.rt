@@ -9,7 +9,6 @@
 mod items;
 mod made;
 mod params;
-mod pieces;
 mod portion;
 mod rewritten;
 mod values;

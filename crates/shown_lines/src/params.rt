@@ -2,38 +2,14 @@
 ghost use Rattle.std.specs.Prelude.{◌≡◌, ℕ, List, [], ◌∷◌, ◌++◌, bytes_eq, filter, flat_map, map, IfOk, OnOk, Some};
 ghost use Rattle.cal_base.specs.Lines.ContentLines.{every, param_of};
 ghost use Rattle.cal_base.specs.Texts.Octets.{semicolon};
-ghost use Rattle.cal_base.specs.Texts.Text.{raised, raised_all};
+ghost use Rattle.cal_base.specs.Texts.Text.{raised_all};
 ghost use Rattle.cal_model.specs.Selections.RowLines as spec;
-ghost use Rattle.ical_lines.specs.UnquotedParts.{later_pieces, text_there};
+ghost use Rattle.cal_base.specs.Lines.UnquotedParts.{later_pieces};
+ghost use Rattle.cal_base.specs.Texts.LentTexts.{text_there};
 ghost use Rattle.shown_lines.specs.Heads.{behind_semicolon};
 
-use crate::pieces::first_piece;
-use cal_base::{NoMemory, Octets, Param};
+use cal_base::{NoMemory, Octets, Param, first_unquoted_piece, is_word};
 use cal_model::RowKind;
-
-/// An ASCII letter in upper case, and any other octet as it is.
-fn raised(octet: u8) -> u8
-    ensures { result ≡ raised octet }
-{
-    if octet.is_ascii_lowercase() {
-        octet - 32
-    } else {
-        octet
-    }
-}
-
-/// Whether a text is a word, whose letters are upper case, without ASCII case.
-fn is_word(text: &[u8], word: &[u8]) -> bool
-    ensures { result ≡ bytes_eq (raised_all text.now) word.now }
-{
-    let [octet, rest @ ..] = text else {
-        return word.is_empty();
-    };
-    let [letter, more @ ..] = word else {
-        return false;
-    };
-    raised(*octet) == *letter && is_word(rest, more)
-}
 
 /// Whether a parameter has this name.
 fn is_named(param: &Param, name: &[u8]) -> bool
@@ -88,7 +64,7 @@ pub fn put_all_kept(
     let mut rest = text;
     let mut params = params;
     'params: while let Some(text) = rest {
-        let (piece, behind) = first_piece(text, b';');
+        let (piece, behind) = first_unquoted_piece(text, b';');
         let Some((param, more)) = params.split_first() else {
             unreachable!();
         };

@@ -6,10 +6,9 @@ ghost use Rattle.cal_model.specs.Selections.RowLines as spec;
 ghost use Rattle.shown_lines.specs.Portions.{written_portion};
 
 use crate::params::put_all_kept;
-use crate::pieces::first_piece;
 use crate::portion::{Portion, header, write_made};
 use crate::values::value_text;
-use cal_base::{Line, NoMemory, Octets};
+use cal_base::{Line, NoMemory, Octets, first_unquoted_piece};
 use cal_model::RowKind;
 use std::alloc::Global;
 
@@ -20,7 +19,7 @@ fn kept_header(alloc: Global, line: &Line, kind: RowKind) -> Result<Octets, NoMe
     ensures { IfOk result (λ text. text ≡ spec.kept_header kind line.now ++ codes ":") }
 {
     let header = header(line);
-    let (name, params) = first_piece(&header[..header.len() - 1], b';');
+    let (name, params) = first_unquoted_piece(&header[..header.len() - 1], b';');
     let mut text = Octets::of(alloc, name)?;
     put_all_kept(kind, params, line.params.as_slice(), &mut text)?;
     text.push(b':')?;

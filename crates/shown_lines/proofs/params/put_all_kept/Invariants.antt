@@ -3,7 +3,8 @@ use Rattle.std.specs.Prelude.{filter, flat_map}
 use Rattle.cal_base.specs.Texts.Octets.{semicolon}
 use Rattle.cal_base.specs.Lines.ContentLines.{every, param_of}
 use Rattle.cal_model.specs.Selections.RowLines.{text_stays}
-use Rattle.ical_lines.specs.UnquotedParts.{later_pieces, text_left, text_there}
+use Rattle.cal_base.specs.Lines.UnquotedParts.{later_pieces, text_left}
+use Rattle.cal_base.specs.Texts.LentTexts.{text_there}
 use Rattle.shown_lines.specs.Heads.{behind_semicolon}
 use Rattle.shown_lines.proofs.params.put_all_kept.Given as goal
 
