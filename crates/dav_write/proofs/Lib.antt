@@ -5,3 +5,4 @@ pub mod PathLemmas
 pub mod ErrorLemmas
 pub mod ReadBack
 pub mod ElementLemmas
+pub mod TextRuns

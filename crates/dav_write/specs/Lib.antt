@@ -3,3 +3,4 @@ pub mod ShortPaths
 pub mod ErrorTexts
 pub mod Readable
 pub mod ElementTexts
+pub mod EscapedOctets

@@ -3,10 +3,11 @@ ghost use Rattle.std.specs.Prelude.{◌≡◌, ◌++◌, ◌<◌, ◌↔◌, IfO
 ghost use Rattle.std.specs.List.{concat};
 ghost use Rattle.cal_base.specs.Xml.CanonicalXml.{prefixes, written_element, written_body};
 ghost use Rattle.cal_base.specs.Xml.XmlBodies.{IsBody};
-ghost use Rattle.dav_write.specs.ElementTexts.{item_text, end_tag};
+ghost use Rattle.dav_write.specs.ElementTexts.{item_text};
 ghost use Rattle.dav_write.specs.Readable.{IsSpellable};
 
-use crate::tags::{push_name, push_tag_front, push_text};
+use crate::names::{push_end, push_text};
+use crate::tags::push_tag_front;
 use cal_base::{Element, Item, NoMemory, Octets};
 use std::alloc::Global;
 
@@ -64,15 +65,6 @@ fn push_item(item: &Item, out: &mut Octets) -> Result<(), NoMemory>
         Item::Element(element) => push_element(element, b"", out),
         Item::Text(text) => push_text(text.as_slice(), out),
     }
-}
-
-/// Appends the tag that closes an element.
-fn push_end(space: &[u8], name: &[u8], out: &mut Octets) -> Result<(), NoMemory>
-    ensures { OnOk result (out.new ≡ out.old ++ end_tag space.now name.now) }
-{
-    out.extend_from_slice(b"</")?;
-    push_name(space, name, out)?;
-    out.push(b'>')
 }
 
 /// Whether something is written of some items.

@@ -8,6 +8,7 @@
 
 mod elements;
 mod laws;
+mod names;
 mod paths;
 mod refusals;
 mod reserved_paths;
@@ -16,6 +17,7 @@ mod targets;
 
 pub use elements::write_body;
 pub use laws::read_back_laws;
+pub use names::{push_end, push_name, push_own_declaration, push_text};
 pub use paths::{append_path, write_path};
 pub use refusals::{error_body, need_privileges};
 pub use targets::read_path;

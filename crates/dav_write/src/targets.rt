@@ -11,13 +11,9 @@ ghost use Rattle.cal_model.specs.Paths.TargetPaths.{is_resource_name, without_qu
 ghost use Rattle.dav_write.specs.Segments.{AreSegments, named_path};
 
 use cal_base::{NoMemory, Octets};
-use cal_model::Path;
+use cal_model::{Path, cut, is_resource_name, octets_before};
 use percent_encoding::percent_decode;
 use std::alloc::Global;
-use std::str;
-
-/// The most octets of the name of a calendar or an object.
-const NAME_OCTETS: usize = 200;
 
 /// What stands between the slashes of a text.
 enum Segments<'a> {
@@ -209,44 +205,6 @@ fn is_calendars(kind: &[u8]) -> bool
     kind == b"calendars".as_slice()
 }
 
-/// Whether a calendar or an object may have this name: 1 to 200 octets of UTF-8 without slash and
-/// controls, and neither `.` nor `..` (RFC 3986, 3.3).
-fn is_resource_name(name: &[u8]) -> bool
-    ensures { result ≡ is_resource_name name.now }
-{
-    is_short_text(name)
-        && has_name_octets(name)
-        && name != b".".as_slice()
-        && name != b"..".as_slice()
-}
-
-fn is_short_text(name: &[u8]) -> bool
-    ensures { result ≡ (nat_le 1 (length name.now) && nat_le (length name.now) 200 && is_utf8 name.now) }
-{
-    1 <= name.len() && name.len() <= NAME_OCTETS && is_utf8(name)
-}
-
-fn has_name_octets(name: &[u8]) -> bool
-    ensures { result ≡ list_all (λ octet. nat_le 32 octet && not (octet == 47)) name.now }
-{
-    name.iter().all(|octet| is_name_octet(*octet))
-}
-
-fn is_name_octet(octet: u8) -> bool
-    ensures { result ≡ (nat_le 32 octet && not (octet == 47)) }
-{
-    32 <= octet && octet != b'/'
-}
-
-fn is_utf8(text: &[u8]) -> bool
-    ensures { result ≡ is_utf8 text.now }
-{
-    match str::from_utf8(text) {
-        Ok(_) => true,
-        Err(_) => false,
-    }
-}
-
 /// The octets of a segment, each escape replaced.
 fn decoded(alloc: Global, segment: &[u8]) -> Result<Octets, NoMemory>
     ensures { IfOk result (λ octets. octets ≡ decoded_text segment.now) }
@@ -254,30 +212,4 @@ fn decoded(alloc: Global, segment: &[u8]) -> Result<Octets, NoMemory>
     let mut octets = Vec::new(alloc);
     percent_decode(segment).append_to(&mut octets)?;
     Ok(Octets::from_vec(octets))
-}
-
-/// What stands before the first octet of a kind, and what stands behind it.
-fn cut(text: &[u8], octet: u8) -> Option<(&[u8], &[u8])>
-    ensures parts { option_map (λ parts. (parts.0.now, parts.1.now)) result ≡ cut_at octet text.now }
-    ensures pieces { MatchOption result (pieces octet text.now ≡ text.now ∷ []) (λ parts. pieces octet text.now ≡ parts.0.now ∷ pieces octet parts.1.now) }
-{
-    let place = octets_before(text, octet);
-    if place < text.len() {
-        Some((&text[..place], &text[place + 1..]))
-    } else {
-        None
-    }
-}
-
-/// How many octets stand before the first of a kind.
-fn octets_before(text: &[u8], octet: u8) -> usize
-    ensures first { result ≡ position_or_len (λ other. other == octet) text.now }
-    ensures within { result ≤ length text.now }
-{
-    for (place, other) in text.iter().enumerate() {
-        if *other == octet {
-            return place;
-        }
-    }
-    text.len()
 }

@@ -37,4 +37,4 @@ push_element-returns t c =
     (then_more _ content (end_tag e.space e.name) inside
     (written ∙ ap (λ space. c.items.out ++ end_tag space c.as_slice-3.result.now) c.as_slice-2.ensures ∙ ap (λ name. c.items.out ++ end_tag e.space name) c.as_slice-3.ensures)))
     ∙ ap (λ text. c.args.out.now ++ text) (sym (written_element-filled e c.args.declarations.now some)))
-    c.push_end.ensures
+    c.push_end.ensures.text

@@ -1,7 +1,0 @@
-use Rattle.std.proofs.Common.{◌≡◌, ◌++◌, drop}
-use Rattle.cal_base.specs.Xml.CanonicalXml.{attribute_text}
-use Rattle.dav_write.proofs.tags.push_value_octets.Given as goal
-
--- with the text of the octets to come, the buffer will hold the whole text
-abbrev pub invariant-octets : goal.invariant-octets
-invariant-octets l = l.out ++ attribute_text (drop l.octet-index l.value) ≡ l.initial.out ++ attribute_text l.value
