@@ -1,4 +1,3 @@
 pub mod TagLemmas
 pub mod ReplyLemmas
 pub mod NameLemmas
-pub mod TextRuns

@@ -1,5 +1,4 @@
 pub mod PropertyTags
 pub mod ReplyPieces
 pub mod Answered
-pub mod EscapedOctets
 pub mod NameKeys

@@ -20,4 +20,4 @@ pub use names::once;
 pub use propstats::{push_empty_property, push_text_property};
 pub use responses::{Response, push_status_response};
 pub use statuses::PropStatus;
-pub use tags::{push_close, push_open, push_text};
+pub use tags::{push_close, push_open};

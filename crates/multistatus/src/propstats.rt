@@ -6,9 +6,10 @@ ghost use Rattle.cal_model.specs.Properties.PropertyTable.{Answer, without_value
 ghost use Rattle.multistatus.specs.ReplyPieces.{number_of, propstat_front, propstat_end, with_text};
 
 use crate::statuses::{PropStatus, push_status};
-use crate::tags::{push_close, push_open, push_text};
+use crate::tags::{push_close, push_open};
 use cal_base::{NoMemory, Octets};
 use cal_model::PropName;
+use dav_write::push_text;
 
 /// What stands before the elements of properties that have one status.
 pub(crate) const PROPSTAT_FRONT: &[u8] = b"<D:propstat><D:prop>";

@@ -9,8 +9,8 @@ ghost use Rattle.multistatus.specs.Answered.{IsAnswered, others};
 
 use crate::propstats::{PROPSTAT_FRONT, end_found, push_propstat};
 use crate::statuses::{PropStatus, push_status};
-use crate::tags::push_text;
 use cal_base::{NoMemory, Octets};
+use dav_write::push_text;
 use std::alloc::Global;
 
 /// The response of a resource while its properties are answered one after another. The elements of
