@@ -18,8 +18,9 @@ use cal_base::{NoMemory, Octets};
 use cal_model::Seen;
 use cal_model::view::View;
 use cal_moment::{Utc, write_utc};
+use dav_write::push_text;
 use itoa::Buffer;
-use multistatus::{push_home, push_principal, push_text};
+use multistatus::{push_home, push_principal};
 use std::alloc::Global;
 
 /// The first and the last moment of the dates that are served.
