@@ -6,7 +6,6 @@
 //! `file_laws`. Used by: the book that is kept.
 #![tactic(auto)]
 
-mod call_count;
 mod commit;
 mod creating;
 mod decoding;
@@ -18,7 +17,6 @@ mod header;
 mod keeper;
 mod laws;
 mod memory_disk;
-mod names;
 mod opening;
 mod parts;
 mod payload;

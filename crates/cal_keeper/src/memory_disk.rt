@@ -5,9 +5,8 @@ ghost use Rattle.cal_keeper.specs.Disks.CrashModel.{reading, with_piece};
 ghost use Rattle.cal_keeper.specs.Disks.MemoryDisks.{past_of, past_told, octets_of, octets_after, past_up_to, past_below, last_synced, stopped_image, StopMayLeave, current_octets, disk_after_fault, disk_after_success, disk_after, wrote_now};
 ghost use Rattle.cal_keeper.specs.Disks.PossibleImages.{possible_told};
 
-use crate::call_count::CallCount;
 use crate::disk::Disk;
-use cal_base::{Failed, List, NoMemory, Octets, ReservedList};
+use cal_base::{Failed, FailingCalls, List, NoMemory, Octets, ReservedList};
 use std::alloc::Global;
 use std::marker::Model;
 
@@ -42,7 +41,7 @@ pub struct MemoryDisk {
     /// The octets as they read, once something was written.
     current: Option<Vec<u8>>,
     steps: ReservedList<Step>,
-    calls: CallCount,
+    calls: FailingCalls,
 }
 
 impl Model for MemoryDisk {
@@ -66,7 +65,7 @@ impl MemoryDisk {
             first: octets,
             current: None,
             steps: ReservedList::new(alloc),
-            calls: CallCount::new(failing),
+            calls: FailingCalls::new(failing),
         }
     }
 

@@ -4,7 +4,7 @@ ghost use Rattle.std.specs.Int.{w16, w32, w64, to_be_bytes};
 ghost use Rattle.cal_keeper.specs.Steps.Decoding.{HasNo, IsAny};
 ghost use Rattle.cal_keeper.specs.Files.Payloads.{name_text, long_text, IsName};
 
-use crate::names::is_resource_name;
+use cal_model::is_resource_name;
 
 /// A number of two octets, and what stands behind it.
 pub(crate) fn u16_at(octets: &[u8]) -> Option<(u16, &[u8])>
