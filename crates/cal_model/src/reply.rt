@@ -1,5 +1,6 @@
 //! Replies.
 ghost use Rattle.std.specs.Prelude.{◌≡◌, ◌≤ℤ◌, pos, unsigned_abs};
+ghost use Rattle.cal_model.specs.Replies.BareReplies as bare;
 ghost use Rattle.cal_model.specs.Replies.DateField.{date_of_moment};
 ghost use Rattle.cal_model.specs.Replies.Etags.{etag_of};
 
@@ -7,6 +8,7 @@ use crate::path::Path;
 use cal_base::Octets;
 use httpdate::HttpDate;
 use sha2::{Digest, Sha256};
+use std::alloc::Global;
 
 /// The condition that a refusal names (RFC 4918, 16).
 #[derive(Drop)]
@@ -79,4 +81,17 @@ pub struct Reply {
     pub allow: Option<Path>,
     pub media: Media,
     pub body: Octets,
+}
+
+/// A reply that is a status alone. It takes no memory.
+pub fn bare_reply(alloc: Global, status: u16) -> Reply
+    ensures { result ≡ bare.bare_reply status }
+{
+    Reply {
+        status,
+        etag: None,
+        allow: None,
+        media: Media::None,
+        body: Octets::new(alloc),
+    }
 }
