@@ -3,3 +3,4 @@
 pub mod Alignment
 pub mod Starts
 pub mod Rows
+pub mod HappensOnce

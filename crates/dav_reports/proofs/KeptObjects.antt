@@ -42,11 +42,10 @@ use Rattle.cal_model.proofs.Words.AllLemmas.{All-each_part, All-flat_map, All-ri
 use Rattle.cal_model.proofs.Words.ListTests.{each_of}
 use Rattle.overlap_rules.specs.Bounds.{IsNearRow}
 use Rattle.override_merge.specs.Conversions.{IsConvertible, IsConvertibleExtent, IsShortLength}
+use Rattle.override_merge.specs.ExpandableComponents.{IsConvertibleEnd, IsConvertiblePeriod, IsExpandable}
 use Rattle.override_merge.proofs.ReadObjects.{HasConvertibleRows-read}
 use Rattle.override_merge.proofs.StampLemmas.{own_start_convertible}
-use Rattle.rrule_sets.specs.AskedStarts.{IsExpandable}
 use Rattle.rrule_sets.specs.CountedRows.{has_own_row}
-use Rattle.rrule_sets.specs.PeriodSpans.{IsConvertiblePeriod, IsConvertibleEnd}
 use Rattle.rrule_sets.proofs.DateStarts.{value_near}
 use Rattle.rrule_sets.proofs.ReadLemmas.{HasRowsToFind-read}
 use Rattle.rrule_sets.proofs.RowCounts.{length_rows}

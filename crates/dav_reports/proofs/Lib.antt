@@ -5,7 +5,6 @@ pub mod FirstRanges
 pub mod FreeBusyJoined
 pub mod HeldCosts
 pub mod KeptObjects
-pub mod LengthLemmas
 pub mod ListSteps
 pub mod LookedRows
 pub mod MetLemmas
@@ -21,7 +20,5 @@ pub mod SeenObjects
 pub mod SeenReports
 pub mod ShownLemmas
 pub mod StoredTimes
-pub mod StretchLemmas
 pub mod TimeClasses
 pub mod ToldRows
-pub mod WindowsFound

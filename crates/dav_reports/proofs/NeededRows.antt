@@ -26,7 +26,7 @@ use Rattle.cal_model.proofs.Words.CountedLemmas.{numbers_between-cut}
 use Rattle.cal_model.proofs.Words.IntegerLemmas.{same_int-self, same_int-true}
 use Rattle.cal_model.proofs.Words.ListTests.{any_filter, any_from, any_map, filter-filter, same_bool}
 use Rattle.dav_reports.specs.PieceRows.{IsKept}
-use Rattle.dav_reports.specs.Stretches.{places, window_of_place, windows_at}
+use Rattle.needed_windows.specs.Stretches.{places, window_of_place, windows_at}
 
 -- Windows of the dates that are served
 

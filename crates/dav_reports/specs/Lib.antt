@@ -2,7 +2,6 @@ pub mod AskedProperties
 pub mod CalendarObjects
 pub mod FreeBusyLines
 pub mod HeldWindows
-pub mod Lengths
 pub mod MetObjects
 pub mod NeededRows
 pub mod ObjectTimes
@@ -11,4 +10,3 @@ pub mod RangeDates
 pub mod ReportOutcomes
 pub mod SeenCalendars
 pub mod ShownObjects
-pub mod Stretches

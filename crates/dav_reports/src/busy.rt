@@ -4,7 +4,7 @@ ghost use Rattle.cal_model.specs.declared.object.Component.{Component};
 ghost use Rattle.cal_model.specs.declared.report.ReportRequest.TheVariants.{FreeBusy};
 ghost use Rattle.cal_model.specs.Busy.BusyTimes as spec;
 ghost use Rattle.cal_model.specs.Ranges.Cost.{cost};
-ghost use Rattle.cal_model.specs.Reports.NeededWindows.{windows_needed as needed_windows};
+ghost use Rattle.cal_model.specs.Reports.NeededWindows.{windows_needed};
 ghost use Rattle.cal_model.specs.TimeZones.TableBounds.{IsTable};
 ghost use Rattle.freebusy.specs.Times.{times_of};
 ghost use Rattle.overlap_rules.specs.Bounds.{IsNearRow};
@@ -12,12 +12,12 @@ ghost use Rattle.dav_reports.specs.ObjectTimes.{IsNearStored, stored_times, time
 ghost use Rattle.dav_reports.specs.PieceRows.{AreRowsOf, IsKept, windows_cost};
 
 use crate::rows::{missing_first, windows_for};
-use crate::windows::is_needed;
 use cal_base::{List, NoMemory, Steps};
 use cal_model::view::Pieces;
 use cal_model::{Class, Component, Kind, Object, Range, Row, ZoneTable};
 use cal_moment::Period;
 use freebusy::BusyRow;
+use needed_windows::is_needed;
 use overlap_rules::{fixed, stored_period};
 use rrule_sets::{only_row, windows_rows};
 use std::alloc::Global;
@@ -142,8 +142,8 @@ fn put_needed<P: Pieces, L: Ledger>(
     requires object { IsKept object.now }
     requires right { AreRowsOf (P.held pieces.now) origin object.now }
     requires zone { IsTable zone.now }
-    ensures steps { steps.new ≤ steps.old + windows_cost (P.held pieces.now) origin object.now (needed_windows object.now (FreeBusy range)) }
-    ensures times { OnOk result (times_of out.new ≡ times_of out.old ++ times_in zone.now object.now (needed_windows object.now (FreeBusy range))) }
+    ensures steps { steps.new ≤ steps.old + windows_cost (P.held pieces.now) origin object.now (windows_needed object.now (FreeBusy range)) }
+    ensures times { OnOk result (times_of out.new ≡ times_of out.old ++ times_in zone.now object.now (windows_needed object.now (FreeBusy range))) }
 {
     let Some((row, window)) = only_row(object) else {
         let windows = windows_for(alloc, object, &[range])?;
@@ -234,8 +234,8 @@ pub(crate) fn put_object<P: Pieces, L: Ledger>(
     requires object { IsKept object.now }
     requires right { AreRowsOf (P.held pieces.now) origin object.now }
     requires zone { IsTable zone.now }
-    ensures steps { steps.new ≤ steps.old + windows_cost (P.held pieces.now) origin object.now (needed_windows object.now (FreeBusy range)) }
-    ensures times { OnOk result (times_of out.new ≡ times_of out.old ++ times_by_windows zone.now object.now (needed_windows object.now (FreeBusy range))) }
+    ensures steps { steps.new ≤ steps.old + windows_cost (P.held pieces.now) origin object.now (windows_needed object.now (FreeBusy range)) }
+    ensures times { OnOk result (times_of out.new ≡ times_of out.old ++ times_by_windows zone.now object.now (windows_needed object.now (FreeBusy range))) }
 {
     put_needed(alloc, pieces, origin, object, range, zone, out, steps)?;
     put_stored(object.components.as_slice(), out)

@@ -10,7 +10,6 @@ mod busy;
 mod dates;
 mod free_busy;
 mod laws;
-mod margin;
 mod multiget;
 mod names;
 mod query;
@@ -21,7 +20,6 @@ mod rows;
 mod runs;
 mod shown_response;
 mod text;
-mod windows;
 mod zones;
 
 pub use laws::held_reports_are_free;

@@ -7,10 +7,10 @@ ghost use Rattle.cal_model.specs.Reports.NeededWindows.{counts, stated_windows};
 ghost use Rattle.dav_reports.specs.NeededRows.{rows_needed, rows_of};
 ghost use Rattle.dav_reports.specs.PieceRows.{AreRowsOf, IsKept, IsMissing, windows_cost};
 
-use crate::windows::{is_needed, windows_needed};
 use cal_base::{List, NoMemory, Steps};
 use cal_model::view::Pieces;
 use cal_model::{Object, Range, Row};
+use needed_windows::{is_needed, windows_needed};
 use override_merge::order::put_in_order;
 use override_merge::zones::local_times;
 use rrule_sets::{only_row, undated_rows, windows_rows};

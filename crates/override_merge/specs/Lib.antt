@@ -4,3 +4,4 @@ pub mod NamedStarts
 pub mod DayStarts
 pub mod Parts
 pub mod IdStarts
+pub mod ExpandableComponents

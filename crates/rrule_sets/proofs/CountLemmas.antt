@@ -25,11 +25,12 @@ use Rattle.cal_model.proofs.Instances.RisingLists.{AllPairs-head, AllPairs-tail,
 use Rattle.cal_model.proofs.Ranges.WindowLaws.{Contains-filter, Contains-unfilter}
 use Rattle.cal_model.proofs.Recurrence.SetStretches.{later_moments-All}
 use Rattle.override_merge.specs.Conversions.{HasZone}
+use Rattle.override_merge.specs.ExpandableComponents.{IsExpandable}
 use Rattle.override_merge.specs.NamedStarts.{IsNamesOf, days_in, has_name, named_beside, values_in}
 use Rattle.override_merge.proofs.NameLemmas.{has_name-is}
 use Rattle.override_merge.proofs.StampLemmas.{convertible_some, own_start_convertible}
 use Rattle.rrule_sets.specs.declared.count.Taken.{Taken}
-use Rattle.rrule_sets.specs.AskedStarts.{IsExpandable, exceptions_of}
+use Rattle.rrule_sets.specs.AskedStarts.{exceptions_of}
 use Rattle.rrule_sets.specs.CountedRows.{IsMasterOf, IsSearchable, IsTakenFrom, all_later, dates_in, is_moved_out, is_named_by, is_out, is_out_by, left_starts, master_starts, moves_out, other_starts, periods_in, rules_in, starts_of_master, unnamed_starts}
 use Rattle.rrule_sets.specs.HeldGovernors.{IsMovable, greatest_of, held}
 use Rattle.rrule_sets.specs.MasterRows.{masters_from}

@@ -27,10 +27,11 @@ use Rattle.cal_model.proofs.Ranges.WindowStretches.{local-instant}
 use Rattle.cal_model.proofs.Recurrence.SetStretches.{later_moments-exist, later_moments-All}
 use Rattle.cal_model.proofs.Words.AllLemmas.{All-everywhere, All-flat_map}
 use Rattle.override_merge.specs.Conversions.{IsConvertible, IsRowTime}
+use Rattle.override_merge.specs.ExpandableComponents.{IsConvertiblePeriod, IsExpandable}
 use Rattle.rrule_sets.specs.declared.range.Digits.{Digits}
-use Rattle.rrule_sets.specs.AskedStarts.{IsExpandable, later_starts, plain_of, spans_of}
+use Rattle.rrule_sets.specs.AskedStarts.{later_starts, plain_of, spans_of}
 use Rattle.rrule_sets.specs.DigitRanges.{in_digits, starts_in}
-use Rattle.rrule_sets.specs.PeriodSpans.{IsConvertiblePeriod, period_span, span_starts_in}
+use Rattle.rrule_sets.specs.PeriodSpans.{period_span, span_starts_in}
 use Rattle.rrule_sets.proofs.DateStarts.{IsNearRow, near_instant, value_near, date_start_near}
 use Rattle.rrule_sets.proofs.DigitLemmas.{IsOfRules, every_moment-of_rules}
 

@@ -11,6 +11,7 @@ use Rattle.cal_model.specs.declared.object.Object.{Object}
 use Rattle.cal_model.specs.declared.row.Row.{Row}
 use Rattle.cal_model.specs.declared.zone.ZoneTable.{ZoneTable}
 use Rattle.cal_model.specs.Instances.Alignment.{kind_of, value_of}
+use Rattle.cal_model.specs.Instances.HappensOnce.{is_plain, row_from_start, window_of_start}
 use Rattle.cal_model.specs.Instances.Starts.{end_of_extent, end_of_instance, is_date, own_start, recurs, starts_of}
 use Rattle.cal_model.specs.Instances.Rows.{Numbered, dated_rows, has_date, ids_start, lies_in_window, masters, numbered, numbered_from, overrides, row_at, rows, rows_in, starts, undated_rows}
 use Rattle.cal_model.specs.Recurrence.RecurrenceSet.{every_moment}
@@ -22,7 +23,6 @@ use Rattle.cal_model.specs.Objects.ObjectFacts.{IsRead}
 use Rattle.override_merge.specs.Conversions.{HasConvertibleRow, HasConvertibleRows, IsConvertible}
 use Rattle.override_merge.proofs.ReadObjects.{HasConvertibleRows-read}
 use Rattle.override_merge.proofs.StampLemmas.{convertible_some, own_start_convertible}
-use Rattle.rrule_sets.specs.HappensOnce.{is_plain, row_from_start, window_of_start}
 use Rattle.rrule_sets.proofs.WindowLemmas.{ids_first}
 
 -- what a plain component lacks

@@ -37,10 +37,9 @@ use Rattle.cal_model.proofs.Objects.TestedLines.{period_by}
 use Rattle.cal_model.proofs.Words.AllLemmas.{All-left, All-right}
 use Rattle.cal_model.proofs.Words.EachLemmas.{each-filter_map, each-flat_map}
 use Rattle.override_merge.specs.Conversions.{HasConvertibleRow, IsConvertible}
+use Rattle.override_merge.specs.ExpandableComponents.{IsConvertibleEnd, IsConvertiblePeriod, IsExpandable}
 use Rattle.override_merge.proofs.ReadObjects.{HasConvertibleRows-read, IsOneSigned, all_convertible, one_signed, short_parts}
-use Rattle.rrule_sets.specs.AskedStarts.{IsExpandable}
 use Rattle.rrule_sets.specs.ExpandableObjects.{HasRowsToFind}
-use Rattle.rrule_sets.specs.PeriodSpans.{IsConvertibleEnd, IsConvertiblePeriod}
 
 -- Ends of periods.
 

@@ -41,9 +41,10 @@ use Rattle.cal_model.proofs.Words.AllLemmas.{All-each_part, All-everywhere, All-
 use Rattle.cal_model.proofs.Words.EachLemmas.{both_hold}
 use Rattle.cal_model.proofs.Words.IntegerLemmas.{same_int-self, same_int-true}
 use Rattle.override_merge.specs.Conversions.{HasRowTimes, IsRowTime}
+use Rattle.override_merge.specs.ExpandableComponents.{IsExpandable}
 use Rattle.override_merge.specs.NamedStarts.{days_in, named_beside}
 use Rattle.rrule_sets.specs.declared.range.Digits.{Digits}
-use Rattle.rrule_sets.specs.AskedStarts.{IsExpandable, instance_row, instances_in}
+use Rattle.rrule_sets.specs.AskedStarts.{instance_row, instances_in}
 use Rattle.rrule_sets.specs.DigitRanges.{in_digits, starts_in}
 use Rattle.rrule_sets.specs.MasterRows.{governed_rows, masters_from, rows_of_master, starts_within}
 use Rattle.rrule_sets.specs.NeededDigits.{EndsBy, HasDay, HasMoved, HasWindow, days_needed, days_of_start, id_days}

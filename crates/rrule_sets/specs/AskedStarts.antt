@@ -1,5 +1,5 @@
--- What the starts of one component are made of before EXDATEs are taken off, and what its stamps and rules have to keep so that a program can find them.
-use Rattle.std.specs.Prelude.{◌≡◌, ℕ, false, All, List, [], ◌∷◌, map, filter, option_to_list, if◌then◌else◌, ℤ}
+-- What the starts of one component are made of before EXDATEs are taken off.
+use Rattle.std.specs.Prelude.{ℕ, List, [], ◌∷◌, map, filter, if◌then◌else◌, ℤ}
 use Rattle.std.specs.List.{list_any}
 use Rattle.cal_moment.specs.declared.stamp.Stamp.{Stamp}
 use Rattle.cal_model.specs.declared.object.Component.{Component}
@@ -11,14 +11,11 @@ use Rattle.cal_model.specs.declared.zone.ZoneTable.{ZoneTable}
 use Rattle.cal_model.specs.Instances.Alignment.{reading_of, value_of, written_moment, kind_of}
 use Rattle.cal_model.specs.Instances.Rows.{row_of}
 use Rattle.cal_model.specs.Instances.Starts.{end_of_extent, end_of_instance, latest_of, own_start, plain_starts, recurs, starts_from}
-use Rattle.cal_model.specs.Objects.ObjectFacts.{IsServed}
-use Rattle.cal_model.specs.Recurrence.NextPassing.{IsUsable, is_fine}
 use Rattle.cal_model.specs.Recurrence.RecurrenceSet.{every_moment, later_moments}
 use Rattle.cal_model.specs.Walks.KeptMoments.{starts_by}
-use Rattle.override_merge.specs.Conversions.{HasConvertibleRow, IsConvertible}
 use Rattle.rrule_sets.specs.declared.range.Digits.{Digits}
 use Rattle.rrule_sets.specs.DigitRanges.{starts_in}
-use Rattle.rrule_sets.specs.PeriodSpans.{IsConvertiblePeriod, ends_at, period_span}
+use Rattle.rrule_sets.specs.PeriodSpans.{ends_at, period_span}
 
 -- the starts of a rule behind its first one that lie in a range
 abbrev pub later_starts : List ZoneTable → Stamp → Digits → Rule → List ℤ
@@ -50,13 +47,3 @@ instance_row zones s c number r = row_of r r (end_of_instance every_moment zones
 -- the rows of the instances that start in a range
 abbrev pub instances_in : List ZoneTable → Stamp → Component → ℕ → Digits → List Row
 instances_in zones s c number range = map (instance_row zones s c number) (filter (starts_in zones s range) (starts_from every_moment zones c (own_start c)))
-
--- what a component has that was read, as far as its instances go
-pub record IsExpandable (zones : ℕ) (component : Component) : Type 0 where
-  pub row : HasConvertibleRow zones component
-  pub served : All IsServed (option_to_list component.start)
-  pub dates : All (IsConvertible zones) component.dates
-  pub periods : All (IsConvertiblePeriod zones) component.periods
-  pub except : All (IsConvertible zones) component.except
-  pub usable : All IsUsable component.rules
-  pub coarse : All (λ (rule : Rule). is_fine rule.freq ≡ false) component.rules

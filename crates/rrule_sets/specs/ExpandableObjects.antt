@@ -3,7 +3,7 @@ use Rattle.std.specs.Prelude.{All, length}
 use Rattle.cal_model.specs.declared.object.Object.{Object}
 use Rattle.cal_model.specs.Objects.ObjectFacts.{IsReadObject}
 use Rattle.override_merge.specs.Conversions.{HasConvertibleRows}
-use Rattle.rrule_sets.specs.AskedStarts.{IsExpandable}
+use Rattle.override_merge.specs.ExpandableComponents.{IsExpandable}
 
 pub record HasRowsToFind (object : Object) : Type 0 where
   pub read : IsReadObject object

@@ -11,5 +11,4 @@ pub mod ExpandableObjects
 pub mod CountedRows
 pub mod NearRows
 pub mod SeveralWindows
-pub mod HappensOnce
 pub mod EvenRules

@@ -1,23 +1,12 @@
 -- RDATE periods as the starts and ends of instances.
-use Rattle.std.specs.Prelude.{◌≡◌, ◌⊎◌, Bool, ℕ, List, map, filter, ℤ, ◌≤ℤ◌, ◌<ℤ◌}
+use Rattle.std.specs.Prelude.{◌≡◌, ◌⊎◌, Bool, List, map, filter, ℤ, ◌≤ℤ◌, ◌<ℤ◌}
 use Rattle.cal_model.specs.Words.Integers.{same_int}
 use Rattle.cal_moment.specs.declared.stamp.Period.{Period}
-use Rattle.cal_moment.specs.declared.stamp.PeriodEnd.{PeriodEnd}
-use Rattle.cal_moment.specs.declared.stamp.PeriodEnd.TheVariants.{At, After}
 use Rattle.cal_moment.specs.declared.stamp.Stamp.{Stamp}
 use Rattle.cal_model.specs.declared.zone.ZoneTable.{ZoneTable}
 use Rattle.cal_model.specs.Instances.Starts.{date_start, end_of_period}
-use Rattle.override_merge.specs.Conversions.{IsConvertible, IsShortLength}
 use Rattle.rrule_sets.specs.declared.range.Digits.{Digits}
 use Rattle.rrule_sets.specs.DigitRanges.{starts_in}
-
-abbrev pub IsConvertibleEnd : ℕ → PeriodEnd → Type 0
-IsConvertibleEnd zones (At end) = IsConvertible zones end
-IsConvertibleEnd zones (After length) = IsShortLength length
-
-pub record IsConvertiblePeriod (zones : ℕ) (period : Period) : Type 0 where
-  pub start : IsConvertible zones period.start
-  pub end : IsConvertibleEnd zones period.end
 
 -- the start and the end of a period beside the start s
 abbrev pub period_span : List ZoneTable → Stamp → Period → ℤ × ℤ

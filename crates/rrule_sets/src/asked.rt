@@ -5,8 +5,9 @@ ghost use Rattle.cal_model.specs.Instances.Alignment as alignment;
 ghost use Rattle.cal_model.specs.Instances.Starts as spec;
 ghost use Rattle.override_merge.specs.AlignedStamps.{aligned_by, HasDigits};
 ghost use Rattle.override_merge.specs.Conversions.{tables_of, HasZone, IsConvertible};
+ghost use Rattle.override_merge.specs.ExpandableComponents.{IsConvertibleEnd, IsConvertiblePeriod};
 ghost use Rattle.rrule_sets.specs.DigitRanges.{starts_in};
-ghost use Rattle.rrule_sets.specs.PeriodSpans.{IsConvertibleEnd, IsConvertiblePeriod, period_span, span_starts_in};
+ghost use Rattle.rrule_sets.specs.PeriodSpans.{period_span, span_starts_in};
 
 use crate::range::{Digits, holds};
 use cal_base::{List, NoMemory, Steps};

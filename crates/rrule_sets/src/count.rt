@@ -12,11 +12,10 @@ ghost use Rattle.cal_model.specs.Recurrence.NextPassing.{IsUsable, is_fine};
 ghost use Rattle.cal_model.specs.Recurrence.RecurrenceSet.{every_moment};
 ghost use Rattle.cal_model.specs.Walks.PickedRest.{IsPicks};
 ghost use Rattle.override_merge.specs.Conversions.{tables_of, HasConvertibleRow, HasZone, IsConvertible, IsRowTime};
-ghost use Rattle.rrule_sets.specs.AskedStarts.{IsExpandable};
+ghost use Rattle.override_merge.specs.ExpandableComponents.{IsConvertiblePeriod, IsExpandable};
 ghost use Rattle.rrule_sets.specs.CountedRows.{IsCountOf, IsMasterOf, IsSearchable, IsTakenFrom, IsTrimmed, all_later, dates_in, first_row, has_own_row, is_left, is_out, is_taken, left_starts, master_starts, other_starts, periods_in, rules_in, starts_of_walk};
 ghost use Rattle.rrule_sets.specs.ExpandableObjects.{HasRowsToFind};
 ghost use Rattle.rrule_sets.specs.HeldGovernors.{HasNoGreaterId, HoldsGovernors, IsMovable, days_of_movers};
-ghost use Rattle.rrule_sets.specs.PeriodSpans.{IsConvertiblePeriod};
 
 use crate::asked::date_start;
 use crate::ends::recurs;

@@ -1,12 +1,12 @@
 //! The row of an object that happens once. Two thirds of a calendar's objects do: their rows are found
 //! without a list and without a search in one.
 ghost use Rattle.std.specs.Prelude.{◌≡◌, ◌∷◌, [], length, false, true, Some, All, IfOk, IfSome, MatchOption, flat_map, is_some, ℤ, if◌then◌else◌};
+ghost use Rattle.cal_model.specs.Instances.HappensOnce.{is_plain, has_one_start, happens_once, row_from_start, window_of_start, IsOnlyRow};
 ghost use Rattle.cal_model.specs.Instances.Rows as spec;
 ghost use Rattle.cal_model.specs.Objects.ObjectFacts.{IsRead};
 ghost use Rattle.cal_model.specs.TimeZones.TableBounds.{IsTable};
 ghost use Rattle.cal_model.specs.Words.Integers.{same_int};
 ghost use Rattle.override_merge.specs.Conversions.{IsConvertible, IsConvertibleExtent};
-ghost use Rattle.rrule_sets.specs.HappensOnce.{is_plain, has_one_start, happens_once, row_from_start, window_of_start, IsOnlyRow};
 
 use crate::tables::{local_beside, own_end, value_of};
 use cal_base::{List, NoMemory};

@@ -4,7 +4,7 @@ ghost use Rattle.cal_model.specs.Instances.Rows as spec;
 ghost use Rattle.cal_model.specs.Objects.ObjectFacts.{IsRead};
 ghost use Rattle.cal_model.specs.Ranges.Cost.{cost};
 ghost use Rattle.override_merge.specs.Conversions.{tables_of};
-ghost use Rattle.rrule_sets.specs.AskedStarts.{IsExpandable};
+ghost use Rattle.override_merge.specs.ExpandableComponents.{IsExpandable};
 ghost use Rattle.rrule_sets.specs.ExpandableObjects.{HasRowsToFind};
 ghost use Rattle.rrule_sets.specs.MasterRows.{governed_rows, masters_cost, masters_from, rows_of_master};
 ghost use Rattle.rrule_sets.specs.NeededDigits.{EndsBy};

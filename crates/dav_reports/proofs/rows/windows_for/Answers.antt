@@ -1,7 +1,7 @@
 use Rattle.std.proofs.Common.{◌≡◌, ◌∙◌, ap, length, sym, subst}
 use Rattle.std.specs.Prelude.{All}
+use Rattle.override_merge.specs.ExpandableComponents.{IsExpandable}
 use Rattle.override_merge.proofs.MergeLemmas.{zones_count}
-use Rattle.rrule_sets.specs.AskedStarts.{IsExpandable}
 use Rattle.dav_reports.proofs.KeptObjects.{kept_components, kept_zones}
 use Rattle.dav_reports.proofs.rows.windows_for.Goals as goal
 

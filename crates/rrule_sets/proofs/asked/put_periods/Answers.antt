@@ -2,7 +2,8 @@ use Rattle.std.proofs.Common.{arith}
 use Rattle.std.specs.Prelude.{length}
 use Rattle.std.proofs.lemmas.List.Elements.{All-tail}
 use Rattle.override_merge.specs.Conversions.{tables_of}
-use Rattle.rrule_sets.specs.PeriodSpans.{IsConvertiblePeriod, period_span, span_starts_in}
+use Rattle.override_merge.specs.ExpandableComponents.{IsConvertiblePeriod}
+use Rattle.rrule_sets.specs.PeriodSpans.{period_span, span_starts_in}
 use Rattle.rrule_sets.proofs.AskedLemmas.{kept_more}
 use Rattle.rrule_sets.proofs.asked.put_periods.Goals as goal
 

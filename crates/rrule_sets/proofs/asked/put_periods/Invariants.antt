@@ -1,7 +1,8 @@
 use Rattle.std.proofs.Common.{◌≡◌, ◌+◌, ◌≤◌, ◌++◌, length, map}
 use Rattle.std.specs.Prelude.{All, filter}
 use Rattle.override_merge.specs.Conversions.{tables_of}
-use Rattle.rrule_sets.specs.PeriodSpans.{IsConvertiblePeriod, period_span, span_starts_in}
+use Rattle.override_merge.specs.ExpandableComponents.{IsConvertiblePeriod}
+use Rattle.rrule_sets.specs.PeriodSpans.{period_span, span_starts_in}
 use Rattle.rrule_sets.proofs.asked.put_periods.Given as goal
 
 -- the periods so far, and those that are left

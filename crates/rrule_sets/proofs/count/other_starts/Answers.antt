@@ -5,7 +5,7 @@ use Rattle.cal_model.specs.Instances.Starts.{date_start}
 use Rattle.rrule_sets.specs.CountedRows.{dates_in, is_left, periods_in}
 use Rattle.std.specs.Prelude.{length}
 use Rattle.override_merge.specs.Conversions.{IsConvertible, tables_of}
-use Rattle.rrule_sets.specs.PeriodSpans.{IsConvertiblePeriod}
+use Rattle.override_merge.specs.ExpandableComponents.{IsConvertiblePeriod}
 use Rattle.rrule_sets.proofs.CountLemmas.{dates_kept, others_made, periods_kept}
 use Rattle.rrule_sets.proofs.count.other_starts.Goals as goal
 

@@ -2,7 +2,7 @@ use Rattle.std.proofs.Common.{rules, length, FitsSigned, w64, to_z-of_z}
 use Rattle.std.proofs.lemmas.List.Elements.{All-tail}
 use Rattle.cal_model.specs.Instances.Starts.{date_start}
 use Rattle.override_merge.specs.Conversions.{tables_of}
-use Rattle.rrule_sets.specs.PeriodSpans.{IsConvertiblePeriod}
+use Rattle.override_merge.specs.ExpandableComponents.{IsConvertiblePeriod}
 use Rattle.cal_moment.specs.declared.stamp.Period.{Period}
 use Rattle.rrule_sets.specs.CountedRows.{is_left}
 use Rattle.rrule_sets.proofs.AskedLemmas.{kept_more}

@@ -2,7 +2,7 @@ use Rattle.std.proofs.Common.{◌≡◌, ◌++◌, length, map}
 use Rattle.std.specs.Prelude.{All, filter}
 use Rattle.cal_model.specs.Instances.Starts.{date_start}
 use Rattle.override_merge.specs.Conversions.{tables_of}
-use Rattle.rrule_sets.specs.PeriodSpans.{IsConvertiblePeriod}
+use Rattle.override_merge.specs.ExpandableComponents.{IsConvertiblePeriod}
 use Rattle.cal_moment.specs.declared.stamp.Period.{Period}
 use Rattle.rrule_sets.specs.CountedRows.{is_left}
 use Rattle.rrule_sets.proofs.count.put_left_periods.Given as goal

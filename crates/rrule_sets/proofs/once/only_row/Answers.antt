@@ -1,6 +1,6 @@
 use Rattle.std.proofs.Common.{◌∙◌, ap, List}
 use Rattle.cal_model.specs.declared.zone.ZoneTable.{ZoneTable}
-use Rattle.rrule_sets.specs.HappensOnce.{row_from_start, window_of_start}
+use Rattle.cal_model.specs.Instances.HappensOnce.{row_from_start, window_of_start}
 use Rattle.rrule_sets.proofs.OnceLemmas.{convertible_once, plain_is, row_convertible, rows_once, start_convertible}
 use Rattle.rrule_sets.proofs.once.only_row.Goals as goal
 
