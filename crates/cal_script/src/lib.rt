@@ -24,6 +24,6 @@ mod users;
 mod words;
 
 pub use command::{ScriptEnd, run_script};
-pub use laws::readers_see_alike;
+pub use laws::{readers_see_alike, script_laws};
 pub use running::{FrameEnd, FramesOn, frames_on, run_frames};
 pub use users::{NoUsers, take_users};
