@@ -1,5 +1,5 @@
 -- What is not refused is done.
-use Rattle.std.proofs.Common.{◌≡◌, ℕ, Bool, true, false, ◌≤◌, not, ◌&&◌, ◌||◌, List, [], ◌∷◌, ◌++◌, map, length, Option, Some, None, refl, ap, ◌∙◌, subst}
+use Rattle.std.proofs.Common.{◌≡◌, ℕ, Bool, true, false, ◌≤◌, not, ◌&&◌, ◌||◌, List, [], ◌∷◌, ◌++◌, map, length, Option, Some, None, refl, sym, ap, ◌∙◌, subst}
 use Rattle.std.specs.Prelude.{is_none, is_some, unwrap_or, option_and_then, ℤ, IsTrue, codes}
 use Rattle.std.proofs.lemmas.Bool.{false≢true, le-ltb}
 use Rattle.std.proofs.lemmas.List.Elements.{All-head, All-tail}
@@ -10,9 +10,12 @@ use Rattle.cal_model.specs.declared.reply.Refusal.{Refusal}
 use Rattle.cal_model.specs.declared.reply.Reply.{Reply}
 use Rattle.cal_model.specs.declared.report.ReportRequest.{ReportRequest}
 use Rattle.cal_model.specs.declared.report.ReportRequest.TheVariants.{Query, Multiget, FreeBusy}
+use Rattle.cal_model.specs.declared.request.Content.{Content}
 use Rattle.cal_model.specs.declared.request.Content.TheVariants as content
 use Rattle.cal_model.specs.declared.request.Event.{Event}
-use Rattle.cal_model.specs.declared.request.Method.TheVariants.{Report}
+use Rattle.cal_model.specs.declared.request.Method.{Method}
+use Rattle.cal_model.specs.declared.request.Method.TheVariants as method
+use Rattle.cal_model.specs.declared.request.Method.TheVariants.{Report, Get, Head}
 use Rattle.cal_model.specs.declared.request.Request.{Request}
 use Rattle.cal_model.specs.Access.Privileges.{has_all, read, read_free_busy}
 use Rattle.cal_model.specs.Bodies.Refusals.{dav_refusal}
@@ -23,22 +26,23 @@ use Rattle.cal_model.specs.Refusals.ReportRefusals.{report_faults}
 use Rattle.cal_model.specs.Refusals.RequestLimits.{answer_limit}
 use Rattle.cal_model.specs.Refusals.SharedRefusals.{fault_of, held, is_conditional, is_missing, is_options, is_object_missing, makes_or_asks, need, shared_rows, unmet}
 use Rattle.cal_model.specs.Replies.BareReplies.{bare_reply}
-use Rattle.cal_model.specs.Requests.BookableRequests.{Suits}
+use Rattle.cal_model.specs.Requests.BookableRequests.{Suits, is_plain}
 use Rattle.cal_model.specs.Requests.Methods.{has_method}
 use Rattle.cal_model.specs.Serving.EventReplies.{reply_of, reply_to}
 use Rattle.cal_model.specs.Serving.Outcomes.{changed, is_reading, outcome, outcome_where, rows_of_change, scene_by, unless_refused}
-use Rattle.cal_model.specs.Serving.ReadingReplies.{answer_of, content_reply, report_reply, report_rows, too_long}
+use Rattle.cal_model.specs.Serving.ReadingReplies.{answer_of, content_reply, get_reply, reading_reply, report_reply, report_rows, too_long}
 use Rattle.cal_model.specs.Sight.Scenes.{Scene, at_both, held_in, calendar_in, object_in, scene_at}
 use Rattle.cal_model.specs.Sight.Views.{Sight, sight_of, whole_sight}
 use Rattle.cal_model.specs.State.Changes.{change_of}
 use Rattle.cal_model.specs.State.ServerState.{Directory, ServerState}
-use Rattle.cal_model.proofs.History.ReplayLaws.{NoRow, first_there-none}
+use Rattle.cal_model.proofs.History.ReplayLaws.{NoRow, first_there-none, no_row}
 use Rattle.cal_model.proofs.Sight.LookingAlikeLaws.{outcome-reading}
 use Rattle.dav_reports.specs.ReportOutcomes.{privilege_needed}
 use Rattle.dav_reports.proofs.BusyBodies.{some_there}
 use Rattle.cal_book.specs.Answering.OwnReplies.{IsUnrefused, own_reply}
-use Rattle.cal_book.specs.Completeness.{NoneRefuses, answered_status, ReportsAreAnswered, ChangesAreMade}
-use Rattle.cal_book.proofs.Answering.OwnRows.{first-behind, reading-unrefused}
+use Rattle.cal_book.specs.Completeness.{NoneRefuses, answered_status, reading_status, rows_of_reading, ReportsAreAnswered, ReadingsAreAnswered, ChangesAreMade}
+use Rattle.cal_book.proofs.Answering.OwnRows.{first-behind, need-held, reading-unrefused, unrefused-good, unrefused-met}
+use Rattle.cal_book.proofs.Checking.PassedLemmas.{not_when}
 use Rattle.cal_book.proofs.ReasonLaws.{ShowsAll, change-some, held-sight, scene-shows}
 
 -- Rows
@@ -160,6 +164,106 @@ reports_are_answered users directory state event report bookable what holds none
     let seen = held-sight scene (privilege_needed report) (nothing-held report) holds in
     let is = report-shown directory state event report how what bookable.allowed seen holds none short in
     (is, ap (λ (reply : Reply). reply.status) is ∙ report-status scene event.moment report (scene-shows directory state event.who event.request.path) seen)
+
+-- Readings
+
+-- a GET or a HEAD is of an object
+get-object : (path : Path) → IsTrue (has_method path Get) → is_some (object_in path) ≡ true
+get-object Root has = absurd (false≢true has)
+get-object (Principal user) has = absurd (false≢true has)
+get-object (Home user) has = absurd (false≢true has)
+get-object (Calendar user calendar) has = absurd (false≢true has)
+get-object (Object user calendar object) has = refl
+
+head-object : (path : Path) → IsTrue (has_method path Head) → is_some (object_in path) ≡ true
+head-object Root has = absurd (false≢true has)
+head-object (Principal user) has = absurd (false≢true has)
+head-object (Home user) has = absurd (false≢true has)
+head-object (Calendar user calendar) has = absurd (false≢true has)
+head-object (Object user calendar object) has = refl
+
+-- a method without a content asks for nothing that is answered 207
+plain-status : (how : Method) (what : Content) → is_plain how ≡ true → Suits how what → reading_status what ≡ 200
+plain-status how content.None plain suits = refl
+plain-status how (content.Put media_ok octets) plain suits = refl
+plain-status how (content.Find props deep) plain suits = absurd (false≢true (sym (ap is_plain suits.0) ∙ plain))
+plain-status how (content.Patch sets) plain suits = refl
+plain-status how (content.Make sets) plain suits = refl
+plain-status how (content.Acl grants) plain suits = refl
+plain-status how (content.Report report) plain suits = absurd (false≢true (sym (ap is_plain suits.0) ∙ plain))
+plain-status how (content.Bad refusal) plain suits = refl
+
+-- what a method answers whose content suits it
+module _ (scene : Scene) (moment : ℤ) (request : Request) (shows : ShowsAll scene) where
+  abbrev answer_with : Method → Content → Reply
+  answer_with how what = answer_of scene moment (record request { content = what }) how
+
+  object-there : is_some (object_in scene.path) ≡ true → is_some (object_in scene.path) && is_none scene.object ≡ false → is_none scene.object ≡ false
+  object-there of_object there = sym (ap (λ is. is && is_none scene.object) of_object) ∙ there
+
+  get-status : (object : Option (List ℕ)) → scene.object ≡ object → is_none object ≡ false → (get_reply scene).status ≡ 200
+  get-status None e there = absurd (false≢true (sym there))
+  get-status (Some octets) e there = rw e refl
+
+  find-status : (what : Content) → Suits method.Propfind what → fault_of what ≡ None → (answer_with method.Propfind what).status ≡ reading_status what
+  find-status content.None suits good = absurd (false≢true suits)
+  find-status (content.Put media_ok octets) suits good = absurd cc
+  find-status (content.Find props deep) suits good = refl
+  find-status (content.Patch sets) suits good = absurd cc
+  find-status (content.Make sets) suits good = absurd cc
+  find-status (content.Acl grants) suits good = let never = suits.0 in absurd cc
+  find-status (content.Report report) suits good = let never = suits.0 in absurd cc
+  find-status (content.Bad refusal) suits good = absurd cc
+
+  asked-status : (what : Content) → Suits Report what → fault_of what ≡ None → unmet scene (need scene Report what) ≡ None → (answer_with Report what).status ≡ reading_status what
+  asked-status content.None suits good met = absurd (false≢true suits)
+  asked-status (content.Put media_ok octets) suits good met = absurd cc
+  asked-status (content.Find props deep) suits good met = let never = suits.0 in absurd cc
+  asked-status (content.Patch sets) suits good met = absurd cc
+  asked-status (content.Make sets) suits good met = absurd cc
+  asked-status (content.Acl grants) suits good met = let never = suits.0 in absurd cc
+  asked-status (content.Report report) suits good met =
+      report-status scene moment report shows (held-sight scene (privilege_needed report) (nothing-held report) (need-held scene report met))
+  asked-status (content.Bad refusal) suits good met = absurd cc
+
+  answer-status : (how : Method) (what : Content) → is_reading how ≡ true → IsTrue (has_method scene.path how) → Suits how what → is_object_missing how scene ≡ false
+      → fault_of what ≡ None → unmet scene (need scene how what) ≡ None → (answer_with how what).status ≡ reading_status what
+  answer-status method.Options what reads has suits there good met = sym (plain-status method.Options what refl suits)
+  answer-status method.Get what reads has suits there good met =
+      get-status scene.object refl (object-there (get-object scene.path has) there) ∙ sym (plain-status method.Get what refl suits)
+  answer-status method.Head what reads has suits there good met =
+      get-status scene.object refl (object-there (head-object scene.path has) there) ∙ sym (plain-status method.Head what refl suits)
+  answer-status method.Put what reads has suits there good met = absurd (false≢true reads)
+  answer-status method.Delete what reads has suits there good met = absurd (false≢true reads)
+  answer-status method.Propfind what reads has suits there good met = find-status what suits good
+  answer-status method.Proppatch what reads has suits there good met = absurd (false≢true reads)
+  answer-status method.Report what reads has suits there good met = asked-status what suits good met
+  answer-status method.Mkcalendar what reads has suits there good met = absurd (false≢true reads)
+  answer-status method.Acl what reads has suits there good met = absurd (false≢true reads)
+
+unrefused-there : (scene : Scene) (request : Request) → IsUnrefused scene request → is_object_missing request.method scene ≡ false
+unfolding shared_rows
+unrefused-there scene request none = not_when _ _ (no_row (shared_rows scene request) none).1.1.0
+
+answer-given : (scene : Scene) (moment : ℤ) (request : Request) → NoRow (rows_of_reading scene moment request) → reading_reply scene moment request ≡ answer_of scene moment request request.method
+unfolding reading_reply
+answer-given scene moment request none = ap (λ row. unwrap_or row (answer_of scene moment request request.method)) (first_there-none (rows_of_reading scene moment request) none)
+
+path-kept : (directory : Directory) (state : ServerState) (event : Event) → event.request.path ≡ (scene_by sight_of directory state event).path
+unfolding scene_at
+path-kept directory state event = refl
+
+pub readings_are_answered : ReadingsAreAnswered
+readings_are_answered users directory state event bookable reads none =
+    let scene = scene_by sight_of directory state event in
+    let request = event.request in
+    let free = rows-none (rows_of_reading scene event.moment request) none in
+    let unrefused = first_there-none (shared_rows scene request) (first-front (shared_rows scene request) _ free) in
+    let allowed = subst (λ (path : Path). IsTrue (has_method path request.method)) (path-kept directory state event) bookable.allowed in (
+      ap (reply_of request) (outcome-reading directory state event reads) ∙ answer-given scene event.moment request free,
+      answer-status scene event.moment request (scene-shows directory state event.who request.path) request.method request.content reads allowed bookable.suits
+          (unrefused-there scene request unrefused) (unrefused-good scene request unrefused) (unrefused-met scene request unrefused),
+    )
 
 -- Changes
 

@@ -39,7 +39,7 @@ use Rattle.cal_model.specs.Refusals.Preconditions.{Reading, put_table, date_refu
 use Rattle.cal_model.specs.State.Changes.{Change, change_of, change_at, change_of_object, change_of_calendar}
 use Rattle.cal_model.specs.Sight.Scenes.{Scene, scene_at, at_both, visible_home, held_in, user_in, calendar_in}
 use Rattle.cal_model.specs.Refusals.SharedRefusals.{shared_rows, is_missing, unmet, Need, nothing, held, owned, need, fault_of, not_modified, is_get}
-use Rattle.cal_model.specs.Serving.ReadingReplies.{reading_reply, answer_of, content_reply, report_reply, reply_over_contents, get_reply, report_rows}
+use Rattle.cal_model.specs.Serving.ReadingReplies.{reading_reply, answer_of, report_reply, reply_over_contents, get_reply, report_rows}
 use Rattle.cal_model.specs.Refusals.ChangeRefusals.{own_rows, put_rows, put_faults, make_rows, patch_rows, acl_rows, contents_in}
 use Rattle.cal_model.specs.Serving.Outcomes.{Outcome, accepted, unchanged, outcome, outcome_where, changed, changing_outcome, unless_refused, accepted_status, scene_by, is_reading}
 use Rattle.cal_model.specs.Serving.EventReplies.{reply_of, reply_to, reply_to_change}

@@ -2,14 +2,14 @@
 ghost use Rattle.std.specs.Prelude.{◌++◌, List};
 ghost use Rattle.cal_model.specs.History.HistoryLaws.{AcceptedIsReplayed, AcceptedKeepsLegal, BeginningsAreLegal, PiecesStayRight, OriginsFollow};
 ghost use Rattle.cal_model.specs.History.Journal.{Entry};
-ghost use Rattle.cal_model.specs.Serving.ServingLaws.{AcceptedHasItsEffect, StatesStaySound, ShownRunsAreTheCalendars};
+ghost use Rattle.cal_model.specs.Serving.ServingLaws.{AcceptedHasItsEffect, StatesStaySound, NoReplyWantsMemory, ShownRunsAreTheCalendars};
 ghost use Rattle.cal_model.specs.Sight.SightLaws.{RepliesAreAlike, ReadingChangesNothing, HiddenIsAbsent, ViewsDecide};
 ghost use Rattle.cal_book.specs.Answering.HeldReadings.{HeldReadingsAreFree};
 ghost use Rattle.cal_book.specs.EventSteps.{JournalsFollow};
 ghost use Rattle.cal_book.specs.LegalJournals.{LegalIsTold};
 ghost use Rattle.cal_book.specs.Publishing.{IsClaimIn};
 ghost use Rattle.cal_book.specs.ReplyReasons.{RepliesHaveReasons};
-ghost use Rattle.cal_book.specs.Completeness.{ReportsAreAnswered, ChangesAreMade};
+ghost use Rattle.cal_book.specs.Completeness.{ReportsAreAnswered, ReadingsAreAnswered, ChangesAreMade};
 ghost use Rattle.cal_book.specs.declared.claims.Claim.{Claim};
 
 /// The journal after an event is legal, and leads to the state after the event.
@@ -40,11 +40,14 @@ pub fn held_readings_are_free()
 {}
 
 /// What is not refused is done, in any state: a report whose caller holds what it needs is answered 207,
-/// or 200 for busy times, unless a row of its own refuses it or the answer is too long; and a change is
-/// made unless a row refuses it.
+/// or 200 for busy times, unless a row of its own refuses it or the answer is too long; each request
+/// that only reads is answered 200 or 207 unless a row refuses it; a change is made unless a row refuses
+/// it; and no reply is 503 unless the content of its request is that refusal.
 pub fn requests_are_complete()
     ensures reported { ReportsAreAnswered }
+    ensures answered { ReadingsAreAnswered }
     ensures changed { ChangesAreMade }
+    ensures no_want { NoReplyWantsMemory }
 {}
 
 /// What journals promise: an accepted change has its effect and no other, is accepted again from its
