@@ -144,7 +144,7 @@ module _ (users : Users) (told : Option ℤ) (start now next : PassState Entry U
 
       shorter : (many : ℕ) → many < length octets → length (replies_of r.answers ++ take many octets) < length (replies_of (r.answers ++ a ∷ []))
       shorter many few =
-          let all = ap length (replies_further r.answers a) in
+          let all : length (replies_of (r.answers ++ a ∷ [])) ≡ length (replies_of r.answers ++ octets) = ap length (replies_further r.answers a) in
           let whole = length-append (replies_of r.answers) octets in
           let written = length-append (replies_of r.answers) (take many octets) in
           let front = length-take-le many octets (omega (arith, few)) in

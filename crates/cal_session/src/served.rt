@@ -27,7 +27,7 @@ pub enum How {
     WireRefused(WireFault),
     /// A read failed.
     ReadFault,
-    /// A write failed.
+    /// A write failed, and not all was written.
     WriteFault,
     /// There was no memory.
     NoMemory,

@@ -31,8 +31,9 @@ const PIECE: usize = 16_384;
 ///
 /// The replies are those of the users' one history, each at the place that its turn tells, or 503 for
 /// want of memory; what the session changed stands there once each, under the pass's number. What was
-/// written is the replies in order. After a write that failed or for want of memory all or a part of
-/// the last one may be missing. The desk's fault comes back where the desk broke when it was asked.
+/// written is the replies in order. After a write that failed all or a part of the last one is
+/// missing, and for want of memory it may be. The desk's fault comes back where the desk broke when
+/// it was asked.
 pub fn serve_on<B: Desk, L: Link, C: Clock, R: Wait>(
     rt: &R,
     alloc: Global,
