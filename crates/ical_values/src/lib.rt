@@ -7,6 +7,7 @@
 //! The reader of calendar objects and the filters build on it.
 #![tactic(auto)]
 
+mod alarms;
 mod cuts;
 mod escapes;
 mod fault;
@@ -28,9 +29,10 @@ mod rule_until;
 mod rule_words;
 mod single;
 mod stamps;
-mod words;
 mod zones;
 
+pub use alarms::{alarm_of, is_alarm, length_in, one_of};
+pub use cuts::{cut, first_piece};
 pub use escapes::unescape;
 pub use fault::ValueFault;
 pub use numbers::{read_integer, read_repeat};
@@ -39,5 +41,4 @@ pub use periods::{read_periods, read_periods_of_any_zone};
 pub use rule::read_rule;
 pub use single::{read_busy_type, read_duration, read_moment, read_trigger, read_utc_offset};
 pub use stamps::{read_stamp, read_stamps, read_stamps_of_any_zone};
-pub use words::is_word;
 pub use zones::ZoneNames;

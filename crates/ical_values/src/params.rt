@@ -5,8 +5,7 @@ ghost use Rattle.cal_base.specs.Lines.ComponentTrees.{first};
 ghost use Rattle.cal_model.specs.Values.StampTexts.{param_is, param_value};
 ghost use Rattle.ical_values.specs.Parts.{text_there, param_there};
 
-use crate::words::is_word;
-use cal_base::{Line, Octets, Param};
+use cal_base::{Line, Octets, Param, is_word};
 
 /// The first value of a line's first parameter of a name, which is upper case; other values and
 /// later parameters of the name do not count.

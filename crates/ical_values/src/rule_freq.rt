@@ -8,7 +8,7 @@ ghost use Rattle.ical_values.specs.RuleFreqs.{allows, freq_common, freq_part};
 ghost use Rattle.ical_values.specs.RuleWords.{words_of};
 
 use crate::rule_words::common;
-use crate::words::is_word;
+use cal_base::is_word;
 use cal_model::Freq;
 use cal_moment::Bad;
 

@@ -5,8 +5,7 @@ ghost use Rattle.cal_base.specs.Texts.Text.{raised_all};
 ghost use Rattle.ical_values.specs.RuleParts.{name_of, named_in, part_named, put, put_counts, put_places};
 
 use crate::rule_lists::{CountForm, PlaceForm};
-use crate::words::is_word;
-use cal_base::List;
+use cal_base::{List, is_word};
 use cal_model::{DayPart, Freq, Rule, Until};
 
 /// A part that has a meaning.

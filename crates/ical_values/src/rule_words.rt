@@ -6,7 +6,7 @@ ghost use Rattle.cal_model.specs.Values.BadValues.{Reads};
 ghost use Rattle.cal_model.specs.Values.RuleTexts.{weekday_named, weekdays};
 ghost use Rattle.ical_values.specs.RuleWords.{common, most_common};
 
-use crate::words::{is_word, raised};
+use cal_base::{is_word, raised};
 use cal_moment::Bad;
 
 /// How many octets a text and a word, whose letters are upper case, have in common from the front,

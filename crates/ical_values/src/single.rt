@@ -10,8 +10,7 @@ ghost use Rattle.cal_model.specs.Values.RuleTexts.{word_of};
 ghost use Rattle.ical_values.specs.LineTexts.{trigger_by_value};
 
 use crate::params::{param_is, param_value};
-use crate::words::is_word;
-use cal_base::Line;
+use cal_base::{Line, is_word};
 use cal_model::{Class, Related, Trigger};
 use cal_moment::{Bad, Length, Local, Utc, read_date_time, read_length, read_offset};
 
