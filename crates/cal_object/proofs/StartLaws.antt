@@ -1,18 +1,11 @@
--- The start beside which the RECURRENCE-IDs of an object are aligned, component by component; and one more zone at hand.
+-- The start beside which the RECURRENCE-IDs of an object are aligned, component by component.
 use Rattle.std.proofs.Common.{◌≡◌, ℕ, ◌+◌, List, [], ◌∷◌, ◌++◌, refl, sym, ap, ◌∙◌}
 use Rattle.std.specs.Prelude.{filter, filter_map, not, Option, Some, None}
 use Rattle.cal_moment.specs.declared.stamp.Stamp.{Stamp}
-use Rattle.cal_model.specs.declared.local_times.LocalTimes.{LocalTimes}
 use Rattle.cal_model.specs.declared.object.Component.{Component}
 use Rattle.cal_model.specs.declared.object.Object.{Object}
-use Rattle.cal_model.specs.declared.zone.ZoneTable.{ZoneTable}
 use Rattle.cal_model.specs.Instances.Rows.{Numbered, numbered_from, has_id, master_stamp, first_of, ids_start, start_or_due}
-use Rattle.cal_object.specs.Alignments.{tables_of}
 use Rattle.cal_object.specs.Identifiers.{master_stamps, id_stamps}
-
-pub tables_more : (zones : List LocalTimes) (times : LocalTimes) (rest : List ZoneTable) → tables_of (zones ++ times ∷ []) ++ rest ≡ tables_of zones ++ times.table.now ∷ rest
-tables_more [] times rest = refl
-tables_more (z ∷ zs) times rest = ap (λ ts. z.table.now ∷ ts) (tables_more zs times rest)
 
 first_of-append : (xs ys : List Stamp) (one : Option Stamp) → one ≡ first_of xs → first_of (xs ++ ys) ≡ elim one as (λ _. Option Stamp) [ Some x ↦ Some x | None ↦ first_of ys ]
 first_of-append [] ys one e = rw e refl

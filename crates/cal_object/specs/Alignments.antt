@@ -1,26 +1,16 @@
 -- Stamps beside a start, with the zones of an object at hand.
-use Rattle.std.specs.Prelude.{ℕ, ◌<◌, List, map}
+use Rattle.std.specs.Prelude.{ℕ}
 use Rattle.cal_moment.specs.declared.stamp.Stamp.{Stamp}
-use Rattle.cal_moment.specs.declared.stamp.Stamp.TheVariants.{Floating, Zoned}
-use Rattle.cal_model.specs.declared.local_times.LocalTimes.{LocalTimes}
-use Rattle.cal_model.specs.declared.zone.ZoneTable.{ZoneTable}
+use Rattle.cal_moment.specs.declared.stamp.Stamp.TheVariants.{Floating}
 use Rattle.cal_model.specs.Instances.Alignment as spec
+pub use Rattle.cal_model.specs.TimeZones.ZonesAtHand.{tables_of, HasZone}
 use Rattle.cal_object.specs.declared.aligned.Aligned.{Aligned}
 use Rattle.cal_object.specs.declared.aligned.Aligned.TheVariants.{At, OnDay}
-
--- the zones whose local times are at hand
-abbrev pub tables_of : List LocalTimes → List ZoneTable
-tables_of zones = map (λ (times : LocalTimes). times.table.now) zones
 
 -- what a stamp says beside a start, as the definition has it
 abbrev pub aligned_by : Aligned → spec.Aligned
 aligned_by (At value) = spec.at value
 aligned_by (OnDay midnight) = spec.on_day midnight
-
--- the zone of a stamp is one of so many
-abbrev pub HasZone : ℕ → Stamp → Type 0
-HasZone zones (Zoned local number) = number < zones
-HasZone zones other = Unit {0}
 
 -- the zone in which a stamp is read beside a zoned start is one of so many: its own, or of a floating one that of the start
 abbrev pub HasZoneBeside : ℕ → Stamp → Stamp → Type 0

@@ -8,7 +8,7 @@ ghost use Rattle.cal_object.specs.Alignments.{tables_of, aligned_by, HasZone, Ha
 ghost use Rattle.cal_object.specs.PartDates.{HasMoment};
 
 use crate::local_times::instant_in;
-use cal_model::LocalTimes;
+use cal_model::{LocalTimes, written_value};
 use cal_moment::{Local, Stamp};
 
 const DAY: i64 = 86_400;
@@ -20,17 +20,6 @@ pub(crate) enum Aligned {
     At(i64),
     /// A local day, by its midnight.
     OnDay(i64),
-}
-
-/// The digits that a stamp is written with, in seconds since 1970; of a DATE those of its midnight.
-pub(crate) fn written_value(stamp: Stamp) -> i64
-    ensures { result ≡ spec.written_value stamp }
-{
-    match stamp {
-        Stamp::Date(day) => day.0 as i64 * DAY,
-        Stamp::Floating(local) | Stamp::Zoned(local, _) => digits_of(local),
-        Stamp::Utc(moment) => moment.0,
-    }
 }
 
 /// The digits of a local time.

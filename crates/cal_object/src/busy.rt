@@ -7,11 +7,11 @@ ghost use Rattle.cal_model.specs.Objects.LineValues.{periods_in};
 ghost use Rattle.cal_object.specs.Classes.{with_class, busy_periods_in};
 
 use crate::dates::periods_in;
-use crate::named::{has_name, one_of};
-use cal_base::{Line, List, NoMemory};
+use crate::named::has_name;
+use cal_base::{Line, List, NoMemory, is_word};
 use cal_model::{Class, Kind};
 use cal_moment::Period;
-use ical_values::{ZoneNames, is_word, read_busy_type};
+use ical_values::{ZoneNames, one_of, read_busy_type};
 use std::alloc::Global;
 
 /// Whether the first line of a name says a word, which is upper case, without ASCII case.

@@ -11,12 +11,11 @@ use crate::busy::{busy_of, stored_busy_of};
 use crate::ends::read_extent;
 use crate::kinds::has_future;
 use crate::line_dates::{periods_at, stamp_at, stamps_at};
-use crate::named::one_of;
 use crate::zone_dates::rules_of;
 use cal_base::{Line, List, NoMemory, Node};
 use cal_model::{Component, Kind, Rule};
 use cal_moment::{Period, Stamp, Utc};
-use ical_values::{ZoneNames, read_moment};
+use ical_values::{ZoneNames, one_of, read_moment};
 use std::alloc::Global;
 
 /// What the lines of a component say of its further instances.

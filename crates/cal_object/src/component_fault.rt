@@ -17,14 +17,13 @@ ghost use Rattle.cal_object.specs.Alignments.{tables_of, aligned_by};
 ghost use Rattle.cal_object.specs.BadDates.{has_bad_dates};
 ghost use Rattle.cal_object.specs.Classes.{period_of_entry};
 
-use crate::aligned::{Aligned, align_floating, align_timed, written_value};
-use crate::ends::length_in;
+use crate::aligned::{Aligned, align_floating, align_timed};
 use crate::line_dates::stamp_at;
 use crate::named::has;
 use cal_base::{Line, Node};
-use cal_model::{Class, Component, LocalTimes};
+use cal_model::{Class, Component, LocalTimes, written_value};
 use cal_moment::{Day, Length, Period, PeriodEnd, Stamp};
-use ical_values::ZoneNames;
+use ical_values::{ZoneNames, length_in};
 
 const DAY: i64 = 86_400;
 

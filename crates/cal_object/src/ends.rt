@@ -6,26 +6,10 @@ ghost use Rattle.cal_model.specs.Objects.LineValues.{stamp_at, value_at};
 ghost use Rattle.cal_model.specs.Values.ValueTexts.{length_of};
 
 use crate::line_dates::stamp_at;
-use crate::named::one_of;
 use cal_base::Line;
 use cal_model::{Extent, Kind};
 use cal_moment::{Length, Stamp};
-use ical_values::{ZoneNames, read_duration};
-
-/// The length that DURATION gives, if it is there and can be read.
-pub fn length_in(lines: &[Line]) -> Option<Length>
-    ensures length { result ≡ value_at length_of (codes "DURATION") lines.now }
-    ensures days { IfSome result (λ length. IsBetween (neg_ℤ (pos 6_999_999_993)) (pos 6_999_999_993) length.days) }
-    ensures seconds { IfSome result (λ length. IsBetween (neg_ℤ (pos 10_800_000_000_000)) (pos 10_800_000_000_000) length.seconds) }
-{
-    let Some(line) = one_of(lines, b"DURATION") else {
-        return None;
-    };
-    match read_duration(line.value.as_slice()) {
-        Ok(length) => Some(length),
-        Err(_) => None,
-    }
-}
+use ical_values::{ZoneNames, length_in};
 
 /// The extent of a component that no line ends: a DATE lasts its day in a VEVENT and a VJOURNAL.
 fn end_by_start(kind: Kind, start: Option<Stamp>) -> Extent

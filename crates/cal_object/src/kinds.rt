@@ -8,9 +8,9 @@ ghost use Rattle.cal_model.specs.Objects.ObjectFaults as faults;
 ghost use Rattle.cal_object.specs.KindNodes as spec;
 ghost use Rattle.ical_values.specs.Parts.{text_there};
 
-use crate::named::{has, has_name, is_name, kind_of, one_of};
-use cal_base::{Line, Node, Octets, Param};
-use ical_values::is_word;
+use crate::named::{has, has_name, is_name, kind_of};
+use cal_base::{Line, Node, Octets, Param, is_word};
+use ical_values::one_of;
 
 /// Whether a component is of one of the four kinds.
 pub(crate) fn is_kind(node: &Node) -> bool

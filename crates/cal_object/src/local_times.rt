@@ -1,32 +1,12 @@
 //! The zones of an object at hand for many conversions (RFC 5545, 3.3.5 and 3.6.5).
-ghost use Rattle.std.specs.Prelude.{◌≡◌, ◌<◌, length, All, IfOk};
+ghost use Rattle.std.specs.Prelude.{◌≡◌, ◌<◌, length};
 ghost use Rattle.cal_model.specs.Instances.Alignment.{zone_of};
-ghost use Rattle.cal_model.specs.TimeZones.TableBounds.{IsTable};
 ghost use Rattle.cal_model.specs.TimeZones.Zones.{instant_of};
 ghost use Rattle.cal_model.specs.Values.LocalTimes.{local_seconds};
 ghost use Rattle.cal_object.specs.Alignments.{tables_of};
 
-use cal_base::{List, NoMemory};
-use cal_model::{LocalTimes, ZoneTable};
+use cal_model::LocalTimes;
 use cal_moment::Local;
-use std::alloc::Global;
-
-/// The local times of zones, in their order.
-pub(crate) fn local_times<'a>(
-    alloc: Global,
-    tables: &'a [ZoneTable],
-) -> Result<List<LocalTimes<'a>>, NoMemory>
-    requires { All IsTable tables.now }
-    ensures { IfOk result (λ zones. tables_of zones ≡ tables.now) }
-{
-    let mut zones = List::new(alloc);
-    let mut rest = tables;
-    'tables: while let Some((table, behind)) = rest.split_first() {
-        zones.push(LocalTimes::of(alloc, table)?)?;
-        rest = behind;
-    }
-    Ok(zones)
-}
 
 /// The instant of a local time in the zone of a number, in seconds since 1970.
 pub(crate) fn instant_in(zones: &[LocalTimes<'_>], number: u32, local: Local) -> i64

@@ -1,6 +1,5 @@
 //! Lines and components by name, and the four kinds that a calendar stores (RFC 5545, 3.4 and 3.6).
 ghost use Rattle.std.specs.Prelude.{◌≡◌, bytes_eq};
-ghost use Rattle.std.specs.Option.{option_copied};
 ghost use Rattle.cal_model.specs.Objects.ComponentLines as spec;
 
 use cal_base::{Line, Name, Node};
@@ -25,13 +24,6 @@ pub fn is_named(node: &Node, name: &[u8]) -> bool
     ensures { result ≡ spec.is_named name.now node.now }
 {
     is_name(&node.name, name)
-}
-
-/// The first line of a name: where a line may stand once, the one that counts.
-pub fn one_of<'a>(lines: &'a [Line], name: &[u8]) -> Option<&'a Line>
-    ensures { option_copied result ≡ spec.one_of name.now lines.now }
-{
-    lines.iter().find(|line| has_name(line, name))
 }
 
 /// Whether some line has this name.

@@ -13,12 +13,11 @@ ghost use Rattle.cal_object.specs.Outlines.{IsTextScan};
 
 use crate::contents::bad_component;
 use crate::fault::ReadFault;
-use crate::local_times::local_times;
 use crate::outline::at_child;
 use crate::outside::stamp_outside;
 use crate::resource_fault::resource_fault;
 use crate::scan::Scan;
-use cal_model::{LocalTimes, Object};
+use cal_model::{LocalTimes, Object, local_times_of};
 use ical_values::ZoneNames;
 use std::alloc::Global;
 
@@ -72,6 +71,6 @@ pub(crate) fn check_object(
     ensures good { IfOk result (λ _. first_there (object_faults (placed_lines octets.now) object.now.tree object.now) ≡ None) }
     ensures fault { IfErr result (IsFound (first_there (object_faults (placed_lines octets.now) object.now.tree object.now))) }
 {
-    let zones = local_times(alloc, object.zones.as_slice())?;
+    let zones = local_times_of(alloc, object.zones.as_slice())?;
     check_with(alloc, octets, scan, zones.as_slice(), names, object)
 }

@@ -8,14 +8,13 @@ ghost use Rattle.cal_model.specs.Values.StampTexts as texts;
 ghost use Rattle.cal_model.specs.Objects.ObjectFaults as faults;
 ghost use Rattle.cal_object.specs.DatesOutside as spec;
 
-use crate::aligned::written_value;
 use crate::dates::{periods_in, stamps_in};
 use crate::marks::{is_begin, is_end};
 use crate::named::has_name;
-use cal_base::{Line, List, NoMemory, Octets, Stack};
-use cal_model::Trigger;
+use cal_base::{Line, List, NoMemory, Octets, Stack, is_word};
+use cal_model::{Trigger, written_value};
 use cal_moment::{Period, PeriodEnd, Stamp};
-use ical_values::{ZoneNames, is_word, param_value, read_trigger};
+use ical_values::{ZoneNames, param_value, read_trigger};
 use std::alloc::Global;
 
 /// 1600-01-01T00:00:00Z, the first date that is served.

@@ -8,11 +8,11 @@ ghost use Rattle.cal_model.specs.Objects.ComponentLines.{lines_of};
 ghost use Rattle.cal_model.specs.Objects.ZoneReading as spec;
 
 use crate::line_dates::stamp_at;
-use crate::named::{has, is_named, one_of};
+use crate::named::{has, is_named};
 use crate::zone_dates::{local_digits, offset_at, part_dates, rules_of};
 use cal_base::{Line, List, NoMemory, Node};
 use cal_model::{Freq, Rule, ZonePart};
-use ical_values::ZoneNames;
+use ical_values::{ZoneNames, one_of};
 use std::alloc::Global;
 
 /// The most rules of a part.

@@ -12,11 +12,11 @@ ghost use Rattle.cal_model.specs.Objects.ZoneReading as spec;
 ghost use Rattle.cal_object.specs.PartDates.{HasMoment, StartsAtMoment};
 
 use crate::dates::{periods_in, stamps_in};
-use crate::named::{has_name, one_of};
+use crate::named::has_name;
 use cal_base::{Line, List, NoMemory};
 use cal_model::Rule;
 use cal_moment::{Local, Period, Stamp, Utc};
-use ical_values::{ValueFault, ZoneNames, read_rule, read_utc_offset};
+use ical_values::{ValueFault, ZoneNames, one_of, read_rule, read_utc_offset};
 use std::alloc::Global;
 
 const DAY: u64 = 86_400;

@@ -9,10 +9,9 @@ ghost use Rattle.dav_reports.specs.PieceRows.{AreRowsOf, IsKept, IsMissing, wind
 
 use cal_base::{List, NoMemory, Steps};
 use cal_model::view::Pieces;
-use cal_model::{Object, Range, Row};
+use cal_model::{Object, Range, Row, local_times_of};
 use needed_windows::{is_needed, windows_needed};
 use override_merge::order::put_in_order;
-use override_merge::zones::local_times;
 use rrule_sets::{only_row, undated_rows, windows_rows};
 use std::alloc::Global;
 use std::sync::ledger::Ledger;
@@ -47,7 +46,7 @@ pub(crate) fn windows_for(
     requires { IsKept object.now }
     ensures { IfOk result (λ windows. windows ≡ filter (counts object.now ranges.now) stated_windows) }
 {
-    let zones = local_times(alloc, object.zones.as_slice())?;
+    let zones = local_times_of(alloc, object.zones.as_slice())?;
     windows_needed(alloc, zones.as_slice(), object, ranges)
 }
 

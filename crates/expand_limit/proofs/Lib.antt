@@ -1,4 +1,3 @@
-mod CutTexts
 mod ListSteps
 mod JoinedItems
 mod KeptLemmas

@@ -10,11 +10,10 @@ ghost use Rattle.expand_limit.specs.BusyItems.{joined_items, with_item};
 ghost use Rattle.ical_values.specs.Parts.{text_there, later_pieces};
 ghost use Rattle.shown_lines.specs.Portions.{written_portion};
 
-use crate::cuts::{cut, first_piece};
 use cal_base::{Line, NoMemory, Octets};
 use cal_model::Range;
 use cal_moment::{Period, PeriodEnd, Stamp};
-use ical_values::{read_duration, read_moment};
+use ical_values::{cut, first_piece, read_duration, read_moment};
 use overlap_rules::period_overlaps;
 use shown_lines::{Portion, write_items};
 use std::alloc::Global;

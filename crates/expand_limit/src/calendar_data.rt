@@ -26,8 +26,7 @@ use crate::lines::{Options, write_lines};
 use crate::picks::kept_by;
 use crate::tree::{write_children, write_mark};
 use cal_base::{List, NoMemory, Node, Octets};
-use cal_model::{CompPick, Object, Range, Recur, Row, Selection, ZoneTable};
-use override_merge::zones::local_times;
+use cal_model::{CompPick, Object, Range, Recur, Row, Selection, ZoneTable, local_times_of};
 use std::alloc::Global;
 
 /// Whether a selection shows the stored octets as they are: it has no `comp`, no range of periods and
@@ -74,7 +73,7 @@ fn write_instances(
     requires tree { IsPrintable 4 object.now.tree }
     ensures { OnOk result ((levels : ℕ) (picks : List Pick) → IsPrintable (suc levels) object.now.tree → IsKept (suc levels) kept.entry picks → out.new ≡ out.old ++ printed ((picked (spec.busy_shown busy (expansion.expanded object.now rows.now zone.now range))).kept picks)) }
 {
-    let zones = local_times(alloc, object.zones.as_slice())?;
+    let zones = local_times_of(alloc, object.zones.as_slice())?;
     let expansion = Expansion {
         object,
         zone,
@@ -103,7 +102,7 @@ fn write_limit(
     requires tree { IsPrintable 4 object.now.tree }
     ensures { OnOk result ((levels : ℕ) (picks : List Pick) → IsPrintable (suc levels) object.now.tree → IsKept (suc levels) kept.entry picks → out.new ≡ out.old ++ printed ((picked (spec.busy_shown busy (limits.limited object.now rows.now zone.now range))).kept picks)) }
 {
-    let zones = local_times(alloc, object.zones.as_slice())?;
+    let zones = local_times_of(alloc, object.zones.as_slice())?;
     let limit = Limit {
         object,
         zone,

@@ -8,7 +8,6 @@
 
 mod busy;
 mod calendar_data;
-mod cuts;
 mod ends;
 mod expand;
 mod instance;

@@ -12,7 +12,6 @@ ghost use Rattle.filter_eval.specs.Passing.{date_passes};
 ghost use Rattle.filter_eval.specs.Places.{IsReady, matched_of};
 ghost use Rattle.filter_eval.specs.Tests.{param_filter_of};
 
-use crate::alarms::{length_in, line_named};
 use crate::components::{is_named, line_is_named};
 use crate::dates::Dates;
 use crate::ends::end_of;
@@ -21,6 +20,7 @@ use crate::subject::{Spot, Subject};
 use cal_base::{Line, List, Name, NoMemory, Node};
 use cal_model::Range;
 use cal_moment::Stamp;
+use ical_values::{length_in, one_of};
 use std::alloc::Global;
 
 /// Whether a name is one of the date properties (RFC 5545, 3.8.2 and 3.8.7).
@@ -140,7 +140,7 @@ fn start_in(
     ensures start { IfOk result (λ start. start ≡ spec.start_in dates.now in_timezone lines.now) }
     ensures dated { IfOk result (λ start. IfSome start IsDated) }
 {
-    match line_named(lines, b"DTSTART") {
+    match one_of(lines, b"DTSTART") {
         Some(line) => dates.stamp(alloc, in_timezone, line),
         None => Ok(None),
     }

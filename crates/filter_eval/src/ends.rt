@@ -12,8 +12,7 @@ ghost use Rattle.cal_model.specs.Words.Integers.{same_int};
 ghost use Rattle.filter_eval.specs.Instants as spec;
 
 use crate::dates::Dates;
-use crate::stamps::{local_of, written_value};
-use cal_model::{Onset, ZoneTable, offset_at, to_utc};
+use cal_model::{Onset, ZoneTable, local_of, offset_at, to_utc, written_value};
 use cal_moment::{Length, Stamp, Utc};
 
 const DAY: i64 = 86_400;

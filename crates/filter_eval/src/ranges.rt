@@ -13,12 +13,13 @@ ghost use Rattle.cal_model.specs.TimeZones.TableBounds.{IsTable};
 ghost use Rattle.overlap_rules.specs.Bounds.{IsNearRow};
 ghost use Rattle.filter_eval.specs.Places.{IsAt, IsReady, matched_of};
 
-use crate::alarms::{alarm_of, has_trigger, is_alarm};
+use crate::alarms::has_trigger;
 use crate::place::Place;
 use crate::subject::{Spot, Subject};
 use crate::walks::{first_component, first_row, next_component, next_row};
 use cal_base::Node;
 use cal_model::{Alarm, Component, Fixed, Range, Row, RowKind, ZoneTable};
+use ical_values::{alarm_of, is_alarm};
 use overlap_rules::{alarm_overlaps, fixed, lone_alarm_overlaps, row_overlaps};
 
 /// Whether a row is one of a component and overlaps a range.

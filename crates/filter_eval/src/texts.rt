@@ -2,10 +2,10 @@
 //! and 9.3).
 
 ghost use Rattle.std.specs.Prelude.{◌≡◌, IfOk};
-ghost use Rattle.cal_base.specs.Texts.Text.{raised, raised_all};
+ghost use Rattle.cal_base.specs.Texts.Text.{raised_all};
 ghost use Rattle.cal_model.specs.Filters.TextTests as spec;
 
-use cal_base::{NoMemory, Octets};
+use cal_base::{NoMemory, Octets, raised_all};
 use cal_model::{Collation, TextMatch};
 use ical_values::unescape;
 use memchr::memmem::Finder;
@@ -61,7 +61,7 @@ impl<'f> TextTest<'f> {
         match self.test.collation {
             Collation::Octet => Ok(has_within(&self.finder, plain)),
             Collation::AsciiCasemap => {
-                let folded = raise_all(alloc, plain)?;
+                let folded = raised_all(alloc, plain)?;
                 Ok(has_within(&self.finder, folded.as_slice()))
             }
         }
@@ -81,30 +81,6 @@ fn collated(alloc: Global, collation: Collation, text: &[u8]) -> Result<Octets, 
 {
     match collation {
         Collation::Octet => Octets::of(alloc, text),
-        Collation::AsciiCasemap => raise_all(alloc, text),
-    }
-}
-
-/// A text with its ASCII letters in upper case.
-fn raise_all(alloc: Global, text: &[u8]) -> Result<Octets, NoMemory>
-    ensures { IfOk result (λ octets. octets ≡ raised_all text.now) }
-{
-    match text
-        .iter()
-        .map(|octet| raise(*octet))
-        .collect::<Vec<u8>>(alloc)
-    {
-        Ok(octets) => Ok(Octets::from_vec(octets)),
-        Err(_) => Err(NoMemory),
-    }
-}
-
-fn raise(octet: u8) -> u8
-    ensures { result ≡ raised octet }
-{
-    if octet.is_ascii_lowercase() {
-        octet - 32
-    } else {
-        octet
+        Collation::AsciiCasemap => raised_all(alloc, text),
     }
 }

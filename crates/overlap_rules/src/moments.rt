@@ -10,21 +10,10 @@ ghost use Rattle.cal_model.specs.TimeZones.Zones.{instant_of};
 ghost use Rattle.overlap_rules.specs.Bounds.{IsOfDays, HasDays, IsNearRow};
 
 use cal_base::List;
-use cal_model::{Fixed, Row, RowKind, ZoneTable, to_utc};
+use cal_model::{Fixed, Row, RowKind, ZoneTable, local_of, to_utc, written_value};
 use cal_moment::{Length, Local, Period, PeriodEnd, Stamp};
 
 const DAY: i64 = 86_400;
-
-/// The local moment whose digits are so many seconds after 1970.
-fn local_of(digits: i64) -> Local
-    requires { IsOfDays digits }
-    ensures { local_seconds result ≡ digits }
-{
-    Local {
-        day: digits.div_euclid(DAY) as i32,
-        second: digits.rem_euclid(DAY) as u32,
-    }
-}
 
 /// The instant of some digits in a zone.
 fn instant(zone: &ZoneTable, digits: i64) -> i64
@@ -74,19 +63,6 @@ pub(crate) fn seconds_of(length: Length) -> i128
     ensures small { IsBetween (neg_ℤ (pos 1_000_000_000_000_000_000_000_000)) (pos 1_000_000_000_000_000_000_000_000) result }
 {
     length.days as i128 * DAY as i128 + length.seconds as i128
-}
-
-/// The written value of a stamp: its digits in seconds after 1970, of a DATE those of its midnight.
-fn written_value(stamp: Stamp) -> i64
-    ensures { result ≡ alignment.written_value stamp }
-{
-    match stamp {
-        Stamp::Date(day) => day.0 as i64 * DAY,
-        Stamp::Floating(local) | Stamp::Zoned(local, _) => {
-            local.day as i64 * DAY + local.second as i64
-        }
-        Stamp::Utc(utc) => utc.0,
-    }
 }
 
 /// The end of a stored period that starts at a moment.

@@ -1,31 +1,20 @@
 -- Zones at hand for many conversions, and what can be converted in them: the stamps and lengths of a calendar object that was read.
-use Rattle.std.specs.Prelude.{ℕ, ◌<◌, ◌^◌, All, List, map, length, option_to_list, ℤ, pos, neg_ℤ}
+use Rattle.std.specs.Prelude.{ℕ, ◌<◌, ◌^◌, All, length, option_to_list, ℤ, pos, neg_ℤ}
 use Rattle.cal_moment.specs.Calendar.{IsBetween}
 use Rattle.cal_moment.specs.declared.stamp.Length.{Length}
 use Rattle.cal_moment.specs.declared.stamp.Stamp.{Stamp}
-use Rattle.cal_moment.specs.declared.stamp.Stamp.TheVariants.{Zoned}
-use Rattle.cal_model.specs.declared.local_times.LocalTimes.{LocalTimes}
 use Rattle.cal_model.specs.declared.object.Component.{Component}
 use Rattle.cal_model.specs.declared.object.Extent.{Extent}
 use Rattle.cal_model.specs.declared.object.Extent.TheVariants as extent
 use Rattle.cal_model.specs.declared.object.Object.{Object}
 use Rattle.cal_model.specs.declared.row.Row.{Row}
-use Rattle.cal_model.specs.declared.zone.ZoneTable.{ZoneTable}
 use Rattle.cal_model.specs.Instances.Alignment.{written_value}
 use Rattle.cal_model.specs.TimeZones.TableBounds.{IsTable}
-
--- the zones whose local times are at hand
-abbrev pub tables_of : List LocalTimes → List ZoneTable
-tables_of zones = map (λ (times : LocalTimes). times.table.now) zones
+pub use Rattle.cal_model.specs.TimeZones.ZonesAtHand.{tables_of, HasZone}
 
 -- a moment of a row: some 35,000 years from 1970 at most
 abbrev pub IsRowTime : ℤ → Type 0
 IsRowTime = IsBetween (neg_ℤ (pos 1_099_511_627_776)) (pos 1_099_511_627_776)
-
--- the zone of a stamp is one of so many
-abbrev pub HasZone : ℕ → Stamp → Type 0
-HasZone zones (Zoned local number) = number < zones
-HasZone zones other = Unit {0}
 
 -- a stamp whose zone is there, and whose digits are those of a row
 pub record IsConvertible (zones : ℕ) (stamp : Stamp) : Type 0 where

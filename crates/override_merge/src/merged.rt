@@ -15,9 +15,8 @@ use crate::names::{Names, is_named, names_of_overrides};
 use crate::order::put_in_order;
 use crate::rows::{Part, lies_in, own_row};
 use crate::starts::ids_start;
-use crate::zones::local_times;
 use cal_base::{List, NoMemory};
-use cal_model::{Component, LocalTimes, Object, Row};
+use cal_model::{Component, LocalTimes, Object, Row, local_times_of};
 use cal_moment::Stamp;
 use std::alloc::Global;
 
@@ -228,7 +227,7 @@ pub fn merge(alloc: Global, master: &List<Row>, object: &Object) -> Result<List<
     let Some(ids) = ids_start(object) else {
         return Ok(List::new(alloc));
     };
-    let zones = local_times(alloc, object.zones.as_slice())?;
+    let zones = local_times_of(alloc, object.zones.as_slice())?;
     merged_rows(
         alloc,
         zones.as_slice(),

@@ -7,7 +7,7 @@ ghost use Rattle.override_merge.specs.Conversions.{tables_of, HasZone, IsConvert
 ghost use Rattle.override_merge.specs.AlignedStamps.{aligned_by, HasDigits};
 
 use crate::zones::{instant_beside, local_beside};
-use cal_model::{LocalTimes, RowKind};
+use cal_model::{LocalTimes, RowKind, written_value};
 use cal_moment::Stamp;
 
 const DAY: i64 = 86_400;
@@ -19,19 +19,6 @@ pub enum Aligned {
     At(i64),
     /// A local day, by its midnight.
     OnDay(i64),
-}
-
-/// The digits that a stamp is written with; of a DATE those of its midnight.
-pub fn written_value(stamp: Stamp) -> i64
-    ensures { result ≡ spec.written_value stamp }
-{
-    match stamp {
-        Stamp::Date(day) => day.0 as i64 * DAY,
-        Stamp::Floating(local) | Stamp::Zoned(local, _) => {
-            local.day as i64 * DAY + local.second as i64
-        }
-        Stamp::Utc(moment) => moment.0,
-    }
 }
 
 /// The value of a stamp by itself: its instant, its digits, or the midnight of its day.

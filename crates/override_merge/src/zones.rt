@@ -1,47 +1,13 @@
 //! Conversions in the zones of an object (RFC 5545, 3.3.5 and 3.6.5).
-ghost use Rattle.std.specs.Prelude.{◌≡◌, ℕ, ◌<◌, length, All, IfOk, ℤ, pos, neg_ℤ, ◌+ℤ◌, ◌-ℤ◌};
+ghost use Rattle.std.specs.Prelude.{◌≡◌, length, pos, neg_ℤ, ◌+ℤ◌, ◌-ℤ◌};
 ghost use Rattle.cal_moment.specs.Calendar.{IsBetween};
-ghost use Rattle.cal_model.specs.Values.LocalTimes.{local_seconds};
 ghost use Rattle.cal_model.specs.Instances.Alignment.{reading_of};
-ghost use Rattle.cal_model.specs.TimeZones.TableBounds.{IsTable, IsDigits};
+ghost use Rattle.cal_model.specs.TimeZones.TableBounds.{IsDigits};
 ghost use Rattle.cal_model.specs.TimeZones.Zones as spec;
 ghost use Rattle.override_merge.specs.Conversions.{tables_of, HasZone};
 
-use cal_base::{List, NoMemory};
-use cal_model::{LocalTimes, ZoneTable, offset_at};
-use cal_moment::{Local, Stamp, Utc};
-use std::alloc::Global;
-
-const DAY: i64 = 86_400;
-
-/// The local times of zones, in their order.
-pub fn local_times<'a>(
-    alloc: Global,
-    tables: &'a [ZoneTable],
-) -> Result<List<LocalTimes<'a>>, NoMemory>
-    requires { All IsTable tables.now }
-    ensures { IfOk result (λ zones. tables_of zones ≡ tables.now) }
-{
-    let mut zones = List::new(alloc);
-    let mut rest = tables;
-    'tables: while let Some((table, behind)) = rest.split_first() {
-        zones.push(LocalTimes::of(alloc, table)?)?;
-        rest = behind;
-    }
-    Ok(zones)
-}
-
-/// The local moment of some digits.
-pub fn local_of(digits: i64) -> Local
-    requires { IsBetween (neg_ℤ (pos 180_000_000_000_000)) (pos 180_000_000_000_000) digits }
-    ensures value { local_seconds result ≡ digits }
-    ensures second { result.second < 86_400 }
-{
-    Local {
-        day: digits.div_euclid(DAY) as i32,
-        second: digits.rem_euclid(DAY) as u32,
-    }
-}
+use cal_model::{LocalTimes, local_of, offset_at};
+use cal_moment::{Stamp, Utc};
 
 /// The instant of some digits that are written beside a stamp, or the digits where it names no zone.
 pub fn instant_beside(zones: &[LocalTimes<'_>], stamp: Stamp, digits: i64) -> i64

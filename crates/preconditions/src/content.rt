@@ -8,10 +8,9 @@ ghost use Rattle.preconditions.specs.Checks.{IsUnmetBy, content_refusal, refusal
 
 use crate::precondition::Precondition;
 use cal_base::NoMemory;
-use cal_model::{Kind, Object};
+use cal_model::{Kind, Object, written_value};
 use cal_moment::Stamp;
 use cal_object::ReadFault;
-use override_merge::stamps::written_value;
 use rrule_sets::{Counted, count_rows, has_fine_rule};
 use std::alloc::Global;
 

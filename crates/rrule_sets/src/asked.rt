@@ -11,10 +11,10 @@ ghost use Rattle.rrule_sets.specs.PeriodSpans.{period_span, span_starts_in};
 
 use crate::range::{Digits, holds};
 use cal_base::{List, NoMemory, Steps};
-use cal_model::LocalTimes;
+use cal_model::{LocalTimes, written_value};
 use cal_moment::{Period, PeriodEnd, Stamp};
 use override_merge::ends::plus_length;
-use override_merge::stamps::{Aligned, align, midnight_of, written_value};
+use override_merge::stamps::{Aligned, align, midnight_of};
 use override_merge::zones::{instant_beside, local_beside};
 use std::sync::ledger::Ledger;
 

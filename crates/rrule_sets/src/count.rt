@@ -28,12 +28,11 @@ use crate::range::Digits;
 use crate::window::master_of;
 use cal_base::{List, NoMemory, Steps};
 use cal_model::walk::rule_walk::{END, FIRST, RuleWalk, begin_walk, next_moment};
-use cal_model::{Component, LocalTimes, Object, Row, Rule};
+use cal_model::{Component, LocalTimes, Object, Row, Rule, local_times_of};
 use cal_moment::{Period, Stamp};
 use override_merge::names::{Names, is_named, names_of_overrides, rising};
 use override_merge::stamps::value_of;
 use override_merge::starts::own_start;
-use override_merge::zones::local_times;
 use rrule_step::PeriodStep;
 use std::alloc::Global;
 use std::marker::Brand;
@@ -519,7 +518,7 @@ fn master_count<L: Ledger>(
     let Some(stamp) = own_start(component) else {
         return Ok(Some(0));
     };
-    let zones = local_times(alloc, object.zones.as_slice())?;
+    let zones = local_times_of(alloc, object.zones.as_slice())?;
     let mut steps = Steps::<L>::open(blank);
     count_beside(
         alloc,

@@ -18,12 +18,12 @@ ghost use Rattle.rrule_sets.specs.HeldGovernors.{HasNoGreaterId, HoldsGovernors,
 ghost use Rattle.rrule_sets.specs.HeldGovernors as spec;
 
 use cal_base::{List, NoMemory};
-use cal_model::{Component, Extent, LocalTimes, Object, Row};
+use cal_model::{Component, Extent, LocalTimes, Object, Row, written_value};
 use cal_moment::Stamp;
 use override_merge::days::{DayStart, day_starts, first_on};
 use override_merge::ends::end_of_extent;
 use override_merge::names::{Names, is_named, names_of_overrides};
-use override_merge::stamps::{Aligned, align, kind_of, written_value};
+use override_merge::stamps::{Aligned, align, kind_of};
 use override_merge::starts::own_start;
 use override_merge::zones::{instant_beside, local_beside};
 use std::alloc::Global;

@@ -19,10 +19,8 @@ use crate::range::{Digits, FIRST_DIGITS, moment_at};
 use cal_base::{List, NoMemory, Steps};
 use cal_model::walk::clock::Clock;
 use cal_model::walk::starts::rule_starts;
-use cal_model::{LocalTimes, Rule, Rules};
+use cal_model::{LocalTimes, Rule, Rules, local_of, written_value};
 use cal_moment::{Local, Stamp};
-use override_merge::stamps::written_value;
-use override_merge::zones::local_of;
 use std::alloc::Global;
 use std::sync::ledger::Ledger;
 

@@ -12,9 +12,9 @@ ghost use Rattle.override_merge.specs.Conversions.{tables_of, HasConvertibleRow,
 ghost use Rattle.rrule_sets.specs.MovedStarts.{EndsByMoved, HasMovedOf, IsMovedBack, IsMovedFrom, IsNearName, offset_bound, parts_from};
 
 use crate::range::{Digits, window_digits};
-use cal_model::{Component, LocalTimes, Onset, ZoneTable};
+use cal_model::{Component, LocalTimes, Onset, ZoneTable, written_value};
 use cal_moment::Stamp;
-use override_merge::stamps::{Aligned, align, written_value};
+use override_merge::stamps::{Aligned, align};
 use override_merge::starts::own_start;
 use override_merge::zones::local_beside;
 

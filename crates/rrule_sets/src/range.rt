@@ -7,9 +7,9 @@ ghost use Rattle.cal_model.specs.Recurrence.RecurrenceSet.{first_moment};
 ghost use Rattle.cal_model.specs.Values.LocalTimes.{moment_of_local};
 ghost use Rattle.rrule_sets.specs.DigitRanges.{in_digits};
 
+use cal_model::local_of;
 use cal_model::walk::rule_walk::{END, FIRST};
 use cal_moment::Local;
-use override_merge::zones::local_of;
 
 /// The digits of `FIRST`, 1 January of the year 1, and of `END`, 1 January 2102.
 pub const FIRST_DIGITS: i64 = -62_135_596_800;

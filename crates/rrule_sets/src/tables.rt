@@ -8,10 +8,8 @@ ghost use Rattle.cal_model.specs.TimeZones.TableBounds.{IsTable, IsDigits};
 ghost use Rattle.cal_model.specs.TimeZones.Zones as zones;
 ghost use Rattle.override_merge.specs.Conversions.{HasZone, IsConvertible, IsShortLength, IsConvertibleExtent};
 
-use cal_model::{Extent, ZoneTable, offset_at, to_utc};
+use cal_model::{Extent, ZoneTable, local_of, offset_at, to_utc, written_value};
 use cal_moment::{Length, Stamp, Utc};
-use override_merge::stamps::written_value;
-use override_merge::zones::local_of;
 
 const DAY: i64 = 86_400;
 

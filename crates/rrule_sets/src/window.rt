@@ -15,11 +15,10 @@ use crate::needed::needed;
 use crate::once::{only_row, row_in_windows};
 use crate::range::{Digits, window_digits};
 use cal_base::{List, NoMemory, Steps};
-use cal_model::{Component, LocalTimes, Object, Row, Rules};
+use cal_model::{Component, LocalTimes, Object, Row, Rules, local_times_of};
 use cal_moment::Stamp;
 use override_merge::rows::Part;
 use override_merge::starts::{ids_start, own_start};
-use override_merge::zones::local_times;
 use override_merge::{has_overrides, merged_rows};
 use rrule_step::PeriodStep;
 use std::alloc::Global;
@@ -164,6 +163,6 @@ pub fn window_rows<L: Ledger>(
     let Some(ids) = ids_start(object) else {
         return Ok(List::new(alloc));
     };
-    let zones = local_times(alloc, object.zones.as_slice())?;
+    let zones = local_times_of(alloc, object.zones.as_slice())?;
     rows_beside(alloc, zones.as_slice(), ids, object, window, steps)
 }

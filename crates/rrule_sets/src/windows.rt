@@ -17,11 +17,10 @@ use crate::once::{only_row, row_in_windows};
 use crate::range::Digits;
 use crate::window::{governed_rows, rows_beside};
 use cal_base::{List, NoMemory, Steps};
-use cal_model::{Component, LocalTimes, Object, Row};
+use cal_model::{Component, LocalTimes, Object, Row, local_times_of};
 use cal_moment::Stamp;
 use override_merge::rows::Part;
 use override_merge::starts::ids_start;
-use override_merge::zones::local_times;
 use override_merge::{has_overrides, merged_rows, put_asked_rows};
 use std::alloc::Global;
 use std::sync::ledger::Ledger;
@@ -313,7 +312,7 @@ pub fn windows_rows<L: Ledger>(
     let Some(ids) = ids_start(object) else {
         return Ok(List::new(alloc));
     };
-    let zones = local_times(alloc, object.zones.as_slice())?;
+    let zones = local_times_of(alloc, object.zones.as_slice())?;
     if are_neighbours(windows) || is_counted(object.components.as_slice()) {
         rows_of_one_walk(alloc, zones.as_slice(), ids, object, windows, steps)
     } else {

@@ -5,8 +5,8 @@ use Rattle.override_merge.proofs.MergeLemmas.{zones_count}
 use Rattle.dav_reports.proofs.KeptObjects.{kept_components, kept_zones}
 use Rattle.dav_reports.proofs.rows.windows_for.Goals as goal
 
-pub local_times-requires : goal.local_times-requires
-local_times-requires c = rw c.as_slice.ensures (kept_zones c.args.object.now c.requires)
+pub local_times_of-requires : goal.local_times_of-requires
+local_times_of-requires c = rw c.as_slice.ensures (kept_zones c.args.object.now c.requires)
 
 pub windows_needed-requires-clause-lengths : goal.windows_needed-requires-clause-lengths
 windows_needed-requires-clause-lengths c =

@@ -5,8 +5,8 @@ use Rattle.override_merge.specs.Conversions.{tables_of}
 use Rattle.override_merge.proofs.ReadObjects.{HasConvertibleRows-read}
 use Rattle.expand_limit.proofs.calendar_data.write_limit.Goals as goal
 
-pub local_times-requires : goal.local_times-requires
-local_times-requires c = subst (All IsTable) (sym c.as_slice.ensures) (HasConvertibleRows-read c.args.object.now c.requires.read c.requires.few).zones
+pub local_times_of-requires : goal.local_times_of-requires
+local_times_of-requires c = subst (All IsTable) (sym c.as_slice.ensures) (HasConvertibleRows-read c.args.object.now c.requires.read c.requires.few).zones
 
 pub write_limited-requires-clause-zones : goal.write_limited-requires-clause-zones
 write_limited-requires-clause-zones c = sym (ap tables_of c.as_slice-2.ensures ∙ c.in_ok-zones.ensures ∙ c.as_slice.ensures)

@@ -7,7 +7,7 @@ pub returns-then-digits-lt-FAR-clause-near : goal.returns-then-digits-lt-FAR-cla
 returns-then-digits-lt-FAR-clause-near c =
     let fits : FitsSigned w64 c.args.digits = search rules in
     let near = instant_near c.args.zone.now c.args.digits c.requires.zone in
-    let local = simp to_z-of_z at c.local_of.ensures.digits in
+    let local = simp to_z-of_z at c.local_of.ensures.value in
     let value = rw local at c.to_utc.ensures.value in
     (omega (arith, ints, near, value), omega (arith, ints, near, value))
 

@@ -10,8 +10,8 @@ use Rattle.rrule_sets.proofs.window.window_rows.Goals as goal
 pub rows_beside-requires-clause-object : goal.rows_beside-requires-clause-object
 rows_beside-requires-clause-object g c = HasRowsToFind-read c.args.object.now c.requires.read c.requires.few c.requires.coarse
 
-pub local_times-requires : goal.local_times-requires
-local_times-requires g c = rw c.as_slice.ensures (HasConvertibleRows-read c.args.object.now c.requires.read c.requires.few).zones
+pub local_times_of-requires : goal.local_times_of-requires
+local_times_of-requires g c = rw c.as_slice.ensures (HasConvertibleRows-read c.args.object.now c.requires.read c.requires.few).zones
 
 pub returns-in_default-ids_start-clause-rows : goal.returns-in_default-ids_start-clause-rows
 returns-in_default-ids_start-clause-rows g c = c.new.ensures ∙ sym (rows_in-none c.args.object.now c.args.window (sym c.in_default-ids_start.is ∙ c.ids_start.ensures))
