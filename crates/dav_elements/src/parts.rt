@@ -1,12 +1,12 @@
 //! What is looked for in an element. Whatever else stands in it is passed over (RFC 4918, 17).
 ghost use Rattle.std.specs.Prelude.{◌≡◌, ◌++◌, filter, flat_map, option_map, bytes_eq, IfOk, OnOk};
 ghost use Rattle.std.specs.Option.{option_copied, option_to_list};
-ghost use Rattle.cal_base.specs.Texts.Text.{raised, raised_all};
+ghost use Rattle.cal_base.specs.Texts.Text.{raised_all};
 ghost use Rattle.cal_model.specs.Words.Lists.{is_empty};
 ghost use Rattle.cal_model.specs.Bodies.ElementParts as spec;
 ghost use Rattle.dav_elements.specs.Texts.{text_there};
 
-use cal_base::{Attr, Element, Item, Name, NoMemory, Octets};
+use cal_base::{Attr, Element, Item, Name, NoMemory, Octets, is_word};
 use std::alloc::Global;
 
 /// The namespace of WebDAV (RFC 4918, 21.1).
@@ -156,30 +156,6 @@ fn name_text(element: &Element) -> &[u8]
     match attribute(element, b"name") {
         Some(text) => text,
         None => b"",
-    }
-}
-
-/// Whether a text is a word, whose letters are upper case, without ASCII case.
-fn is_word(text: &[u8], word: &[u8]) -> bool
-    ensures { result ≡ bytes_eq (raised_all text.now) word.now }
-{
-    let [octet, rest @ ..] = text else {
-        return word.is_empty();
-    };
-    let [letter, more @ ..] = word else {
-        return false;
-    };
-    raised(*octet) == *letter && is_word(rest, more)
-}
-
-/// An ASCII letter in upper case, and any other octet as it is.
-fn raised(octet: u8) -> u8
-    ensures { result ≡ raised octet }
-{
-    if octet.is_ascii_lowercase() {
-        octet - 32
-    } else {
-        octet
     }
 }
 

@@ -1,9 +1,10 @@
 //! Values that need no line: texts, numbers, lengths, offsets and moments, most of them the
 //! examples of RFC 5545.
 
+use cal_base::is_word;
 use cal_moment::{Bad, Length, Utc};
 use ical_values::{
-    is_word, read_duration, read_integer, read_moment, read_repeat, read_utc_offset, unescape,
+    read_duration, read_integer, read_moment, read_repeat, read_utc_offset, unescape,
 };
 use std::test::Fail;
 
