@@ -1,5 +1,3 @@
-pub mod Places
-pub mod QuotedCuts
 pub mod TagSteps
 pub mod CredentialSteps
 pub mod ContentSteps

@@ -5,12 +5,12 @@ ghost use Rattle.hex.specs.Hex.{encode_lower};
 ghost use Rattle.sha2.specs.Sha256.{sha256};
 ghost use Rattle.cal_model.specs.Users.Credentials as spec;
 ghost use Rattle.cal_model.specs.Users.UsersFile.{User};
-ghost use Rattle.dav_request.specs.Texts.{text_there};
+ghost use Rattle.cal_base.specs.Texts.LentTexts.{text_there};
 
-use crate::cuts::cut;
 use base64::DecodeAllocError;
 use base64::engine::general_purpose::STANDARD;
 use cal_base::{NoMemory, Octets};
+use cal_model::cut;
 use privileges::Users;
 use sha2::{Digest, Sha256};
 use std::alloc::Global;

@@ -9,7 +9,6 @@
 mod bodies;
 mod conditions;
 mod credentials;
-mod cuts;
 mod laws;
 mod media;
 mod methods;

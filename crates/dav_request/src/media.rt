@@ -3,8 +3,8 @@ ghost use Rattle.std.specs.Prelude.{◌≡◌, bytes_eq};
 ghost use Rattle.std.specs.Str.{str_to_ascii_lowercase};
 ghost use Rattle.cal_model.specs.Requests.FieldValues.{media_type, can_be_xml, can_be_calendar, is_plain_coding};
 
-use crate::cuts::{text_before, trimmed};
 use cal_base::Octets;
+use cal_model::{text_before, trimmed};
 
 /// Whether a body with this Content-Type, if it has one, can be XML.
 pub(crate) fn can_be_xml(media: &Option<Octets>) -> bool

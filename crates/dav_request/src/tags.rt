@@ -1,16 +1,15 @@
 //! The values of If-Match and If-None-Match (RFC 9110, 8.8.3, 13.1.1 and 13.1.2).
-ghost use Rattle.std.specs.Prelude.{◌≡◌, ◌==◌, ◌&&◌, ◌∷◌, false, not, length, bytes_eq, codes, if◌then◌else◌, option_map, option_and_then, is_some, is_none, Some, None, IfOk, IfSome};
-ghost use Rattle.std.specs.List.{list_all, list_any};
-ghost use Rattle.cal_base.specs.Lines.ContentLines.{quoted_value, unquoted_pieces};
-ghost use Rattle.cal_base.specs.Texts.Octets.{comma, double_quote};
+ghost use Rattle.std.specs.Prelude.{◌≡◌, false, if◌then◌else◌, option_map, option_and_then, Some, None, IfOk};
+ghost use Rattle.std.specs.List.{list_all};
+ghost use Rattle.cal_base.specs.Lines.ContentLines.{unquoted_pieces};
+ghost use Rattle.cal_base.specs.Texts.LentTexts.{text_there};
+ghost use Rattle.cal_base.specs.Texts.Octets.{comma};
 ghost use Rattle.cal_model.specs.Requests.AskedRequests.{tags_in};
 ghost use Rattle.cal_model.specs.Requests.ConditionalTags.{is_tag_octet, opaque_tag, entity_tag, tags_of};
-ghost use Rattle.dav_request.specs.Texts.{text_there};
-ghost use Rattle.dav_request.specs.TagPieces.{later_pieces, tag_in, tags_in_all, weak_and_text};
+ghost use Rattle.dav_request.specs.TagPieces.{tag_in, tags_in_all, weak_and_text};
 
-use crate::cuts::{first_piece, trimmed};
-use cal_base::{List, NoMemory, Octets};
-use cal_model::Tags;
+use cal_base::{List, NoMemory, Octets, first_unquoted_piece, without_end_quote};
+use cal_model::{Tags, trimmed};
 use std::alloc::Global;
 
 /// The tags of a field, if it is there and well formed.
@@ -43,7 +42,7 @@ fn read_listed(alloc: Global, value: &[u8]) -> Result<Option<List<(bool, Octets)
     let mut tags = List::new(alloc);
     let mut rest = Some(value);
     'pieces: while let Some(text) = rest {
-        let (piece, behind) = first_piece(text, b',');
+        let (piece, behind) = first_unquoted_piece(text, b',');
         let Some((weak, tag)) = tag_in(piece) else {
             return Ok(None);
         };
@@ -98,28 +97,6 @@ fn if_tag(text: Option<&[u8]>) -> Option<&[u8]>
         Some(tag) => { if are_tag_octets(tag) { Some(tag) } else { None } }
         None => None,
     }
-}
-
-/// What stands behind an opening quote, without the closing quote, if that is its one quote.
-fn without_end_quote(text: &[u8]) -> Option<&[u8]>
-    ensures { text_there result ≡ quoted_value text.now }
-{
-    if text.is_empty() {
-        return None;
-    }
-    let end = text.len() - 1;
-    let inside = &text[..end];
-    if text[end] == b'"' && !has_quote(inside) {
-        Some(inside)
-    } else {
-        None
-    }
-}
-
-fn has_quote(text: &[u8]) -> bool
-    ensures { result ≡ list_any (λ octet. octet == double_quote) text.now }
-{
-    text.iter().any(|octet| *octet == b'"')
 }
 
 fn are_tag_octets(tag: &[u8]) -> bool

@@ -1,8 +1,9 @@
 use Rattle.std.proofs.Common.{◌≡◌, false}
 use Rattle.cal_base.specs.Lines.ContentLines.{unquoted_pieces}
 use Rattle.cal_base.specs.Texts.Octets.{comma}
-use Rattle.dav_request.specs.TagPieces.{later_pieces, preceded, tags_in_all, text_left}
-use Rattle.dav_request.specs.Texts.{text_there}
+use Rattle.cal_base.specs.Lines.UnquotedParts.{later_pieces, preceded, text_left}
+use Rattle.cal_base.specs.Texts.LentTexts.{text_there}
+use Rattle.dav_request.specs.TagPieces.{tags_in_all}
 use Rattle.dav_request.proofs.tags.read_listed.Given as goal
 
 -- those that are read, before those of the rest
