@@ -10,14 +10,12 @@ ghost use Rattle.cal_keeper.specs.Files.Payloads.{who_text, grant_text, grants_t
 use crate::parts::{u16_at, u32_at};
 use crate::principals::PrincipalCounts;
 use cal_base::{List, NoMemory};
+use cal_model::privilege::ALL;
 use cal_model::{Grant, PrivilegeSet, Who};
 use std::alloc::Global;
 
 /// The most grants of a record.
 const MOST_GRANTS: u8 = 64;
-
-/// All nine privileges.
-const ALL_BITS: u16 = 511;
 
 /// Grants that are all of the octets, and the size that stands in front of them.
 pub(crate) fn all_grants_at(
@@ -88,7 +86,7 @@ fn grant_at(octets: &[u8], counts: PrincipalCounts) -> Option<(Grant, &[u8])>
     let (number, rest) = u32_at(rest)?;
     let (bits, rest) = u16_at(rest)?;
     let who = who_of(*kind, number, counts)?;
-    if ALL_BITS < bits {
+    if ALL < bits {
         return None;
     }
     let grant = Grant {

@@ -12,15 +12,10 @@ use crate::dates::{periods_in, stamps_in};
 use crate::marks::{is_begin, is_end};
 use crate::named::has_name;
 use cal_base::{Line, List, NoMemory, Octets, Stack, is_word};
-use cal_model::{Trigger, written_value};
+use cal_model::{FIRST_DATE, LAST_DATE, Trigger, written_value};
 use cal_moment::{Period, PeriodEnd, Stamp};
 use ical_values::{ZoneNames, param_value, read_trigger};
 use std::alloc::Global;
-
-/// 1600-01-01T00:00:00Z, the first date that is served.
-const FIRST: i64 = -11_676_096_000;
-/// 2100-12-31T23:59:59Z, the last one.
-const LAST: i64 = 4_133_980_799;
 
 /// A date that was found before the zones of its object are known.
 #[derive(Drop)]
@@ -191,14 +186,14 @@ fn dates_within(
 fn is_early(stamp: Stamp) -> bool
     ensures { result ≡ faults.is_early stamp }
 {
-    written_value(stamp) < FIRST
+    written_value(stamp) < FIRST_DATE
 }
 
 /// Whether a date lies after those that are served.
 fn is_late(stamp: Stamp) -> bool
     ensures { result ≡ faults.is_late stamp }
 {
-    LAST < written_value(stamp)
+    LAST_DATE < written_value(stamp)
 }
 
 /// A date with the TZID of its line.

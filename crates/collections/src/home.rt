@@ -10,11 +10,8 @@ ghost use Rattle.collections.specs.Homes.{with_object, without_object, with_gran
 
 use crate::calendar::CalendarStore;
 use cal_base::{Arc, List, NameMap, NoMemory, Octets};
-use cal_model::{Grant, PropName, PropSet, Stored};
+use cal_model::{CHANGE_COST, Grant, PropName, PropSet, Stored};
 use std::alloc::Global;
-
-/// What a change costs beside the octets of its request's body.
-const CHANGE_COST: u64 = 256;
 
 /// A home.
 #[derive(Drop)]

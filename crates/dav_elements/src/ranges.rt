@@ -9,13 +9,8 @@ ghost use Rattle.dav_elements.specs.Texts.{text_there};
 
 use crate::parts::attribute;
 use cal_base::Element;
-use cal_model::Range;
+use cal_model::{FIRST_DATE, LAST_DATE, Range};
 use cal_moment::{Local, Utc, read_date_time};
-
-/// 16000101T000000Z and 21001231T235959Z, in seconds since 1970.
-const FIRST_DATE: i64 = -11_676_096_000;
-
-const LAST_DATE: i64 = 4_133_980_799;
 
 const DAY_SECONDS: i64 = 86_400;
 

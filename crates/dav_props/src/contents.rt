@@ -15,22 +15,15 @@ use crate::rows::{Asked, Row};
 use crate::subjects::{Subject, held_on};
 use crate::texts::text_of;
 use cal_base::{NoMemory, Octets};
-use cal_model::Seen;
 use cal_model::view::View;
+use cal_model::{FIRST_DATE, LAST_DATE, RESOURCE_LIMIT, Seen};
 use cal_moment::{Utc, write_utc};
 use dav_write::push_text;
 use itoa::Buffer;
 use multistatus::{push_home, push_principal};
 use std::alloc::Global;
 
-/// The first and the last moment of the dates that are served.
-const FIRST_DATE: Utc = Utc(-11_676_096_000);
-
-const LAST_DATE: Utc = Utc(4_133_980_799);
-
-/// The most octets of an object, and the most instances.
-const RESOURCE_LIMIT: usize = 262_144;
-
+/// The most instances of an object.
 const INSTANCES_LIMIT: usize = 250_000;
 
 const DATA_TYPE: &[u8] = b"<C:calendar-data content-type=\"text/calendar\" version=\"2.0\"/>";
@@ -70,8 +63,8 @@ pub(crate) fn push_content<V: View>(
         Row::Kinds => push_kinds_of(subject, out),
         Row::DataType => push_data_type(out),
         Row::MaxSize => push_number(RESOURCE_LIMIT, out),
-        Row::MinDate => push_moment(FIRST_DATE, out),
-        Row::MaxDate => push_moment(LAST_DATE, out),
+        Row::MinDate => push_moment(Utc(FIRST_DATE), out),
+        Row::MaxDate => push_moment(Utc(LAST_DATE), out),
         Row::MaxInstances => push_number(INSTANCES_LIMIT, out),
         Row::Reports => out.extend_from_slice(REPORTS),
         Row::Acl => push_acl_of(alloc, seen, subject, out),

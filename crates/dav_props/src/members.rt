@@ -14,18 +14,13 @@ ghost use Rattle.dav_props.specs.Finding.{IsUpTo, calendar_text, calendars_of, m
 use crate::subjects::{Subject, has_all};
 use crate::telling::push_resource;
 use cal_base::{NoMemory, Octets};
+use cal_model::privilege::READ;
 use cal_model::view::View;
-use cal_model::{CalendarData, Path, PropName, Props, Seen, Stored};
+use cal_model::{ANSWER_LIMIT, CalendarData, Path, PropName, Props, Seen, Stored};
 use dav_write::append_path;
 use object_walk::Walks;
 use privileges::held;
 use std::alloc::Global;
-
-/// The most octets of an answer.
-pub(crate) const ANSWER_LIMIT: usize = 67_108_864;
-
-/// DAV:read.
-const READ: u16 = 2;
 
 /// Appends the responses of the members of what is seen at a path, until the reply is too long.
 pub(crate) fn push_members<V: Walks>(

@@ -6,14 +6,10 @@ ghost use Rattle.dav_props.specs.Contents.{bit_piece, bit_pieces, piece_where};
 
 use crate::subjects::has_all;
 use cal_base::{NoMemory, Octets};
+use cal_model::privilege::{ALL, WRITE};
 
 /// The privileges that have bits of their own, in the order in which they are listed.
 const BITS: [u16; 9] = [1, 2, 4, 8, 16, 32, 64, 128, 256];
-
-/// All that change what a calendar has.
-const WRITE: u16 = 60;
-
-const ALL: u16 = 511;
 
 /// Appends an element for each privilege of a set, then for write and for all where they are held
 /// whole (RFC 3744, 5.4).

@@ -10,12 +10,12 @@ ghost use Rattle.cal_model.specs.Serving.SeenResources.{resources_seen, scene_se
 ghost use Rattle.multistatus.specs.ReplyPieces.{begun};
 ghost use Rattle.dav_props.specs.Finding.{IsUpTo, asking, found_reply, names_asked};
 
-use crate::members::{ANSWER_LIMIT, push_members, write_href};
+use crate::members::{push_members, write_href};
 use crate::subjects::subject_at;
 use crate::telling::push_resource;
 use cal_base::{List, NoMemory, Octets};
 use cal_model::view::View;
-use cal_model::{Media, Path, PropName, Props, Reply, Seen};
+use cal_model::{ANSWER_LIMIT, Media, Path, PropName, Props, Reply, Seen};
 use multistatus::{begin_multistatus, end_multistatus, once};
 use object_walk::Walks;
 use std::alloc::Global;

@@ -7,6 +7,7 @@ ghost use Rattle.cal_model.specs.Properties.PropertyTable as table;
 ghost use Rattle.dav_props.specs.Rows as spec;
 
 use cal_model::PropName;
+use cal_model::privilege::{READ, READ_ACL, READ_HELD};
 
 /// A property: one that has a row of its own in the table, or a text.
 #[derive(Clone, Copy)]
@@ -126,12 +127,6 @@ const DAV: &[u8] = b"DAV:";
 
 /// The namespace of CalDAV (RFC 4791, 4).
 const CALDAV: &[u8] = b"urn:ietf:params:xml:ns:caldav";
-
-const READ: u16 = 2;
-
-const READ_ACL: u16 = 64;
-
-const READ_HELD: u16 = 256;
 
 /// The name of a property that has a row of its own.
 pub(crate) fn name_of(row: Row) -> &'static [u8]

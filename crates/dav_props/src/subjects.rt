@@ -11,15 +11,10 @@ ghost use Rattle.dav_props.specs.Subjects.{Unseen, resource_of, IsSeenAs, IsCale
 
 use crate::rows::Place;
 use cal_base::Octets;
+use cal_model::privilege::{ALL, READ};
 use cal_model::view::View;
 use cal_model::{CalendarData, Path, Seen, Stored};
 use privileges::held;
-
-/// All privileges.
-const ALL: u16 = 511;
-
-/// DAV:read.
-const READ: u16 = 2;
 
 /// What a user sees at a path. With a user's name, the privileges that are held, and what shows the
 /// properties.

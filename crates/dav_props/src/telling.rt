@@ -17,13 +17,11 @@ use crate::answers::{push_empty, push_property, status_of};
 use crate::rows::{Asked, Listing, ROWS, Row, asked_for, asked_row, columns_of, is_text};
 use crate::subjects::{Subject, has_all};
 use cal_base::{NoMemory, Octets};
+use cal_model::privilege::READ;
 use cal_model::view::View;
 use cal_model::{PropName, PropSet, Props, Seen};
 use multistatus::{PropStatus, Response, push_status_response};
 use std::alloc::Global;
-
-/// DAV:read.
-const READ: u16 = 2;
 
 /// Which of the properties that are gone over stand in the response.
 #[derive(Clone, Copy)]

@@ -4,13 +4,9 @@ ghost use Rattle.cal_model.specs.Refusals.ReportRefusals.{range_refusal};
 ghost use Rattle.cal_model.specs.Reports.NamedRanges as spec;
 ghost use Rattle.dav_reports.specs.RangeDates.{IsFirst, own_ranges, ranges_of_props, refusal_of};
 
-use cal_model::{CompFilter, PropFilter, PropTest, Range, Recur, ReportRequest, Selection};
-
-/// The first moment that is served, 16000101T000000Z, in seconds since 1970.
-const FIRST_DATE: i64 = -11_676_096_000;
-
-/// The last one, 21001231T235959Z.
-const LAST_DATE: i64 = 4_133_980_799;
+use cal_model::{
+    CompFilter, FIRST_DATE, LAST_DATE, PropFilter, PropTest, Range, Recur, ReportRequest, Selection,
+};
 
 /// Where a range leaves the dates that are served.
 #[derive(Clone, Copy)]

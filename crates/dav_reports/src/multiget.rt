@@ -19,12 +19,14 @@ ghost use Rattle.dav_reports.specs.PieceRows.{AreRowsOf, IsKept, windows_cost};
 ghost use Rattle.dav_reports.specs.SeenCalendars.{IsBody, IsWritten, MayRead, reported_of};
 
 use crate::names::names_to_ask;
-use crate::query::{ANSWER_LIMIT, finished, push_shown};
+use crate::query::{finished, push_shown};
 use crate::ranges::ranges_of_selection;
 use crate::rows::rows_for;
 use cal_base::{List, NameMap, NoMemory, Octets, Steps};
 use cal_model::view::{Pieces, View};
-use cal_model::{Path, PropAnswers, PropName, Props, Range, Seen, Selection, Stored, ZoneTable};
+use cal_model::{
+    ANSWER_LIMIT, Path, PropAnswers, PropName, Props, Range, Seen, Selection, Stored, ZoneTable,
+};
 use dav_write::read_path;
 use multistatus::{PropStatus, begin_multistatus, push_status_response};
 use std::alloc::Global;

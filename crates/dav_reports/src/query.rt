@@ -31,7 +31,8 @@ use crate::shown_response::push_object;
 use cal_base::{List, NoMemory, Octets, Steps};
 use cal_model::view::{Pieces, View};
 use cal_model::{
-    Filter, Path, PropAnswers, PropName, Props, Range, Row, Seen, Selection, Stored, ZoneTable,
+    ANSWER_LIMIT, Filter, Path, PropAnswers, PropName, Props, Range, Row, Seen, Selection, Stored,
+    ZoneTable,
 };
 use expand_limit::{shown, takes_all};
 use filter_eval::Prepared;
@@ -212,9 +213,6 @@ fn push_sought<V: View, A: PropAnswers, P: Pieces, L: Ledger>(
         out,
     )
 }
-
-/// The octets of an answer (RFC 4791, 7.8: a server may refuse one that is too long).
-pub(crate) const ANSWER_LIMIT: usize = 67_108_864;
 
 /// Appends the responses of the objects of a calendar that match a filter, by name; ends as soon as they
 /// are longer than an answer may be, and then gives false.

@@ -10,13 +10,10 @@ ghost use Rattle.dav_reports.specs.FreeBusyLines.{IsWithinDates, run_lines};
 ghost use Rattle.dav_reports.specs.SeenCalendars.{IsBody};
 
 use cal_base::{NoMemory, Octets};
-use cal_model::{Class, Range};
+use cal_model::{ANSWER_LIMIT, Class, Range};
 use cal_moment::{Utc, write_utc};
 use freebusy::Run;
 use std::alloc::Global;
-
-/// The most octets of an answer.
-pub(crate) const MOST_OCTETS: usize = 67_108_864;
 
 /// What stands before the moment of the answer.
 const HEAD: &[u8] =
@@ -81,7 +78,7 @@ fn put_runs(runs: &[Run], out: &mut Octets) -> Result<bool, NoMemory>
 {
     let mut rest = runs;
     'lines: while let Some((run, behind)) = rest.split_first() {
-        if out.len() > MOST_OCTETS {
+        if out.len() > ANSWER_LIMIT {
             return Ok(false);
         }
         put_run(*run, out)?;
@@ -110,7 +107,7 @@ pub(crate) fn free_busy_text(
         return Ok(None);
     }
     out.extend_from_slice(b"END:VFREEBUSY\r\nEND:VCALENDAR\r\n")?;
-    if out.len() > MOST_OCTETS {
+    if out.len() > ANSWER_LIMIT {
         return Ok(None);
     }
     Ok(Some(out))

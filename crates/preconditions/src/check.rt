@@ -8,12 +8,9 @@ ghost use Rattle.preconditions.specs.Checks.{IsFinding, IsFineWith, IsObjectOf, 
 use crate::content::{unmet_by_fault, unmet_by_object};
 use crate::precondition::Precondition;
 use cal_base::NoMemory;
-use cal_model::{Object, Refusal};
+use cal_model::{Object, RESOURCE_LIMIT, Refusal};
 use cal_object::read_object;
 use std::alloc::Global;
-
-/// The most octets that an object may have.
-const MOST_OCTETS: usize = 262_144;
 
 /// What came of the checks of a PUT.
 #[derive(Drop)]
@@ -78,7 +75,7 @@ pub fn check_put(alloc: Global, media_ok: bool, octets: &[u8], kinds: u8) -> Put
     if !media_ok {
         return refused(alloc, Precondition::SupportedCalendarData);
     }
-    if octets.len() > MOST_OCTETS {
+    if octets.len() > RESOURCE_LIMIT {
         return refused(alloc, Precondition::MaxResourceSize);
     }
     check_octets(alloc, kinds, octets)

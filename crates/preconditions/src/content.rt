@@ -8,7 +8,7 @@ ghost use Rattle.preconditions.specs.Checks.{IsUnmetBy, content_refusal, refusal
 
 use crate::precondition::Precondition;
 use cal_base::NoMemory;
-use cal_model::{Kind, Object, written_value};
+use cal_model::{FIRST_DATE, Kind, Object, written_value};
 use cal_moment::Stamp;
 use cal_object::ReadFault;
 use rrule_sets::{Counted, count_rows, has_fine_rule};
@@ -16,9 +16,6 @@ use std::alloc::Global;
 
 /// The most instances that an object may have.
 const MOST_INSTANCES: u32 = 250_000;
-
-/// 16000101T000000Z in seconds since 1970, the first moment that is served.
-const FIRST_DATE: i64 = -11_676_096_000;
 
 /// The bit of a kind among those that a calendar takes.
 fn bit_of(kind: Kind) -> u8

@@ -4,11 +4,9 @@ ghost use Rattle.cal_model.specs.Access.Privileges as spec;
 ghost use Rattle.cal_model.specs.State.ServerState.{groups_of};
 ghost use Rattle.cal_model.specs.State.SoundStates.{HaveGroups, IsToGroup};
 
+use cal_model::privilege::ALL;
 use cal_model::view::View;
 use cal_model::{Acl, Grant, PrivilegeSet, Who};
-
-/// All nine privileges.
-const ALL: u16 = 511;
 
 /// The privileges that a user holds on a calendar of an owner: all, where they are the same user,
 /// and else the union of the grants to that user, to each group that has the user as a member, and to

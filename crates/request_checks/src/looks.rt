@@ -3,8 +3,7 @@ ghost use Rattle.std.specs.Prelude.{◌≡◌};
 ghost use Rattle.cal_model.specs.Access.Privileges as privilege;
 ghost use Rattle.request_checks.specs.Sightings as sightings;
 
-/// DAV:read.
-pub(crate) const READ: u16 = 2;
+use cal_model::privilege::READ;
 
 /// How a calendar is looked at.
 #[derive(Clone, Copy)]

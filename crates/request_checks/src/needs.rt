@@ -5,22 +5,13 @@ ghost use Rattle.cal_model.specs.Refusals.SharedRefusals as spec;
 ghost use Rattle.request_checks.specs.Scenes.{least_of};
 ghost use Rattle.request_checks.specs.SharedReplies.{needed, unmet_set};
 
-use crate::looks::{READ, has_all};
+use crate::looks::has_all;
 use crate::scenes::Scene;
 use crate::sightings::held_on;
+use cal_model::privilege::{
+    BIND, READ, READ_FREE_BUSY, UNBIND, WRITE_ACL, WRITE_CONTENT, WRITE_PROPERTIES,
+};
 use cal_model::{Content, Method, Path, ReportRequest};
-
-const READ_FREE_BUSY: u16 = 1;
-
-const WRITE_CONTENT: u16 = 4;
-
-const WRITE_PROPERTIES: u16 = 8;
-
-const BIND: u16 = 16;
-
-const UNBIND: u16 = 32;
-
-const WRITE_ACL: u16 = 128;
 
 /// What a request needs.
 #[derive(Clone, Copy)]

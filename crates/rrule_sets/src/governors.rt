@@ -18,7 +18,7 @@ ghost use Rattle.rrule_sets.specs.HeldGovernors.{HasNoGreaterId, HoldsGovernors,
 ghost use Rattle.rrule_sets.specs.HeldGovernors as spec;
 
 use cal_base::{List, NoMemory};
-use cal_model::{Component, Extent, LocalTimes, Object, Row, written_value};
+use cal_model::{Component, Extent, FIRST_DATE, LAST_DATE, LocalTimes, Object, Row, written_value};
 use cal_moment::Stamp;
 use override_merge::days::{DayStart, day_starts, first_on};
 use override_merge::ends::end_of_extent;
@@ -27,11 +27,6 @@ use override_merge::stamps::{Aligned, align, kind_of};
 use override_merge::starts::own_start;
 use override_merge::zones::{instant_beside, local_beside};
 use std::alloc::Global;
-
-/// The first and the last second of the dates that are served.
-const FIRST_DATE: i64 = -11_676_096_000;
-
-const LAST_DATE: i64 = 4_133_980_799;
 
 /// An override that moves all later instances.
 #[derive(Clone, Copy)]

@@ -17,12 +17,10 @@ use crate::changes::check::ChangeCheck;
 use crate::changes::places::Target;
 use crate::view::BookView;
 use cal_base::{NoMemory, Octets};
+use cal_model::privilege::READ;
 use cal_model::{Cond, Path, Refusal};
 use dav_write::append_path;
 use std::alloc::Global;
-
-/// DAV:read.
-const READ: u16 = 2;
 
 /// The name of the other object of the calendar that has the UID of one that is put; or its own name,
 /// where the object that is there has another UID.

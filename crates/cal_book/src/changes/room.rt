@@ -5,12 +5,10 @@ ghost use Rattle.cal_book.specs.Showing.ShownStates.{shown_state};
 ghost use Rattle.cal_book.specs.Checking.Rows.{is_full_at, has_all_calendars_at};
 
 use crate::view::BookView;
+use cal_model::CHANGE_COST;
 
 /// What all accepted changes of one home may cost.
 const HOME_LIMIT: u64 = 33_554_432;
-
-/// What a change costs beside the octets of its request's body.
-const CHANGE_COST: u64 = 256;
 
 /// The calendars of a home.
 const MOST_CALENDARS: usize = 64;
