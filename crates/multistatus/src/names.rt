@@ -5,7 +5,7 @@ ghost use Rattle.cal_model.specs.Properties.PropertyReplies.{once};
 ghost use Rattle.multistatus.specs.NameKeys.{marked, key};
 
 use cal_base::{List, NameMap, NoMemory, Octets};
-use cal_model::PropName;
+use cal_model::{PropName, copy_name};
 use std::alloc::Global;
 
 /// Each of some names once, at its first place (RFC 4918, 9.1). The time is that of putting so many
@@ -36,15 +36,7 @@ fn add_new(
         return Ok(());
     }
     met.insert(key, true)?;
-    list.push(copy_of(alloc, name)?)
-}
-
-fn copy_of(alloc: Global, name: &PropName) -> Result<PropName, NoMemory>
-    ensures { IfOk result (λ copy. copy ≡ name.now) }
-{
-    let space = Octets::of(alloc, name.space.as_slice())?;
-    let name = Octets::of(alloc, name.name.as_slice())?;
-    Ok(PropName { space, name })
+    list.push(copy_name(alloc, name)?)
 }
 
 /// A name as one text, which no other name has.
