@@ -164,31 +164,6 @@ fn without_overrides(
     put_in_order(out)
 }
 
-/// The rows of a part, of an object that may have overrides.
-fn with_overrides(
-    alloc: Global,
-    zones: &[LocalTimes<'_>],
-    ids: Stamp,
-    object: &Object,
-    rows: &[Row],
-    part: Part,
-) -> Result<List<Row>, NoMemory>
-    requires zones { tables_of zones.now ≡ object.now.zones }
-    requires object { HasConvertibleRows object.now }
-    requires ids { HasZone (length zones.now) ids }
-    requires near { All HasRowTimes rows.now }
-    ensures { IfOk result (λ merged. merged ≡ spec.in_order
-        (filter (lies_in object.now part) (flat_map (spec.override_row object.now ids (map (λ (r : Row). r.id) rows.now)) (spec.overrides object.now))
-        ++ filter (lies_in object.now part) (filter (λ (r : Row). not (spec.is_named object.now ids r.id)) rows.now))) }
-{
-    let names = names_of_overrides(alloc, zones, ids, object.components.as_slice())?;
-    let days = day_starts(alloc, zones, ids, rows)?;
-    let mut out = List::new(alloc);
-    put_own_rows(zones, ids, object, days.as_slice(), part, &mut out)?;
-    put_unnamed_rows(zones, ids, object, &names, rows, part, &mut out)?;
-    put_in_order(out)
-}
-
 /// The rows of a part: those of the overrides in place of the rows that they name, or added where they
 /// name none, by id, then component. The stamp is that beside which the ids of the object are aligned.
 /// An override by a local day takes its id from the rows that are given, so they have to hold those of
@@ -209,11 +184,15 @@ pub fn merged_rows(
         (filter (lies_in object.now part) (flat_map (spec.override_row object.now ids (map (λ (r : Row). r.id) rows.now)) (spec.overrides object.now))
         ++ filter (lies_in object.now part) (filter (λ (r : Row). not (spec.is_named object.now ids r.id)) rows.now))) }
 {
-    if has_overrides(object.components.as_slice()) {
-        with_overrides(alloc, zones, ids, object, rows, part)
-    } else {
-        without_overrides(alloc, zones, object, rows, part)
+    if !has_overrides(object.components.as_slice()) {
+        return without_overrides(alloc, zones, object, rows, part);
     }
+    let names = names_of_overrides(alloc, zones, ids, object.components.as_slice())?;
+    let days = day_starts(alloc, zones, ids, rows)?;
+    let mut out = List::new(alloc);
+    put_own_rows(zones, ids, object, days.as_slice(), part, &mut out)?;
+    put_unnamed_rows(zones, ids, object, &names, rows, part, &mut out)?;
+    put_in_order(out)
 }
 
 /// The rows of a master with the overrides of its object put in: the row of an override stands in place
