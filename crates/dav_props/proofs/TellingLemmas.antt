@@ -1,8 +1,8 @@
 -- Which properties of a resource are told.
-use Rattle.std.proofs.Common.{◌≡◌, ℕ, ◌+◌, ◌<◌, Bool, true, false, not, cond, ◌==◌, List, [], ◌∷◌, ◌++◌, map, length, get_or, take, drop, arith, Option, Some, None, refl, sym, ap, ◌∙◌, subst, append-nil, append_assoc, eq-eqb}
+use Rattle.std.proofs.Common.{◌≡◌, ℕ, ◌+◌, ◌<◌, Bool, true, false, not, cond, ◌==◌, List, [], ◌∷◌, ◌++◌, map, length, get_or, take, drop, arith, Option, Some, None, refl, sym, ap, ◌∙◌, subst, append-nil, append_assoc}
 use Rattle.std.specs.Prelude.{filter, is_some, find, option_map, Result, Ok, Err, OnOk}
 use Rattle.std.proofs.Math.Seq.{take-append_seam, drop-append_seam}
-use Rattle.std.proofs.lemmas.Bool.Decides.{nat_tests}
+use Rattle.std.proofs.lemmas.Bool.{false≢true}
 use Rattle.std.proofs.lemmas.List.{map-append, take_more}
 use Rattle.std.proofs.lemmas.List.Elements.{filter-append}
 use Rattle.cal_model.specs.declared.property.PropName.{PropName}
@@ -12,6 +12,7 @@ use Rattle.cal_model.specs.Properties.PropertyTable.{Answer, Property, Listing, 
 use Rattle.cal_model.specs.Properties.PropertyReplies.{with_status}
 use Rattle.cal_model.specs.Sight.Resources.{Resource, Asker, held_of}
 use Rattle.cal_model.specs.State.ServerState.{Directory}
+use Rattle.cal_model.specs.Words.Lists.{is_empty}
 use Rattle.multistatus.specs.Answered.{IsAnswered}
 use Rattle.multistatus.specs.declared.responses.Response.{Response}
 use Rattle.dav_props.specs.declared.rows.Asked.{Asked}
@@ -99,11 +100,39 @@ pub answered_is : (directory : Directory) (who : ℕ) (asked : Asked) (seen : Su
 unfolding answer
 answered_is directory who asked seen unseen found = ap (answer_of_row (asking directory who) (resource_of seen unseen) (asked_name asked)) (sym found)
 
-pub told_there : (a : Answer) → a.status ≡ 200 → told There (a ∷ []) ≡ a ∷ []
-told_there a is = ap (λ b. cond b (a ∷ []) []) (eq-eqb a.status 200 is)
+-- A property that is left out: it is not there, and not each is answered
 
-pub told_names : (a : Answer) → a.status ≡ 200 → told Names (a ∷ []) ≡ bare a ∷ []
-told_names a is = ap (λ (answers : List Answer). map bare answers) (told_there a is)
+left_out_there : (a : Answer) (test : Bool) → not test ≡ is_empty (cond test (a ∷ []) [])
+left_out_there a true = refl
+left_out_there a false = refl
+
+left_out_names : (a : Answer) (test : Bool) → not test ≡ is_empty (map bare (cond test (a ∷ []) []))
+left_out_names a true = refl
+left_out_names a false = refl
+
+pub left_out_by : (telling : Telling) (a : Answer) (status : ℕ) → (telling ≡ Every → ⊥) → status ≡ a.status → not (status == 200) ≡ is_empty (told telling (a ∷ []))
+left_out_by Every a status some is = absurd (some refl)
+left_out_by There a status some is = ap (λ n. not (n == 200)) is ∙ left_out_there a (a.status == 200)
+left_out_by Names a status some is = ap (λ n. not (n == 200)) is ∙ left_out_names a (a.status == 200)
+
+-- What is told of a property that is not left out
+
+whole_there : (a : Answer) (test : Bool) → is_empty (cond test (a ∷ []) []) ≡ false → cond test (a ∷ []) [] ≡ a ∷ []
+whole_there a true some = refl
+whole_there a false some = absurd (false≢true (sym some))
+
+pub told_whole : (telling : Telling) (a : Answer) → (telling ≡ Names → ⊥) → is_empty (told telling (a ∷ [])) ≡ false → told telling (a ∷ []) ≡ a ∷ []
+told_whole Every a whole some = refl
+told_whole There a whole some = whole_there a (a.status == 200) some
+told_whole Names a whole some = absurd (whole refl)
+
+bare_names : (a : Answer) (test : Bool) → is_empty (map bare (cond test (a ∷ []) [])) ≡ false → map bare (cond test (a ∷ []) []) ≡ bare a ∷ []
+bare_names a true some = refl
+bare_names a false some = absurd (false≢true (sym some))
+
+pub told_bare : (telling : Telling) (a : Answer) → telling ≡ Names → is_empty (told telling (a ∷ [])) ≡ false → told telling (a ∷ []) ≡ bare a ∷ []
+told_bare telling a names =
+    subst (λ (t : Telling). is_empty (told t (a ∷ [])) ≡ false → told t (a ∷ []) ≡ bare a ∷ []) (sym names) (bare_names a (a.status == 200))
 
 -- The rows that are listed
 
@@ -194,12 +223,6 @@ on_ok_told (Err e) r0 w0 r1 w1 more all = tt
 pub on_ok_each : {X E A : Type 0} (P : A → Type 0) (result : Result X E) → ((a : A) → OnOk result (P a)) → OnOk result ((a : A) → P a)
 on_ok_each P (Ok x) all = all
 on_ok_each P (Err e) all = tt
-
-pub told_gone : (a : Answer) → (a.status ≡ 200 → ⊥) → told There (a ∷ []) ≡ []
-told_gone a other = let test : (a.status == 200) ≡ false = grind (arith, nat_tests) in ap (λ b. cond b (a ∷ []) []) test
-
-pub told_gone_bare : (a : Answer) → (a.status ≡ 200 → ⊥) → told Names (a ∷ []) ≡ []
-told_gone_bare a other = ap (λ (answers : List Answer). map bare answers) (told_gone a other)
 
 pub found_row : (asked : Asked) (row : Row) → asked_name asked ≡ name_of row → asked.row ≡ row → IsFound asked
 found_row asked row name is = ap row_of name ∙ row_of-own row ∙ (λ i. property_of (sym is i) (sym name i))

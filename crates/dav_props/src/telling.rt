@@ -7,8 +7,10 @@ ghost use Rattle.cal_model.specs.Properties.PropertyTable.{Answer, answer, witho
 ghost use Rattle.cal_model.specs.Replies.Hrefs.{href as href_of};
 ghost use Rattle.cal_model.specs.Replies.XmlText.{response};
 ghost use Rattle.cal_model.specs.Sight.Resources.{path_of_resource};
+ghost use Rattle.cal_model.specs.State.ServerState.{Directory};
+ghost use Rattle.cal_model.specs.Words.Lists.{is_empty};
 ghost use Rattle.multistatus.specs.Answered.{IsAnswered};
-ghost use Rattle.dav_props.specs.Finding.{IsFound, Tells, asking, lists, names_asked};
+ghost use Rattle.dav_props.specs.Finding.{IsFound, Tells, asking, lists, names_asked, told};
 ghost use Rattle.dav_props.specs.Rows.{asked_name, name_of as name_of_row, property_of};
 ghost use Rattle.dav_props.specs.Subjects.{HasUsers, Unseen, resource_of, texts_of};
 ghost use Rattle.dav_props.specs.declared.telling.Telling.TheVariants as spec_telling;
@@ -253,7 +255,7 @@ fn tell_text<V: View>(
     tell(alloc, seen, telling, &asked, subject, response, out)
 }
 
-/// Answers one property.
+/// Answers one property, unless it is left out.
 fn tell<V: View>(
     alloc: Global,
     seen: &Seen<'_, V>,
@@ -268,50 +270,23 @@ fn tell<V: View>(
     requires found { IsFound asked.now }
     ensures { OnOk result ((unseen : Unseen) → Tells (asking (V.directory seen.now.view.now) seen.now.who) (resource_of subject.now unseen) telling (asked_name asked.now ∷ []) response.old out.old response.new out.new) }
 {
+    if is_left_out(telling, asked, subject) {
+        return Ok(());
+    }
     match telling {
-        Telling::Every => tell_whole(alloc, seen, asked, subject, response, out),
-        Telling::There => tell_there(alloc, seen, asked, subject, response, out),
-        Telling::Names => tell_bare(seen, asked, subject, response, out),
+        Telling::Names => tell_name(asked, response, out),
+        _ => tell_whole(alloc, seen, asked, subject, response, out),
     }
 }
 
-/// Answers a property that is there.
-fn tell_there<V: View>(
-    alloc: Global,
-    seen: &Seen<'_, V>,
-    asked: &Asked<'_>,
-    subject: &Subject<'_>,
-    response: &mut Response,
-    out: &mut Octets,
-) -> Result<(), NoMemory>
-    requires user { seen.now.who < length (V.directory seen.now.view.now).names }
-    requires users { HasUsers (V.directory seen.now.view.now) subject.now }
-    requires found { IsFound asked.now }
-    ensures { OnOk result ((unseen : Unseen) → Tells (asking (V.directory seen.now.view.now) seen.now.who) (resource_of subject.now unseen) spec_telling.There (asked_name asked.now ∷ []) response.old out.old response.new out.new) }
+/// Whether a property is left out of the response: it is not there, and not each is answered.
+fn is_left_out(telling: Telling, asked: &Asked<'_>, subject: &Subject<'_>) -> bool
+    requires { IsFound asked.now }
+    ensures { (directory : Directory) (who : ℕ) (unseen : Unseen) → HasUsers directory subject.now → result ≡ is_empty (told telling (answer (asking directory who) (resource_of subject.now unseen) (asked_name asked.now) ∷ [])) }
 {
-    if status_of(asked, subject) == 200 {
-        tell_whole(alloc, seen, asked, subject, response, out)
-    } else {
-        Ok(())
-    }
-}
-
-/// Says of a property that is there its name.
-fn tell_bare<V: View>(
-    seen: &Seen<'_, V>,
-    asked: &Asked<'_>,
-    subject: &Subject<'_>,
-    response: &mut Response,
-    out: &mut Octets,
-) -> Result<(), NoMemory>
-    requires users { HasUsers (V.directory seen.now.view.now) subject.now }
-    requires found { IsFound asked.now }
-    ensures { OnOk result ((unseen : Unseen) → Tells (asking (V.directory seen.now.view.now) seen.now.who) (resource_of subject.now unseen) spec_telling.Names (asked_name asked.now ∷ []) response.old out.old response.new out.new) }
-{
-    if status_of(asked, subject) == 200 {
-        tell_name(asked, response, out)
-    } else {
-        Ok(())
+    match telling {
+        Telling::Every => false,
+        _ => status_of(asked, subject) != 200,
     }
 }
 
