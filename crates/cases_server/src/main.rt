@@ -27,7 +27,6 @@ mod slot;
 mod texts;
 mod threads;
 mod users;
-mod view;
 mod walk;
 
 use books::print_books;

@@ -3,13 +3,14 @@ ghost use Rattle.std.specs.Prelude.{◌≡◌, ◌<◌, false, [], length};
 ghost use Rattle.cal_model.specs.Access.Privileges.{same_name};
 ghost use Rattle.cal_model.specs.History.Origins.{AreLive};
 ghost use Rattle.cal_model.specs.Serving.SeenResources.{calendar_data};
-ghost use Rattle.collections.specs.Kept.{origins_of};
+ghost use Rattle.collections.specs.Kept.{users_of, origins_of};
+ghost use Rattle.cal_book.specs.Showing.ShownStates.{shown_directory};
 
 use crate::props_texts::{name_of, props_of, sets_of};
 use crate::texts::{parts, print_octets};
 use crate::users::{TWO, shared_users};
-use crate::view::OpeningView;
 use cal_base::{NoMemory, Octets};
+use cal_book::BookView;
 use cal_model::{Path, PropAnswers, PropName, Props, Reply, Seen};
 use collections::Store;
 use dav_props::{DavAnswers, PatchCheck, check_make, check_patch, find};
@@ -105,6 +106,15 @@ fn found(alloc: Global, store: &Store, words: &[u8]) -> Result<Answer, NoMemory>
     Ok(told("found", reply))
 }
 
+/// A store at its start, as those look at it who answer requests.
+#[tactic(auto, using(crate::proofs::OpeningOrigins::opening_apart))]
+fn opening_view(store: &Store) -> BookView<'_>
+    requires { AreLive [] (origins_of store.now) }
+    ensures { shown_directory result ≡ users_of store.now }
+{
+    BookView::new(store)
+}
+
 /// The reply to a PROPFIND of a user.
 fn found_at(
     alloc: Global,
@@ -117,7 +127,7 @@ fn found_at(
     requires no_objects { AreLive [] (origins_of store.now) }
     requires user { who < length store.now.users.people }
 {
-    let view = OpeningView::new(store);
+    let view = opening_view(store);
     let seen = Seen { view: &view, who };
     let reply = find(alloc, &seen, path, props, deep);
     let Seen {
@@ -165,7 +175,7 @@ fn answered_at(
     requires user { who < length store.now.users.people }
     requires not_data { same_name name.now calendar_data ≡ false }
 {
-    let view = OpeningView::new(store);
+    let view = opening_view(store);
     let seen = Seen { view: &view, who };
     let status = DavAnswers.answer(alloc, &seen, path, name, out);
     let Seen {
