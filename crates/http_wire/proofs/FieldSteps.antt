@@ -1,30 +1,14 @@
--- Fields one after the other, and the options of one.
-use Rattle.std.proofs.Common.{◌≡◌, ℕ, Bool, true, false, ◌==◌, ◌||◌, List, [], ◌∷◌, map, Option, Some, None, refl, sym, ap, ◌∙◌, ⊎_elim}
+-- The options of a field.
+use Rattle.std.proofs.Common.{◌≡◌, ℕ, Bool, true, false, ◌==◌, ◌||◌, List, [], ◌∷◌, Option, Some, None, refl, sym, ap, ◌∙◌, ⊎_elim}
 use Rattle.std.specs.Prelude.{bytes_eq, codes, option_map}
 use Rattle.std.specs.List.{list_any}
-use Rattle.std.specs.Str.{str_eq_ignore_ascii_case, str_to_ascii_lowercase}
 use Rattle.std.proofs.lemmas.Option.{same_Some}
-use Rattle.std.proofs.lemmas.Bool.Decides.{same_from_decides}
-use Rattle.std.proofs.lemmas.Slice.Eq.{bytes_eq-Decides}
-use Rattle.httparse.specs.declared.spans.HeaderSpan.{HeaderSpan}
 use Rattle.httparse.specs.Grammar.{trim_ows}
-use Rattle.httparse.specs.Spans.{span_bytes, header_bytes}
 use Rattle.cal_base.specs.Lines.ContentLines.{pieces, onto_first}
 use Rattle.cal_model.specs.Words.Cuts.{cut_at}
 use Rattle.cal_model.specs.Streams.HeadFields.{names_close}
 use Rattle.cal_model.proofs.Streams.StreamFronts.{bool_cases, none_some}
 use Rattle.cal_model.proofs.Streams.HeadLaws.{piece_here, piece_later, cut_here, cut_later}
-use Rattle.http_wire.specs.FieldTexts.{values_named}
-
--- what `eq_ignore_ascii_case` answers is the test of the definition
-pub same_name : (a b : List ℕ) (r : Bool) → (r ≡ true → str_to_ascii_lowercase a ≡ str_to_ascii_lowercase b) × (str_to_ascii_lowercase a ≡ str_to_ascii_lowercase b → r ≡ true) → str_eq_ignore_ascii_case a b ≡ r
-same_name a b r h = same_from_decides _ r (bytes_eq-Decides (str_to_ascii_lowercase a) (str_to_ascii_lowercase b)) h
-
-pub other_field : (block name : List ℕ) (header : HeaderSpan) (headers : List HeaderSpan) → str_eq_ignore_ascii_case (span_bytes block header.name) name ≡ false → values_named name (map (header_bytes block) (header ∷ headers)) ≡ values_named name (map (header_bytes block) headers)
-other_field block name header headers e = rw e refl
-
-pub this_field : (block name : List ℕ) (header : HeaderSpan) (headers : List HeaderSpan) → str_eq_ignore_ascii_case (span_bytes block header.name) name ≡ true → values_named name (map (header_bytes block) (header ∷ headers)) ≡ span_bytes block header.value ∷ values_named name (map (header_bytes block) headers)
-this_field block name header headers e = rw e refl
 
 -- an octet in front of the first of two parts
 abbrev pub ahead : ℕ → List ℕ × List ℕ → List ℕ × List ℕ

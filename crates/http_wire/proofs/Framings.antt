@@ -17,8 +17,9 @@ use Rattle.cal_model.specs.Streams.HeadFields.{names_close, joined}
 use Rattle.http_wire.specs.declared.fields.Fields.{Fields}
 use Rattle.http_wire.specs.declared.request.Line.{Line as RequestLine}
 use Rattle.http_wire.specs.declared.part.Part.TheVariants.{Sized, Line}
-use Rattle.http_wire.specs.FieldTexts.{values_named, shown_fields, values_of, is_several, coding_among}
+use Rattle.http_wire.specs.FieldTexts.{values_named, values_of, AreFieldsOf, is_several, coding_among}
 use Rattle.http_wire.specs.HeadReading.{judged, framed, first_part, FramingReads, IsHeadOf}
+use Rattle.http_wire.proofs.FieldValues.{values_of-map}
 
 -- the values under a name are those of the fields, by their names and values
 values_are : (name : List ℕ) (fields : List Field) → map field_value (filter (λ (field : Field). str_eq_ignore_ascii_case field.name name) fields) ≡ values_named name (map name_and_value fields)
@@ -29,14 +30,14 @@ values_are name (f ∷ fields) =
     (λ other. rw other (values_are name fields))
     (bool_cases (str_eq_ignore_ascii_case f.name name))
 
-pub values_same : (name : List ℕ) (fields : Fields) (head : RequestHead) → shown_fields fields ≡ map name_and_value head.fields → values_of name fields ≡ values name head
-values_same name fields head e = ap (values_named name) e ∙ sym (values_are name head.fields)
+pub values_same : (name : List ℕ) (fields : Fields) (head : RequestHead) → AreFieldsOf fields head → values_of name fields ≡ values name head
+values_same name fields head e = values_of-map name fields (map name_and_value head.fields) e ∙ sym (values_are name head.fields)
 
 any_same : (p q : List ℕ → Bool) (names : List (List ℕ)) → ((name : List ℕ) → p name ≡ q name) → list_any p names ≡ list_any q names
 any_same p q [] h = refl
 any_same p q (name ∷ names) h = ap (λ b. b || list_any p names) (h name) ∙ ap (λ b. q name || b) (any_same p q names h)
 
-several_same : (fields : Fields) (head : RequestHead) → shown_fields fields ≡ map name_and_value head.fields → list_any (is_several fields) single_fields ≡ list_any (is_repeated head) single_fields
+several_same : (fields : Fields) (head : RequestHead) → AreFieldsOf fields head → list_any (is_several fields) single_fields ≡ list_any (is_repeated head) single_fields
 several_same fields head e = any_same (is_several fields) (is_repeated head) single_fields (λ name. ap (λ vs. nat_lt 1 (length vs)) (values_same name fields head e))
 
 -- Contradictions and framing, over the values
@@ -65,7 +66,7 @@ judged_is head several ls cs a l c =
     ∙ ap (λ x. judged_by head (contradicts several x (codings_of head)) (framing_by x (codings_of head))) l
     ∙ ap (λ x. judged_by head (contradicts several ls x) (framing_by ls x)) c
 
-pub several_refused : (fields : Fields) (head : RequestHead) → list_any (is_several fields) single_fields ≡ true → shown_fields fields ≡ map name_and_value head.fields → judged head ≡ Err BadHead
+pub several_refused : (fields : Fields) (head : RequestHead) → list_any (is_several fields) single_fields ≡ true → AreFieldsOf fields head → judged head ≡ Err BadHead
 unfolding judged_by contradicts framing_by
 several_refused fields head several e = judged_is head true (lengths_of head) (codings_of head) (sym (several_same fields head e) ∙ several) refl refl
 
@@ -102,7 +103,7 @@ reads_by head (value ∷ []) (coding ∷ []) a l c one few = judged_is head fals
 reads_by head (value ∷ other ∷ ls) cs a l c one few = absurd (omega (arith, one))
 reads_by head ls (coding ∷ other ∷ cs) a l c one few = absurd (omega (arith, few))
 
-pub framing_reads : (fields : Fields) (head : RequestHead) → list_any (is_several fields) single_fields ≡ false → shown_fields fields ≡ map name_and_value head.fields
+pub framing_reads : (fields : Fields) (head : RequestHead) → list_any (is_several fields) single_fields ≡ false → AreFieldsOf fields head
     → FramingReads (framed (slice_get (values_of (codes "transfer-encoding") fields) 0) (slice_get (values_of (codes "content-length") fields) 0)) head
 unfolding lengths_of codings_of
 framing_reads fields head single e =

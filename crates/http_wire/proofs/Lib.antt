@@ -2,6 +2,8 @@ pub mod Appends
 pub mod HeadBlocks
 pub mod Framings
 pub mod FieldSteps
+pub mod FieldValues
+pub mod FieldHeads
 pub mod LineTexts
 pub mod DigitLemmas
 pub mod Places

@@ -1,9 +1,9 @@
 -- What is read of a block, and of the parts of a head that stand in it.
-use Rattle.std.specs.Prelude.{◌≡◌, ℕ, nat_lt, if◌then◌else◌, List, [], map, bytes_eq, codes, Option, Some, None, Result, Ok, Err}
+use Rattle.std.specs.Prelude.{◌≡◌, ℕ, nat_lt, if◌then◌else◌, List, [], bytes_eq, codes, Option, Some, None, Result, Ok, Err}
 use Rattle.httparse.specs.declared.spans.HeaderSpan.{HeaderSpan}
 use Rattle.httparse.specs.declared.spans.RequestSpans.{RequestSpans}
 use Rattle.httparse.specs.Grammar.{RequestHead, ReadsRequest}
-use Rattle.httparse.specs.Spans.{IsRequestAt, name_and_value}
+use Rattle.httparse.specs.Spans.{IsRequestAt}
 use Rattle.cal_model.specs.declared.wire.WireFault.{WireFault}
 use Rattle.cal_model.specs.declared.wire.WireFault.TheVariants.{BadHead, BodyTooLong}
 use Rattle.cal_model.specs.declared.wire.WireRequest.{WireRequest}
@@ -15,7 +15,7 @@ use Rattle.http_wire.specs.declared.head.HeadRead.TheVariants.{Head, Fault, NoMe
 use Rattle.http_wire.specs.declared.part.Part.{Part}
 use Rattle.http_wire.specs.declared.part.Part.TheVariants.{Sized, Line}
 use Rattle.http_wire.specs.declared.request.Line.{Line as RequestLine}
-use Rattle.http_wire.specs.FieldTexts.{shown_fields}
+use Rattle.http_wire.specs.FieldTexts.{AreFieldsOf}
 
 -- what stands first in a body
 abbrev pub first_part : Framing → Part
@@ -54,7 +54,7 @@ pub record IsHeadOf (line : RequestLine) (fields : Fields) (head : RequestHead) 
   pub method : line.method.now ≡ head.method
   pub target : line.target.now ≡ head.target
   pub minor : line.minor ≡ head.minor
-  pub fields_are : shown_fields fields ≡ map name_and_value head.fields
+  pub fields_are : AreFieldsOf fields head
 
 -- the request of such a head
 abbrev pub RequestReads : RequestLine → Fields → WireRequest → Type 0

@@ -1,6 +1,7 @@
 pub mod Parts
 pub mod BodyParts
 pub mod HeadSearch
+pub mod FieldMaps
 pub mod FieldTexts
 pub mod HeadReading
 pub mod WireStates

@@ -1,10 +1,9 @@
 //! How the body behind a head is framed (RFC 9112, 6).
-ghost use Rattle.std.specs.Prelude.{◌≡◌, map, option_map};
+ghost use Rattle.std.specs.Prelude.{◌≡◌, option_map};
 ghost use Rattle.std.specs.List.{list_any};
 ghost use Rattle.httparse.specs.Grammar.{RequestHead};
-ghost use Rattle.httparse.specs.Spans.{name_and_value};
 ghost use Rattle.cal_model.specs.Streams.HeadFields.{single_fields};
-ghost use Rattle.http_wire.specs.FieldTexts.{is_several, shown_fields};
+ghost use Rattle.http_wire.specs.FieldTexts.{AreFieldsOf, is_several};
 ghost use Rattle.http_wire.specs.HeadReading.{FramingReads, framed, sized_part};
 ghost use Rattle.http_wire.specs.Parts.{text_there};
 
@@ -15,8 +14,8 @@ use crate::part::Part;
 use cal_model::WireFault;
 
 /// What stands first in the body, or why the fields of the head are refused.
-pub(crate) fn framing(fields: Fields<'_>) -> Result<Part, WireFault>
-    ensures { (head : RequestHead) → shown_fields fields.entry ≡ map name_and_value head.fields → FramingReads result head }
+pub(crate) fn framing(fields: &Fields) -> Result<Part, WireFault>
+    ensures { (head : RequestHead) → AreFieldsOf fields.now head → FramingReads result head }
 {
     if repeats_single(fields) {
         return Err(WireFault::BadHead);
@@ -28,8 +27,8 @@ pub(crate) fn framing(fields: Fields<'_>) -> Result<Part, WireFault>
 }
 
 /// Whether a field stands several times that stands once at most.
-fn repeats_single(fields: Fields<'_>) -> bool
-    ensures { result ≡ list_any (is_several fields.entry) single_fields }
+fn repeats_single(fields: &Fields) -> bool
+    ensures { result ≡ list_any (is_several fields.now) single_fields }
 {
     fields.repeats(b"authorization")
         || fields.repeats(b"content-length")

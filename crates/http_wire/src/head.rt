@@ -6,10 +6,11 @@ ghost use Rattle.httparse.specs.Spans.{IsRequestWithin};
 ghost use Rattle.cal_base.specs.Lines.ContentLines.{without_return};
 ghost use Rattle.cal_model.specs.Streams.Heads.{version_of, without_empty_lines};
 ghost use Rattle.cal_model.specs.Streams.HeadFields.{first_line, names_other_version};
+ghost use Rattle.cal_model.specs.Streams.WireLimits.{head_limit};
 ghost use Rattle.http_wire.specs.HeadReading.{BlockReads, HeadReads, IsHeadAt, IsNoHead};
 
 use crate::cuts::{before_feed, before_last, behind};
-use crate::fields::Fields;
+use crate::fields::{Fields, collect};
 use crate::framing::framing;
 use crate::part::Part;
 use crate::request::{Line, request_of};
@@ -33,7 +34,8 @@ pub(crate) enum HeadRead {
 
 /// Reads a block, which ends in its empty line and begins with none.
 pub(crate) fn read_head(alloc: Global, block: &[u8]) -> HeadRead
-    requires { without_empty_lines block.now ≡ block.now }
+    requires begins { without_empty_lines block.now ≡ block.now }
+    requires short { length block.now ≤ head_limit }
     ensures { HeadReads result block.now }
 {
     if line_feeds(block) > FEED_LIMIT {
@@ -46,16 +48,15 @@ pub(crate) fn read_head(alloc: Global, block: &[u8]) -> HeadRead
     let Some(spans) = parse_block(block, &mut headers) else {
         return HeadRead::Fault(WireFault::BadHead);
     };
-    let fields = Fields {
-        block,
-        headers: &headers[..spans.headers],
+    let Ok(fields) = collect(alloc, block, &headers[..spans.headers]) else {
+        return HeadRead::NoMemory;
     };
     let line = Line {
         method: spans.method.of(block),
         target: spans.path.of(block),
         minor: spans.version,
     };
-    read_fields(alloc, line, fields)
+    read_fields(alloc, line, &fields)
 }
 
 /// Where the parts of a head are, if the whole block is one.
@@ -73,8 +74,8 @@ fn parse_block(block: &[u8], headers: &mut [HeaderSpan]) -> Option<RequestSpans>
 }
 
 /// Reads the head whose request line and fields these are.
-fn read_fields(alloc: Global, line: Line<'_>, fields: Fields<'_>) -> HeadRead
-    ensures { BlockReads result line.entry fields.entry }
+fn read_fields(alloc: Global, line: Line<'_>, fields: &Fields) -> HeadRead
+    ensures { BlockReads result line.entry fields.now }
 {
     let part = match framing(fields) {
         Ok(part) => part,

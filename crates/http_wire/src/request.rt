@@ -22,9 +22,9 @@ pub(crate) struct Line<'b> {
 pub(crate) fn request_of(
     alloc: Global,
     line: Line<'_>,
-    fields: Fields<'_>,
+    fields: &Fields,
 ) -> Result<WireRequest, NoMemory>
-    ensures { IfOk result (RequestReads line.entry fields.entry) }
+    ensures { IfOk result (RequestReads line.entry fields.now) }
 {
     let (method, target) = line_texts(alloc, line)?;
     let (authorization, media, coding) = content_texts(alloc, fields)?;
@@ -45,8 +45,8 @@ pub(crate) fn request_of(
 
 /// Whether the connection closes after the reply: version 1.0, or a field that asks for it (RFC 9112,
 /// 9.3).
-fn closes(line: Line<'_>, fields: Fields<'_>) -> bool
-    ensures { result ≡ ((line.entry.minor == 0) || list_any names_close (values_of (codes "connection") fields.entry)) }
+fn closes(line: Line<'_>, fields: &Fields) -> bool
+    ensures { result ≡ ((line.entry.minor == 0) || list_any names_close (values_of (codes "connection") fields.now)) }
 {
     line.minor == 0 || fields.asks_close()
 }
@@ -61,8 +61,8 @@ fn line_texts(alloc: Global, line: Line<'_>) -> Result<(Octets, Octets), NoMemor
 
 type Texts = (Option<Octets>, Option<Octets>, Option<Octets>);
 
-fn content_texts(alloc: Global, fields: Fields<'_>) -> Result<Texts, NoMemory>
-    ensures { IfOk result (λ texts. (texts.0 ≡ slice_get (values_of (codes "authorization") fields.entry) 0) × (texts.1 ≡ slice_get (values_of (codes "content-type") fields.entry) 0) × (texts.2 ≡ coding_among (values_of (codes "content-encoding") fields.entry))) }
+fn content_texts(alloc: Global, fields: &Fields) -> Result<Texts, NoMemory>
+    ensures { IfOk result (λ texts. (texts.0 ≡ slice_get (values_of (codes "authorization") fields.now) 0) × (texts.1 ≡ slice_get (values_of (codes "content-type") fields.now) 0) × (texts.2 ≡ coding_among (values_of (codes "content-encoding") fields.now))) }
 {
     let authorization = fields.copied(alloc, b"authorization")?;
     let media = fields.copied(alloc, b"content-type")?;
@@ -70,8 +70,8 @@ fn content_texts(alloc: Global, fields: Fields<'_>) -> Result<Texts, NoMemory>
     Ok((authorization, media, coding))
 }
 
-fn condition_texts(alloc: Global, fields: Fields<'_>) -> Result<Texts, NoMemory>
-    ensures { IfOk result (λ texts. (texts.0 ≡ slice_get (values_of (codes "depth") fields.entry) 0) × (texts.1 ≡ joined (values_of (codes "if-match") fields.entry)) × (texts.2 ≡ joined (values_of (codes "if-none-match") fields.entry))) }
+fn condition_texts(alloc: Global, fields: &Fields) -> Result<Texts, NoMemory>
+    ensures { IfOk result (λ texts. (texts.0 ≡ slice_get (values_of (codes "depth") fields.now) 0) × (texts.1 ≡ joined (values_of (codes "if-match") fields.now)) × (texts.2 ≡ joined (values_of (codes "if-none-match") fields.now))) }
 {
     let depth = fields.copied(alloc, b"depth")?;
     let if_match = fields.joined(alloc, b"if-match")?;

@@ -7,9 +7,9 @@ use Rattle.http_wire.proofs.Framings.{several_refused, framing_reads}
 use Rattle.http_wire.proofs.framing.framing.Goals as goal
 
 pub returns-then-repeats_single : goal.returns-then-repeats_single
-returns-then-repeats_single c head e = several_refused c.args.fields head (sym c.repeats_single.ensures ∙ c.if-repeats_single.true) e
+returns-then-repeats_single c head e = several_refused c.args.fields.now head (sym c.repeats_single.ensures ∙ c.if-repeats_single.true) e
 
 pub returns : goal.returns
 returns c head e =
-    let is = c.framed.ensures ∙ ap (λ o. framed o (option_map text_there c.first-2.result)) c.first.ensures ∙ ap (λ o. framed (slice_get (values_of (codes "transfer-encoding") c.args.fields) 0) o) c.first-2.ensures in
-    subst (λ r. FramingReads r head) (sym is) (framing_reads c.args.fields head (sym c.repeats_single.ensures ∙ c.if-repeats_single.false) e)
+    let is = c.framed.ensures ∙ ap (λ o. framed o (option_map text_there c.first-2.result)) c.first.ensures ∙ ap (λ o. framed (slice_get (values_of (codes "transfer-encoding") c.args.fields.now) 0) o) c.first-2.ensures in
+    subst (λ r. FramingReads r head) (sym is) (framing_reads c.args.fields.now head (sym c.repeats_single.ensures ∙ c.if-repeats_single.false) e)

@@ -1,13 +1,18 @@
-use Rattle.std.proofs.Common.{sym, ap, ◌∙◌, ◌≡◌, take}
+use Rattle.std.proofs.Common.{sym, ap, ◌∙◌, ◌≡◌, ◌-◌, take, length, arith}
+use Rattle.std.proofs.lemmas.List.{length-take}
 use Rattle.cal_model.specs.Streams.Heads.{without_empty_lines}
 use Rattle.http_wire.proofs.Beginning.{long_fault, over_fault, bad_fault, nothing_yet, body_begins}
 use Rattle.http_wire.proofs.Searching.{without_empty_lines-twice}
 use Rattle.http_wire.proofs.stage.begin.Goals as goal
 
-pub read_head-requires : goal.read_head-requires
-read_head-requires c =
+pub read_head-requires-clause-begins : goal.read_head-requires-clause-begins
+read_head-requires-clause-begins c =
     let block : c.front.result.now ≡ without_empty_lines (take c.in-Ends.end c.args.unread.now) = c.front.ensures ∙ ap (take _) c.behind.ensures ∙ sym c.in-Ends.ensures.3 in
     ap without_empty_lines block ∙ without_empty_lines-twice (take c.in-Ends.end c.args.unread.now) ∙ sym block
+
+pub read_head-requires-clause-short : goal.read_head-requires-clause-short
+read_head-requires-clause-short c =
+    omega (arith, ap length c.front.ensures, length-take (c.in-Ends.end - c.in-Ends.begun) c.behind.result.now, c.if-end-gt-HEAD_LIMIT.false)
 
 pub returns-then-unread-ge-HEAD_LIMIT : goal.returns-then-unread-ge-HEAD_LIMIT
 returns-then-unread-ge-HEAD_LIMIT c = λ more. long_fault c.args.unread.now more c.in-Open.ensures.4 c.if-unread-ge-HEAD_LIMIT.true
