@@ -9,8 +9,7 @@ ghost use Rattle.ical_values.specs.RuleNames.{free_common, hyphen_length, is_fre
 use crate::rule_beside::takes;
 use crate::rule_parts::{PARTS, RulePart, name_of};
 use crate::rule_words::common;
-use crate::words::raised;
-use cal_base::NameMap;
+use cal_base::{NameMap, raised};
 use cal_model::Rule;
 
 /// Whether a part has not come, and may stand beside those of a rule.

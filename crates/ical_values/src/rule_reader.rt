@@ -16,8 +16,7 @@ use crate::fault::ValueFault;
 use crate::rule_beside::read_value;
 use crate::rule_names::{has_come, is_free, is_own, name_place};
 use crate::rule_parts::{RulePart, name_of, part_named, put};
-use crate::words::raised;
-use cal_base::{List, NameMap, NoMemory, Octets};
+use cal_base::{List, NameMap, NoMemory, Octets, raised};
 use cal_model::{Freq, Rule};
 use std::alloc::Global;
 
