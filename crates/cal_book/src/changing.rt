@@ -15,9 +15,8 @@ use crate::history::History;
 use crate::making::{delete_calendar, delete_object, make};
 use crate::reading::names_are_short;
 use cal_base::{NoMemory, ReservedList, Steps};
-use cal_model::{Change, Event, Method, Path, Reply, Seen};
+use cal_model::{Change, Event, Method, Path, Reply, Seen, bare_reply};
 use piece_claims::Claims;
-use request_checks::bare_reply;
 use std::alloc::Global;
 use std::sync::ledger::Ledger;
 

@@ -8,7 +8,7 @@ ghost use Rattle.cal_model.specs.Properties.PropertyTable.{row_of, in_caldav};
 ghost use Rattle.collections.specs.Settings.{place_in, is_named_at, Changes};
 
 use cal_base::{List, NoMemory, Octets, Stack};
-use cal_model::{PropName, PropSet};
+use cal_model::{PropName, PropSet, copy_setting};
 use std::alloc::Global;
 use std::cmp::Ordering;
 use std::mem::replace;
@@ -129,28 +129,13 @@ fn set_each(items: &mut Vec<PropSet>, sets: Stack<PropSet>)
     }
 }
 
-/// A copy of a setting.
-fn copy_of(alloc: Global, set: &PropSet) -> Result<PropSet, NoMemory>
-    ensures { IfOk result (λ copy. copy ≡ set.now) }
-{
-    let name = PropName {
-        space: Octets::of(alloc, set.name.space.as_slice())?,
-        name: Octets::of(alloc, set.name.name.as_slice())?,
-    };
-    let value = match &set.value {
-        Some(value) => Some(Octets::of(alloc, value.as_slice())?),
-        None => None,
-    };
-    Ok(PropSet { name, value })
-}
-
 /// Copies of settings, the first on top.
 fn copies_of(alloc: Global, sets: &[PropSet]) -> Result<Stack<PropSet>, NoMemory>
     ensures { IfOk result (λ copies. copies ≡ sets.now) }
 {
     let mut copies = Stack::new(alloc);
     for behind in 0..sets.len() {
-        let copy = copy_of(alloc, &sets[sets.len() - 1 - behind])?;
+        let copy = copy_setting(alloc, &sets[sets.len() - 1 - behind])?;
         copies.push(copy)?;
     }
     Ok(copies)

@@ -11,9 +11,9 @@ ghost use Rattle.dav_props.specs.SettingChecks.{IsPatchChecked, IsMakeChecked, t
 use crate::kept_texts::{keep, kept_of};
 use crate::setting_faults::{Fault, fault_of};
 use crate::setting_names::key_of;
-use crate::setting_replies::{fault_reply, settings_reply, status_reply};
+use crate::setting_replies::{fault_reply, settings_reply};
 use cal_base::{NameMap, NoMemory};
-use cal_model::{CalendarData, Path, PropSet, Reply};
+use cal_model::{CalendarData, Path, PropSet, Reply, bare_reply};
 use std::alloc::Global;
 
 /// What becomes of settings, with the reply to them.
@@ -121,7 +121,7 @@ fn make_checked(alloc: Global, sets: &[PropSet]) -> Result<PatchCheck, NoMemory>
     let mut kept = NameMap::new(alloc);
     match first_fault_in(alloc, sets, &mut kept)? {
         Some(fault) => Ok(PatchCheck::Refused(fault_reply(alloc, fault)?)),
-        None => Ok(PatchCheck::Fine(status_reply(alloc, 201))),
+        None => Ok(PatchCheck::Fine(bare_reply(alloc, 201))),
     }
 }
 

@@ -6,7 +6,6 @@ ghost use Rattle.cal_model.specs.declared.reply.Refusal.{Refusal as Refused};
 ghost use Rattle.cal_model.specs.Properties.PropertyReplies.{propstats, setting_answers, settings_reply as reply_to_settings};
 ghost use Rattle.cal_model.specs.Properties.PropertyTable.{Answer};
 ghost use Rattle.cal_model.specs.Refusals.RefusalReplies.{refusal_reply as reply_to_fault};
-ghost use Rattle.cal_model.specs.Replies.BareReplies.{bare_reply};
 ghost use Rattle.cal_model.specs.Replies.ReplyForms.{xml_reply as reply_of_xml};
 ghost use Rattle.cal_model.specs.Replies.XmlText.{multistatus, response as response_text};
 ghost use Rattle.cal_model.specs.Replies.Hrefs.{href as href_of};
@@ -17,23 +16,10 @@ ghost use Rattle.dav_props.specs.KeptTexts.{status_in, answer_in, TellsRefused};
 use crate::setting_faults::Fault;
 use crate::setting_names::key_of;
 use cal_base::{List, NameMap, NoMemory, Octets};
-use cal_model::{Cond, Media, Path, PropName, PropSet, Refusal, Reply};
+use cal_model::{Cond, Media, Path, PropName, PropSet, Refusal, Reply, copy_name};
 use dav_write::{error_body, write_path};
 use multistatus::{Response, begin_multistatus, end_multistatus, once, push_empty_property};
 use std::alloc::Global;
-
-/// A reply that is a status alone.
-pub(crate) fn status_reply(alloc: Global, status: u16) -> Reply
-    ensures { result ≡ bare_reply status }
-{
-    Reply {
-        status,
-        etag: None,
-        allow: None,
-        media: Media::None,
-        body: Octets::new(alloc),
-    }
-}
 
 /// A reply with a body of XML.
 fn xml_reply(status: u16, body: Octets) -> Reply
@@ -90,17 +76,9 @@ fn names_of(alloc: Global, sets: &[PropSet]) -> Result<List<PropName>, NoMemory>
 {
     let mut names = List::new(alloc);
     for set in sets {
-        names.push(copy_of(alloc, &set.name)?)?;
+        names.push(copy_name(alloc, &set.name)?)?;
     }
     Ok(names)
-}
-
-fn copy_of(alloc: Global, name: &PropName) -> Result<PropName, NoMemory>
-    ensures { IfOk result (λ copy. copy ≡ name.now) }
-{
-    let space = Octets::of(alloc, name.space.as_slice())?;
-    let name = Octets::of(alloc, name.name.as_slice())?;
-    Ok(PropName { space, name })
 }
 
 /// The body of the reply to settings.

@@ -20,5 +20,5 @@ mod walks;
 pub use accepted::accepted_status;
 pub use looks::Look;
 pub use refusals::{SharedRefusal, shared_refusal};
-pub use replies::{bare_reply, get_reply, options_reply, refusal_reply, refuse, tagged_reply};
+pub use replies::{get_reply, options_reply, refusal_reply, refuse, tagged_reply};
 pub use scenes::{Scene, scene_at};

@@ -12,26 +12,13 @@ use crate::conditions::tag_of;
 use crate::refusals::SharedRefusal;
 use crate::scenes::Scene;
 use cal_base::{NoMemory, Octets, ReservedList};
-use cal_model::{Cond, Etag, Media, Path, PrivilegeSet, Refusal, Reply, Stored};
+use cal_model::{Cond, Etag, Media, Path, PrivilegeSet, Refusal, Reply, Stored, bare_reply};
 use dav_write::{error_body, need_privileges};
 use std::alloc::Global;
 use std::mem::replace;
 
 /// Room enough for the body that says which privilege is needed.
 const ERROR_ROOM: usize = 4096;
-
-/// A reply that is a status alone. Takes no memory.
-pub fn bare_reply(alloc: Global, status: u16) -> Reply
-    ensures { result ≡ bare.bare_reply status }
-{
-    Reply {
-        status,
-        etag: None,
-        allow: None,
-        media: Media::None,
-        body: Octets::new(alloc),
-    }
-}
 
 /// A status with the entity tag of an object (RFC 9110, 8.8.3). Takes no memory.
 pub fn tagged_reply(alloc: Global, status: u16, stored: &Stored) -> Reply

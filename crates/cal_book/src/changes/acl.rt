@@ -13,8 +13,8 @@ use crate::changes::places::{Place, place_of};
 use crate::changes::room::is_full;
 use crate::view::BookView;
 use cal_base::{Arc, List, NoMemory, Octets};
-use cal_model::{Change, Content, Grant, Method, Request};
-use request_checks::{Scene, bare_reply};
+use cal_model::{Change, Content, Grant, Method, Request, bare_reply};
+use request_checks::Scene;
 use std::alloc::Global;
 
 /// What becomes of an ACL that no shared row refuses: there has to be room.

@@ -6,8 +6,8 @@ ghost use Rattle.cal_book.specs.Checking.OwnChecks.{IsRefusal};
 
 use crate::changes::check::ChangeCheck;
 use cal_base::NoMemory;
-use cal_model::{Change, Refusal, Reply};
-use request_checks::{bare_reply, refusal_reply};
+use cal_model::{Change, Refusal, Reply, bare_reply};
+use request_checks::refusal_reply;
 use std::alloc::Global;
 
 /// 501: a method with the content of another one.

@@ -2,7 +2,7 @@
 ghost use Rattle.std.specs.Prelude.{◌≡◌, IfOk};
 
 use cal_base::{Arc, List, NoMemory, Octets};
-use cal_model::{PropName, PropSet};
+use cal_model::{PropSet, copy_setting};
 use std::alloc::Global;
 
 /// A name, shared.
@@ -35,18 +35,4 @@ fn copy_settings(alloc: Global, sets: &[PropSet]) -> Result<List<PropSet>, NoMem
         copies.push(copy_setting(alloc, set)?)?;
     }
     Ok(copies)
-}
-
-fn copy_setting(alloc: Global, set: &PropSet) -> Result<PropSet, NoMemory>
-    ensures { IfOk result (λ copy. copy ≡ set.now) }
-{
-    let name = PropName {
-        space: Octets::of(alloc, set.name.space.as_slice())?,
-        name: Octets::of(alloc, set.name.name.as_slice())?,
-    };
-    let value = match &set.value {
-        Some(value) => Some(Octets::of(alloc, value.as_slice())?),
-        None => None,
-    };
-    Ok(PropSet { name, value })
 }
