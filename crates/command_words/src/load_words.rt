@@ -1,32 +1,22 @@
 //! The words of the command `load`.
 ghost use Rattle.std.specs.Prelude.{◌≡◌, ◌↔◌, false, codes, IfOk, IfSome, IsErrOf, IsTrue};
 ghost use Rattle.clap.specs.Words.{app_of, rule_of};
-ghost use Rattle.command_words.specs.Options.{IsShown, number, value_text};
+ghost use Rattle.command_words.specs.Options.{IsShown, value_text};
 ghost use Rattle.command_words.specs.LoadWords as spec;
 ghost use Rattle.command_words.specs.LoadSaid.{ArePlain, IsSaid, IsWithin};
 
 use crate::options::{
-    Numbers, Untaken, asked_text, is_plain, needed_option, new_command, number_option, number_said,
-    text_of, why_untaken, with_option,
+    Untaken, asked_text, is_plain, needed_option, new_command, number_said, sessions_option,
+    text_of, why_untaken, with_option, workers_option,
 };
 use cal_base::Word;
 use clap::builder::ValueParser;
 use clap::{Arg, ArgMatches, Command, Error};
 use std::alloc::{AllocError, Global};
 
-const SESSIONS: Numbers<'static> = Numbers {
-    low: 1,
-    high: 16,
-    other: "4",
-};
-
-const WORKERS: Numbers<'static> = Numbers {
-    low: 0,
-    high: 4,
-    other: "2",
-};
-
 const ABOUT: &str = "Runs sessions and workers over memory, and prints what they did";
+
+const SESSIONS_HELP: &str = "How many sessions there are, 1 to 16";
 
 /// What the words of `load` say.
 #[derive(Clone, Copy)]
@@ -45,7 +35,7 @@ fn load_command<'a>(alloc: Global) -> Result<Command<'a>, AllocError>
 {
     let command = new_command(alloc, "load", "caldav_server load", ABOUT)?;
     let command = with_option(command, puts_option(alloc))?;
-    let command = with_option(command, sessions_option(alloc))?;
+    let command = with_option(command, sessions_option(alloc, SESSIONS_HELP))?;
     let command = with_option(command, workers_option(alloc))?;
     Ok(command)
 }
@@ -61,30 +51,6 @@ fn puts_option<'a>(alloc: Global) -> Arg<'a>
         "How many events each session puts, 1 to 800",
     );
     option.value_parser(ValueParser::unsigned(1, 800))
-}
-
-fn sessions_option<'a>(alloc: Global) -> Arg<'a>
-    ensures rule { rule_of result ≡ number (codes "sessions") 1 16 (codes "4") }
-    ensures local { result.global ≡ false }
-{
-    number_option(
-        alloc,
-        "sessions",
-        SESSIONS,
-        "How many sessions there are, 1 to 16",
-    )
-}
-
-fn workers_option<'a>(alloc: Global) -> Arg<'a>
-    ensures rule { rule_of result ≡ number (codes "workers") 0 4 (codes "2") }
-    ensures local { result.global ≡ false }
-{
-    number_option(
-        alloc,
-        "workers",
-        WORKERS,
-        "How many threads expand recurring events ahead of the queries, 0 to 4",
-    )
 }
 
 /// The help of `load` or the version, where the words ask for it. Words that the command takes ask

@@ -2,7 +2,7 @@
 //!
 //! Each step of making a command is a function of its own, so that a contract says what the command
 //! takes.
-ghost use Rattle.std.specs.Prelude.{◌≡◌, ◌≢◌, ◌≤◌, ◌<◌, ◌⊎◌, ◌↔◌, IfOk, IfSome, IsTrue, EachIndex, false, length, slice_index};
+ghost use Rattle.std.specs.Prelude.{◌≡◌, ◌≢◌, ◌≤◌, ◌<◌, ◌⊎◌, ◌↔◌, IfOk, IfSome, IsTrue, EachIndex, codes, false, length, slice_index};
 ghost use Rattle.clap.specs.Words.{app_of, kind_of, new_app, rule_of, with_rule};
 ghost use Rattle.command_words.specs.Options.{IsPlain, IsShown, needed, number, number_said, value_text, with_version};
 
@@ -72,6 +72,18 @@ pub(crate) struct Numbers<'a> {
     pub(crate) other: &'a str,
 }
 
+const SESSIONS: Numbers<'static> = Numbers {
+    low: 1,
+    high: 16,
+    other: "4",
+};
+
+const WORKERS: Numbers<'static> = Numbers {
+    low: 0,
+    high: 4,
+    other: "2",
+};
+
 /// An option that is a number.
 pub(crate) fn number_option<'a>(
     alloc: Global,
@@ -88,6 +100,27 @@ pub(crate) fn number_option<'a>(
         .help(help)
         .value_parser(ValueParser::unsigned(numbers.low, numbers.high))
         .default_value(numbers.other)
+}
+
+/// How many sessions there are at once: an option of `serve` and of `load`, which help describes so.
+pub(crate) fn sessions_option<'a>(alloc: Global, help: &'a str) -> Arg<'a>
+    ensures rule { rule_of result ≡ number (codes "sessions") 1 16 (codes "4") }
+    ensures local { result.global ≡ false }
+{
+    number_option(alloc, "sessions", SESSIONS, help)
+}
+
+/// How many threads expand recurring events: an option of `serve` and of `load`.
+pub(crate) fn workers_option<'a>(alloc: Global) -> Arg<'a>
+    ensures rule { rule_of result ≡ number (codes "workers") 0 4 (codes "2") }
+    ensures local { result.global ≡ false }
+{
+    number_option(
+        alloc,
+        "workers",
+        WORKERS,
+        "How many threads expand recurring events ahead of the queries, 0 to 4",
+    )
 }
 
 /// The number that a text says, where it says one between these two, and else the other one.

@@ -7,23 +7,11 @@ ghost use Rattle.command_words.specs.SaidWords.{ArePlain, IsSaid};
 
 use crate::options::{
     Numbers, Untaken, asked_text, is_plain, needed_option, new_command, number_option, number_said,
-    text_of, why_untaken, with_option,
+    sessions_option, text_of, why_untaken, with_option, workers_option,
 };
 use cal_base::Word;
 use clap::{Arg, ArgMatches, Command, Error};
 use std::alloc::{AllocError, Global};
-
-const SESSIONS: Numbers<'static> = Numbers {
-    low: 1,
-    high: 16,
-    other: "4",
-};
-
-const WORKERS: Numbers<'static> = Numbers {
-    low: 0,
-    high: 4,
-    other: "2",
-};
 
 const CONNECTIONS: Numbers<'static> = Numbers {
     low: 0,
@@ -32,6 +20,8 @@ const CONNECTIONS: Numbers<'static> = Numbers {
 };
 
 const ABOUT: &str = "Serves calendars to calendar programs (CalDAV)";
+
+const SESSIONS_HELP: &str = "How many connections are served at once, 1 to 16";
 
 /// What the words of `serve` say.
 #[derive(Clone, Copy)]
@@ -55,7 +45,7 @@ fn serve_command<'a>(alloc: Global) -> Result<Command<'a>, AllocError>
     let command = new_command(alloc, "serve", "caldav_server serve", ABOUT)?;
     let command = with_option(command, users_option(alloc))?;
     let command = with_option(command, listen_option(alloc))?;
-    let command = with_option(command, sessions_option(alloc))?;
+    let command = with_option(command, sessions_option(alloc, SESSIONS_HELP))?;
     let command = with_option(command, workers_option(alloc))?;
     let command = with_option(command, connections_option(alloc))?;
     Ok(command)
@@ -82,30 +72,6 @@ fn listen_option<'a>(alloc: Global) -> Arg<'a>
         "listen",
         "ADDRESS",
         "Where to listen, as 127.0.0.1:5232",
-    )
-}
-
-fn sessions_option<'a>(alloc: Global) -> Arg<'a>
-    ensures rule { rule_of result ≡ number (codes "sessions") 1 16 (codes "4") }
-    ensures local { result.global ≡ false }
-{
-    number_option(
-        alloc,
-        "sessions",
-        SESSIONS,
-        "How many connections are served at once, 1 to 16",
-    )
-}
-
-fn workers_option<'a>(alloc: Global) -> Arg<'a>
-    ensures rule { rule_of result ≡ number (codes "workers") 0 4 (codes "2") }
-    ensures local { result.global ≡ false }
-{
-    number_option(
-        alloc,
-        "workers",
-        WORKERS,
-        "How many threads expand recurring events ahead of the queries, 0 to 4",
     )
 }
 
