@@ -162,6 +162,24 @@ pub(super) fn read_octets(
     Ok(read_whole(alloc, memory_disk(alloc, octets, &[])?, users))
 }
 
+/// What is found in a file of which one octet was changed.
+pub(super) fn read_changed(
+    alloc: Global,
+    file: &[u8],
+    users: &Users,
+    place: usize,
+    octet: u8,
+) -> Result<(u32, Ending), NoMemory> {
+    let Ok(mut changed) = Vec::from_slice(alloc, file) else {
+        return Err(NoMemory);
+    };
+    let octets = changed.as_mut_slice();
+    if place < octets.len() {
+        octets[place] = octet;
+    }
+    read_octets(alloc, changed.as_slice(), users)
+}
+
 /// Whether two texts are the same. It promises nothing, so that no proof goes over the octets.
 pub(super) fn is_same(a: &[u8], b: &[u8]) -> bool {
     a == b

@@ -1,6 +1,6 @@
 //! Files of users with groups, and records of grants to groups.
 
-use crate::cases::{Ending, is_same, memory_disk, read_octets, three_users};
+use crate::cases::{Ending, is_same, memory_disk, read_changed, read_octets, three_users};
 use cal_base::NoMemory;
 use cal_keeper::{Created, create};
 use privileges::{Users, UsersFault, read_users};
@@ -85,20 +85,6 @@ const CHANGED: [(usize, u8, (u32, Ending)); 9] = [
     (132, 0x02, (0, Ending::Bad(89))),
 ];
 
-/// What is found in the worked file with an octet changed.
-fn read_changed(
-    alloc: Global,
-    users: &Users,
-    place: usize,
-    octet: u8,
-) -> Result<(u32, Ending), NoMemory> {
-    let mut octets = *ONE_GRANT;
-    if place < octets.len() {
-        octets[place] = octet;
-    }
-    read_octets(alloc, octets.as_slice(), users)
-}
-
 #[test]
 fn a_grant_is_to_a_group_that_there_is(rt: HostRuntime) -> Result<(), Fail> {
     let alloc = rt.alloc();
@@ -106,7 +92,7 @@ fn a_grant_is_to_a_group_that_there_is(rt: HostRuntime) -> Result<(), Fail> {
     let whole = read_octets(alloc, ONE_GRANT.as_slice(), &users)?;
     assert!(rt; whole == (1, Ending::End));
     for (place, octet, wanted) in CHANGED {
-        let found = read_changed(alloc, &users, place, octet)?;
+        let found = read_changed(alloc, ONE_GRANT.as_slice(), &users, place, octet)?;
         assert!(rt; found == wanted, "{place} {octet}");
     }
     Ok(())

@@ -1,6 +1,6 @@
 //! Records of each kind, and records with one octet that takes them out of the form.
 
-use crate::cases::{Ending, NO_RECORD, read_octets, three_users};
+use crate::cases::{Ending, NO_RECORD, read_changed, read_octets, three_users};
 use cal_base::NoMemory;
 use privileges::Users;
 use std::alloc::Global;
@@ -45,20 +45,6 @@ const CHANGED: [(usize, u8, u32, u64); 18] = [
     (171, 0x19, 3, 167),
 ];
 
-/// What is found in the file with an octet changed.
-fn read_changed(
-    alloc: Global,
-    users: &Users,
-    place: usize,
-    octet: u8,
-) -> Result<(u32, Ending), NoMemory> {
-    let mut octets = *EACH_KIND;
-    if place < octets.len() {
-        octets[place] = octet;
-    }
-    read_octets(alloc, octets.as_slice(), users)
-}
-
 #[test]
 fn records_are_read_where_they_are_in_the_form(rt: HostRuntime) -> Result<(), Fail> {
     let alloc = rt.alloc();
@@ -66,7 +52,7 @@ fn records_are_read_where_they_are_in_the_form(rt: HostRuntime) -> Result<(), Fa
     let whole = read_octets(alloc, EACH_KIND.as_slice(), &users)?;
     assert!(rt; whole == (9, Ending::End));
     for (place, octet, records, gate) in CHANGED {
-        let found = read_changed(alloc, &users, place, octet)?;
+        let found = read_changed(alloc, EACH_KIND.as_slice(), &users, place, octet)?;
         assert!(rt; found == (records, Ending::Bad(gate)), "{place}");
     }
     Ok(())
