@@ -6,3 +6,8 @@ pub mod StartLaws
 pub mod AskingLemmas
 pub mod AnswerLaws
 pub mod ReplyLemmas
+pub mod ClaimLaws
+pub mod KeptLaws
+pub mod RemadeLaws
+pub mod LoadLaws
+pub mod KeptMoves
