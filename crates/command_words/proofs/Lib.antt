@@ -1,3 +1,4 @@
+mod JournalLaws
 mod LoadWordLaws
 mod Numbers
 mod WordLaws

@@ -1,16 +1,16 @@
 -- What a parse of the command `serve` gives.
-use Rattle.std.proofs.Common.{◌≡◌, ◌∙◌, List, [], true, refl, ap, sym, subst, inl, inr, map}
-use Rattle.std.specs.Prelude.{◌-◌, ◌^◌, Option, Some, None, Result, Ok, Err, IfOk, IfSome, IsErrOf, unwrap_or, codes}
+use Rattle.std.proofs.Common.{◌≡◌, ◌∙◌, List, [], Bool, true, refl, ap, sym, subst, inl, inr, map}
+use Rattle.std.specs.Prelude.{◌-◌, ◌^◌, Option, Some, None, Result, Ok, Err, IfOk, IfSome, IsErrOf, is_some, unwrap_or, codes}
 use Rattle.std.proofs.lemmas.List.{map-id}
-use Rattle.clap.specs.Words.{App, Text, fault_of, first_of, found_of, is_simple, is_simple_and_free, kind_of, matches_of, rows_of, HasKind}
+use Rattle.clap.specs.Words.{App, Text, fault_of, first_of, first_value, found_of, is_simple, is_simple_and_free, kind_of, matches_of, rows_of, HasKind}
 use Rattle.clap.specs.declared.error.kind.ErrorKind.TheVariants.{OutOfMemory}
 use Rattle.clap.specs.declared.error.Error.{Error}
 use Rattle.clap.specs.declared.parser.matches.ArgMatches.{ArgMatches}
 use Rattle.clap.proofs.OnLiterals.{clap_on_literals}
 use Rattle.clap.proofs.WalkLemmas.{first_value-rows}
 use Rattle.command_words.specs.Options.{IsPlain, number_said, value_text}
-use Rattle.command_words.specs.SaidWords.{ArePlain, IsSaid}
-use Rattle.command_words.specs.ServeWords.{TakesServe, serve, option_text}
+use Rattle.command_words.specs.SaidWords.{AreChosen, IsFoundIn, IsSaidBy}
+use Rattle.command_words.specs.ServeWords.{TakesWith, serve, option_given, option_text}
 use Rattle.command_words.specs.declared.serve_words.ServeWords.{ServeWords}
 use Rattle.command_words.specs.declared.options.Untaken.{Untaken}
 use Rattle.command_words.specs.declared.options.Untaken.TheVariants.{Words}
@@ -42,14 +42,17 @@ not_taken a ws e p h n z = go (subst (λ ks. HasKind ks e) z (at_serve a ws (λ 
     go (inr k) = k
 
 -- words for which a parse gives the help or the version are not taken
-pub asked : (a : App) (ws : List Text) (e : Error) (r : Option Error) → a ≡ serve → HasKind (fault_of a (map (λ w. w) ws)) e → IfSome r (λ _. kind_of e ≡ OutOfMemory → ⊥) → IfSome r (λ _. TakesServe ws → ⊥)
+pub asked : (a : App) (ws : List Text) (e : Error) (r : Option Error) → a ≡ serve → HasKind (fault_of a (map (λ w. w) ws)) e
+    → IfSome r (λ _. kind_of e ≡ OutOfMemory → ⊥) → IfSome r (λ _. (kept : Bool) → TakesWith kept ws → ⊥)
 asked a ws e None made kinds there = tt
-asked a ws e (Some text) made kinds there = λ takes. not_taken a ws e made kinds there takes.0
+asked a ws e (Some text) made kinds there = λ kept takes. not_taken a ws e made kinds there takes.0
 
 -- the text of an option is what the words say
+value_said : (m : ArgMatches) (ws : List Text) (name : Text) → rows_of (found_of m) ≡ matches_of serve ws → first_value (found_of m) name ≡ option_given name ws
+value_said m ws name rows = first_value-rows (found_of m) name ∙ ap (first_of name) rows
+
 pub text_said : (m : ArgMatches) (ws : List Text) (name : Text) → rows_of (found_of m) ≡ matches_of serve ws → value_text name m ≡ option_text name ws
-text_said m ws name rows =
-    ap (λ (o : Option Text). unwrap_or o []) (first_value-rows (found_of m) name ∙ ap (first_of name) rows)
+text_said m ws name rows = ap (λ (o : Option Text). unwrap_or o []) (value_said m ws name rows)
 
 module _ (m : ArgMatches) (ws : List Text) (rows : rows_of (found_of m) ≡ matches_of serve ws) where
   there : (name : Text) → IsPlain (value_text name m) → IsPlain (option_text name ws)
@@ -58,19 +61,20 @@ module _ (m : ArgMatches) (ws : List Text) (rows : rows_of (found_of m) ≡ matc
   back : (name : Text) → IsPlain (option_text name ws) → IsPlain (value_text name m)
   back name h = subst IsPlain (sym (text_said m ws name rows)) h
 
-  -- words that the library takes are taken where their numbers are plain
-  pub taken : (r : Result ServeWords Untaken) → fault_of serve ws ≡ [] → IfOk r (λ _. ArePlain (value_text (codes "sessions") m) (value_text (codes "workers") m) (value_text (codes "connections") m)) → IfOk r (λ _. TakesServe ws)
-  taken (Ok w) faultless plain_there = (faultless, there _ plain_there.0, there _ plain_there.1, there _ plain_there.2)
-  taken (Err e) faultless plain_there = tt
+  journal : is_some (first_value (found_of m) (codes "journal")) ≡ is_some (option_given (codes "journal") ws)
+  journal = ap is_some (value_said m ws (codes "journal") rows)
+
+  -- words that the library takes are taken where what was found is chosen
+  pub taken : (kept : Bool) (r : Result ServeWords Untaken) → fault_of serve ws ≡ [] → IfOk r (λ _. AreChosen kept m) → IfOk r (λ _. TakesWith kept ws)
+  taken kept (Ok w) faultless h = (faultless, there _ h.0.0, there _ h.0.1, there _ h.0.2, sym journal ∙ h.1)
+  taken kept (Err e) faultless h = tt
 
   -- and else not
-  pub refused : (r : Result ServeWords Untaken) → (IsErrOf r Words → ArePlain (value_text (codes "sessions") m) (value_text (codes "workers") m) (value_text (codes "connections") m) → ⊥) → IsErrOf r Words → TakesServe ws → ⊥
-  refused r not_plain is takes = not_plain is (back _ takes.1, back _ takes.2, back _ takes.3)
+  pub refused : (kept : Bool) (r : Result ServeWords Untaken) → (IsErrOf r Words → AreChosen kept m → ⊥) → IsErrOf r Words → TakesWith kept ws → ⊥
+  refused kept r not_chosen is takes = not_chosen is ((back _ takes.1, back _ takes.2, back _ takes.3), journal ∙ takes.4)
 
   -- what is said is what the words say
-  pub said : (r : Result ServeWords Untaken)
-      → IfOk r (λ w. IsSaid (value_text (codes "users") m) (value_text (codes "listen") m) (value_text (codes "sessions") m) (value_text (codes "workers") m) (value_text (codes "connections") m) w)
-      → IfOk r (λ w. IsSaid (option_text (codes "users") ws) (option_text (codes "listen") ws) (option_text (codes "sessions") ws) (option_text (codes "workers") ws) (option_text (codes "connections") ws) w)
+  pub said : (r : Result ServeWords Untaken) → IfOk r (IsFoundIn m) → IfOk r (IsSaidBy ws)
   said (Ok w) h = record {
     users_are = h.users_are ∙ text_said m ws (codes "users") rows;
     listen_is = h.listen_is ∙ text_said m ws (codes "listen") rows;

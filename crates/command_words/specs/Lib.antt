@@ -1,3 +1,4 @@
+pub mod JournalWords
 pub mod LoadSaid
 pub mod LoadWords
 pub mod Options

@@ -8,9 +8,12 @@ use Rattle.clap.specs.declared.error.kind.ErrorKind.TheVariants as kind
 use Rattle.clap.specs.declared.parser.matches.ArgMatches.{ArgMatches}
 use Rattle.clap.specs.declared.builder.value_parser.ValueParser.TheVariants.{Unsigned}
 
--- an option that has to be given
+-- an option that may be given, and one that has to be
+abbrev pub free : Text → Rule
+free name = record (new_rule name) { long = Some name; value_names = 1 }
+
 abbrev pub needed : Text → Rule
-needed name = record (new_rule name) { long = Some name; value_names = 1; required = true }
+needed name = record (free name) { required = true }
 
 -- an option that is a number, with its bounds, and the text that stands for it where it is not given
 abbrev pub number : Text → ℕ → ℕ → Text → Rule

@@ -19,10 +19,11 @@ Options:
 pub const SCRIPT_HELP: &str =
     "Reads a script of requests from standard input, and prints the replies
 
-Usage: caldav_server script --users <FILE>
+Usage: caldav_server script --users <FILE> [--journal <FILE>]
 
 Options:
-      --users <FILE>  Who may come in: a line `user NAME SHA256` for each, the SHA-256 of the password in hexadecimal digits
-  -h, --help          Print help
-  -V, --version       Print version
+      --users <FILE>    Who may come in: a line `user NAME SHA256` for each, the SHA-256 of the password in hexadecimal digits
+      --journal <FILE>  Where each change is kept before it is answered; it is made where there is none
+  -h, --help            Print help
+  -V, --version         Print version
 ";

@@ -2,9 +2,9 @@
 //!
 //! Each step of making a command is a function of its own, so that a contract says what the command
 //! takes.
-ghost use Rattle.std.specs.Prelude.{◌≡◌, ◌≢◌, ◌≤◌, ◌<◌, ◌⊎◌, ◌↔◌, IfOk, IfSome, IsTrue, EachIndex, codes, false, length, slice_index};
-ghost use Rattle.clap.specs.Words.{app_of, kind_of, new_app, rule_of, with_rule};
-ghost use Rattle.command_words.specs.Options.{IsPlain, IsShown, needed, number, number_said, value_text, with_version};
+ghost use Rattle.std.specs.Prelude.{◌≡◌, ◌≢◌, ◌≤◌, ◌<◌, ◌⊎◌, ◌↔◌, IfOk, IfSome, IsTrue, EachIndex, codes, false, is_some, length, slice_index};
+ghost use Rattle.clap.specs.Words.{app_of, first_value, found_of, kind_of, new_app, rule_of, with_rule};
+ghost use Rattle.command_words.specs.Options.{IsPlain, IsShown, free, needed, number, number_said, value_text, with_version};
 
 use clap::builder::ValueParser;
 use clap::error::ErrorKind;
@@ -46,7 +46,23 @@ pub(crate) fn with_option<'a>(
     command.arg(option)
 }
 
-/// An option that has to be given, with a value that help calls so.
+/// An option that may be given, with a value that help calls so.
+pub(crate) fn free_option<'a>(
+    alloc: Global,
+    name: &'a str,
+    value: &'a str,
+    help: &'a str,
+) -> Arg<'a>
+    ensures rule { rule_of result ≡ free name.entry.now }
+    ensures local { result.global ≡ false }
+{
+    Arg::new(alloc, name)
+        .long(name)
+        .value_name(value)
+        .help(help)
+}
+
+/// An option that has to be given.
 pub(crate) fn needed_option<'a>(
     alloc: Global,
     name: &'a str,
@@ -56,11 +72,7 @@ pub(crate) fn needed_option<'a>(
     ensures rule { rule_of result ≡ needed name.entry.now }
     ensures local { result.global ≡ false }
 {
-    Arg::new(alloc, name)
-        .long(name)
-        .value_name(value)
-        .help(help)
-        .required(true)
+    free_option(alloc, name, value, help).required(true)
 }
 
 /// The values of an option that is a number: the least and the greatest, and the one where the
@@ -180,7 +192,7 @@ fn has_no_leading_zero(octets: &[u8]) -> bool
     !octets.is_empty() && octets[0] != b'0'
 }
 
-/// The text of an option. Each of these options has one, given or not.
+/// The text of an option that has one, given or not.
 pub(crate) fn text_of<'a>(matches: &ArgMatches<'a>, name: &str) -> &'a str
     ensures { result.now ≡ value_text name.now matches.now }
 {
@@ -188,6 +200,13 @@ pub(crate) fn text_of<'a>(matches: &ArgMatches<'a>, name: &str) -> &'a str
         Some(text) => text,
         None => "",
     }
+}
+
+/// Whether an option is given that has no default.
+pub(crate) fn is_given(matches: &ArgMatches<'_>, name: &str) -> bool
+    ensures { result ≡ is_some (first_value (found_of matches.now) name.now) }
+{
+    matches.get_str(name).is_some()
 }
 
 /// Why words are not taken.

@@ -1,13 +1,13 @@
 //! The words of the command `serve`.
-ghost use Rattle.std.specs.Prelude.{◌≡◌, ◌-◌, ◌^◌, ◌<◌, ◌↔◌, false, codes, IfOk, IfSome, IsErrOf, IsTrue};
+ghost use Rattle.std.specs.Prelude.{◌≡◌, ◌-◌, ◌^◌, ◌<◌, ◌↔◌, Bool, false, codes, IfOk, IfSome, IsErrOf, IsTrue};
 ghost use Rattle.clap.specs.Words.{app_of, rule_of};
-ghost use Rattle.command_words.specs.Options.{IsShown, needed, number, value_text};
+ghost use Rattle.command_words.specs.Options.{IsShown, free, needed, number, value_text};
 ghost use Rattle.command_words.specs.ServeWords as spec;
-ghost use Rattle.command_words.specs.SaidWords.{ArePlain, IsSaid};
+ghost use Rattle.command_words.specs.SaidWords.{AreChosen, ArePlain, IsFoundIn, IsSaidBy};
 
 use crate::options::{
-    Numbers, Untaken, asked_text, is_plain, needed_option, new_command, number_option, number_said,
-    sessions_option, text_of, why_untaken, with_option, workers_option,
+    Numbers, Untaken, asked_text, free_option, is_given, is_plain, needed_option, new_command,
+    number_option, number_said, sessions_option, text_of, why_untaken, with_option, workers_option,
 };
 use cal_base::Word;
 use clap::{Arg, ArgMatches, Command, Error};
@@ -45,6 +45,7 @@ fn serve_command<'a>(alloc: Global) -> Result<Command<'a>, AllocError>
     let command = new_command(alloc, "serve", "caldav_server serve", ABOUT)?;
     let command = with_option(command, users_option(alloc))?;
     let command = with_option(command, listen_option(alloc))?;
+    let command = with_option(command, journal_option(alloc))?;
     let command = with_option(command, sessions_option(alloc, SESSIONS_HELP))?;
     let command = with_option(command, workers_option(alloc))?;
     let command = with_option(command, connections_option(alloc))?;
@@ -75,6 +76,18 @@ fn listen_option<'a>(alloc: Global) -> Arg<'a>
     )
 }
 
+fn journal_option<'a>(alloc: Global) -> Arg<'a>
+    ensures rule { rule_of result ≡ free (codes "journal") }
+    ensures local { result.global ≡ false }
+{
+    free_option(
+        alloc,
+        "journal",
+        "FILE",
+        "Where each change is kept before it is answered; it is made where there is none. Without it all is lost at the end",
+    )
+}
+
 fn connections_option<'a>(alloc: Global) -> Arg<'a>
     ensures rule { rule_of result ≡ number (codes "connections") 0 (2 ^ 64 - 1) (codes "0") }
     ensures local { result.global ≡ false }
@@ -87,11 +100,11 @@ fn connections_option<'a>(alloc: Global) -> Arg<'a>
     )
 }
 
-/// The help of `serve` or the version, where the words ask for it. Words that the command takes ask
-/// for neither.
+/// The help of `serve` or the version, where the words ask for it. Words that the command takes, with a
+/// journal file or without one, ask for neither.
 pub fn serve_text(alloc: Global, words: &[Word]) -> Option<Error>
     ensures shown { IfSome result (λ text. IsShown text) }
-    ensures untaken { IfSome result (λ _. ¬ spec.TakesServe words.now) }
+    ensures untaken { IfSome result (λ _. (kept : Bool) → ¬ spec.TakesWith kept words.now) }
 {
     let Ok(command) = serve_command(alloc) else {
         return None;
@@ -102,29 +115,53 @@ pub fn serve_text(alloc: Global, words: &[Word]) -> Option<Error>
     }
 }
 
-/// What the words say, if the command takes them.
+/// What the words say, if the command takes them and they name no journal file.
 pub fn read_serve<'a>(alloc: Global, words: &'a [Word]) -> Result<ServeWords<'a>, Untaken>
     ensures taken { IfOk result (λ _. spec.TakesServe words.now) }
-    ensures said { IfOk result (λ w. IsSaid (spec.option_text (codes "users") words.now) (spec.option_text (codes "listen") words.now) (spec.option_text (codes "sessions") words.now) (spec.option_text (codes "workers") words.now) (spec.option_text (codes "connections") words.now) w) }
+    ensures said { IfOk result (IsSaidBy words.now) }
     ensures sessions { IfOk result (λ w. 0 < w.sessions) }
     ensures untaken { IsErrOf result Untaken.Words → ¬ spec.TakesServe words.now }
+{
+    read_with(alloc, words, false)
+}
+
+/// What the words say, if the command takes them and they name a journal file.
+pub fn read_kept_serve<'a>(alloc: Global, words: &'a [Word]) -> Result<ServeWords<'a>, Untaken>
+    ensures taken { IfOk result (λ _. spec.TakesKeptServe words.now) }
+    ensures said { IfOk result (IsSaidBy words.now) }
+    ensures sessions { IfOk result (λ w. 0 < w.sessions) }
+    ensures untaken { IsErrOf result Untaken.Words → ¬ spec.TakesKeptServe words.now }
+{
+    read_with(alloc, words, true)
+}
+
+/// What the words say, if the command takes them and they name a journal file or do not.
+fn read_with<'a>(alloc: Global, words: &'a [Word], kept: bool) -> Result<ServeWords<'a>, Untaken>
+    ensures taken { IfOk result (λ _. spec.TakesWith kept words.now) }
+    ensures said { IfOk result (IsSaidBy words.now) }
+    ensures sessions { IfOk result (λ w. 0 < w.sessions) }
+    ensures untaken { IsErrOf result Untaken.Words → ¬ spec.TakesWith kept words.now }
 {
     let Ok(command) = serve_command(alloc) else {
         return Err(Untaken::NoMemory);
     };
     match command.try_get_matches_from(words) {
-        Ok(matches) => chosen(&matches),
+        Ok(matches) => chosen(&matches, kept),
         Err(error) => Err(why_untaken(&error)),
     }
 }
 
-/// What the words say that the library takes, if each number is plain.
-fn chosen<'a>(matches: &ArgMatches<'a>) -> Result<ServeWords<'a>, Untaken>
-    ensures plain { IfOk result (λ _. ArePlain (value_text (codes "sessions") matches.now) (value_text (codes "workers") matches.now) (value_text (codes "connections") matches.now)) }
-    ensures refused { IsErrOf result Untaken.Words → ¬ ArePlain (value_text (codes "sessions") matches.now) (value_text (codes "workers") matches.now) (value_text (codes "connections") matches.now) }
-    ensures said { IfOk result (λ w. IsSaid (value_text (codes "users") matches.now) (value_text (codes "listen") matches.now) (value_text (codes "sessions") matches.now) (value_text (codes "workers") matches.now) (value_text (codes "connections") matches.now) w) }
+/// What the words say that the library takes, if each number is plain and they name a journal file or
+/// do not.
+fn chosen<'a>(matches: &ArgMatches<'a>, kept: bool) -> Result<ServeWords<'a>, Untaken>
+    ensures chosen { IfOk result (λ _. AreChosen kept matches.now) }
+    ensures refused { IsErrOf result Untaken.Words → ¬ AreChosen kept matches.now }
+    ensures said { IfOk result (IsFoundIn matches.now) }
     ensures sessions { IfOk result (λ w. 0 < w.sessions) }
 {
+    if is_given(matches, "journal") != kept {
+        return Err(Untaken::Words);
+    }
     if has_plain_numbers(matches) {
         Ok(said(matches))
     } else {
@@ -144,7 +181,7 @@ fn has_plain_numbers(matches: &ArgMatches<'_>) -> bool
 
 /// What the options of words that were taken say.
 fn said<'a>(matches: &ArgMatches<'a>) -> ServeWords<'a>
-    ensures said { IsSaid (value_text (codes "users") matches.now) (value_text (codes "listen") matches.now) (value_text (codes "sessions") matches.now) (value_text (codes "workers") matches.now) (value_text (codes "connections") matches.now) result }
+    ensures said { IsFoundIn matches.now result }
     ensures some_sessions { 0 < result.sessions }
 {
     ServeWords {

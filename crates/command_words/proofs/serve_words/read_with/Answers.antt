@@ -1,7 +1,7 @@
 use Rattle.std.proofs.Common.{◌≡◌, []}
 use Rattle.clap.specs.Words.{fault_of, found_of, matches_of, rows_of}
 use Rattle.command_words.proofs.WordLaws.{at_serve, not_taken, plain_made, refused, said, simple_made, taken}
-use Rattle.command_words.proofs.serve_words.read_serve.Goals as goal
+use Rattle.command_words.proofs.serve_words.read_with.Goals as goal
 
 pub returns-in-Err-clause-untaken : goal.returns-in-Err-clause-untaken
 returns-in-Err-clause-untaken c = λ h takes.
@@ -13,7 +13,7 @@ returns-in-Ok-try_get_matches_from-clause-taken c =
     let ws = c.args.words.now in
     let rows = at_serve _ ws (λ a l. rows_of (found_of m) ≡ matches_of a l) c.in-Ok.ensures (c.in-Ok-try_get_matches_from.ensures.matches (plain_made _ c.in-Ok.ensures)).0 in
     let faultless = at_serve _ ws (λ a l. fault_of a l ≡ []) c.in-Ok.ensures (c.in-Ok-try_get_matches_from.ensures.kinds (simple_made _ c.in-Ok.ensures)) in
-    taken m ws rows c.chosen.result faultless c.chosen.ensures.plain
+    taken m ws rows c.args.kept c.chosen.result faultless c.chosen.ensures.chosen
 
 pub returns-in-Ok-try_get_matches_from-clause-said : goal.returns-in-Ok-try_get_matches_from-clause-said
 returns-in-Ok-try_get_matches_from-clause-said c =
@@ -27,4 +27,4 @@ returns-in-Ok-try_get_matches_from-clause-untaken c =
     let m = c.in-Ok-try_get_matches_from.matches in
     let ws = c.args.words.now in
     let rows = at_serve _ ws (λ a l. rows_of (found_of m) ≡ matches_of a l) c.in-Ok.ensures (c.in-Ok-try_get_matches_from.ensures.matches (plain_made _ c.in-Ok.ensures)).0 in
-    refused m ws rows c.chosen.result c.chosen.ensures.refused
+    refused m ws rows c.args.kept c.chosen.result c.chosen.ensures.refused
