@@ -1,4 +1,9 @@
+mod CrewSessions
+mod Crews
 mod FaultCounts
+mod KeptEndings
+mod KeptJournals
+mod KeptServing
 mod LoadConnections
 mod LoadCounts
 mod LoadDoneLemmas

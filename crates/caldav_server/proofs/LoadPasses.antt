@@ -40,11 +40,11 @@ within-later ns mid new (other ∷ others) among rest grown keeps each = (
   within-later ns mid new others (λ n has. among n (has-later n other.number (numbers others) has)) rest grown keeps each.1,
 )
 
-all-snoc : (P : Known → Type 0) (xs : List Known) (x : Known) → AllByRecursion P xs → P x → AllByRecursion P (xs ++ x ∷ [])
+pub all-snoc : (P : Known → Type 0) (xs : List Known) (x : Known) → AllByRecursion P xs → P x → AllByRecursion P (xs ++ x ∷ [])
 all-snoc P [] x all here = (here, tt)
 all-snoc P (y ∷ ys) x all here = (all.0, all-snoc P ys x all.1 here)
 
-numbers-snoc : (xs : List Known) (x : Known) → numbers (xs ++ x ∷ []) ≡ numbers xs ++ x.number ∷ []
+pub numbers-snoc : (xs : List Known) (x : Known) → numbers (xs ++ x ∷ []) ≡ numbers xs ++ x.number ∷ []
 numbers-snoc [] x = refl
 numbers-snoc (y ∷ ys) x = ap (λ rest. y.number ∷ rest) (numbers-snoc ys x)
 

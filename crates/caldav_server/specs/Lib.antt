@@ -1,3 +1,7 @@
+pub mod Crews
+pub mod KeptEnds
+pub mod KeptRuns
+pub mod KeptServers
 pub mod LoadDone
 pub mod LoadEnds
 pub mod LoadSeats

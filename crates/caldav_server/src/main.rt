@@ -5,6 +5,10 @@
 //! runs the server.
 #![tactic(auto)]
 
+mod crew;
+mod desks;
+mod kept_script;
+mod kept_serve;
 mod load;
 mod load_joins;
 mod load_sessions;
@@ -12,13 +16,18 @@ mod serve;
 mod sessions;
 mod telling_door;
 
+use crate::kept_script::run_kept_script;
+use crate::kept_serve::run_kept_serve;
 use crate::load::run_load;
 use crate::serve::run_serve;
 use crate::telling_door::TellingDoor;
 use cal_base::{List, NoMemory, StdFiles, StdSink, StdSource, TcpDoor, Word};
+use cal_keeper::FileDisk;
 use cal_script::{ScriptEnd, run_script};
-use command_words::{HELP, SCRIPT_HELP, VERSION, load_text, serve_text};
+use command_words::{HELP, SCRIPT_HELP, VERSION, journal_path, load_text, serve_text};
 use std::process::ExitCode;
+use std::sync::Wait;
+use std::thread::Threads;
 use std::{env, io};
 
 /// Makes the list of words, and calls the command that the first of them names.
@@ -30,22 +39,51 @@ fn main(rt: HostRuntime) -> ExitCode {
         return ExitCode::SUCCESS;
     }
     if word_at(&words, 0) == "serve" {
-        let mut door = TellingDoor::new(&rt, TcpDoor::new(&rt));
-        let end = run_serve(&rt, rt.alloc(), &words, &mut StdFiles::new(&rt), &mut door);
-        return ended(&rt, "serve", end);
+        return ended(&rt, "serve", end_of_serve(&rt, &rt, &words));
     }
     if word_at(&words, 0) == "load" {
         let end = run_load(&rt, rt.alloc(), &words, &mut StdSink::new(&rt));
         return ended(&rt, "load", end);
     }
-    let end = run_script(
-        rt.alloc(),
-        &words,
-        &mut StdFiles::new(&rt),
-        &mut StdSource::new(&rt),
-        &mut StdSink::new(&rt),
-    );
-    ended(&rt, USAGE_OF_SCRIPT, end)
+    ended(&rt, USAGE_OF_SCRIPT, end_of_script(&rt, &words))
+}
+
+/// The end of the command `serve`, which is at a journal file where a word names one.
+fn end_of_serve<R: Threads + Wait + Sync>(
+    rt: &HostRuntime,
+    threads: &R,
+    words: &List<Word>,
+) -> ScriptEnd {
+    let alloc = rt.alloc();
+    let mut files = StdFiles::new(rt);
+    let mut door = TellingDoor::new(rt, TcpDoor::new(rt));
+    let Some(path) = journal_path(words.as_slice()) else {
+        return run_serve(threads, alloc, words, &mut files, &mut door);
+    };
+    let Ok(path) = Word::of(alloc, path) else {
+        return WITHOUT_MEMORY;
+    };
+    let disk = FileDisk::new(rt, alloc, path);
+    let (end, _disk) = run_kept_serve(threads, alloc, words, &mut files, disk, &mut door);
+    end
+}
+
+/// The end of the command `script`, which is at a journal file where the words are five and the fourth of
+/// them is `--journal`.
+fn end_of_script(rt: &HostRuntime, words: &List<Word>) -> ScriptEnd {
+    let alloc = rt.alloc();
+    let mut files = StdFiles::new(rt);
+    let mut input = StdSource::new(rt);
+    let mut output = StdSink::new(rt);
+    if words.len() != 5 || word_at(words, 3) != "--journal" {
+        return run_script(alloc, words, &mut files, &mut input, &mut output);
+    }
+    let Ok(path) = Word::of(alloc, word_at(words, 4)) else {
+        return WITHOUT_MEMORY;
+    };
+    let disk = FileDisk::new(rt, alloc, path);
+    let (end, _disk) = run_kept_script(alloc, words, &mut files, disk, &mut input, &mut output);
+    end
 }
 
 /// The words of the command `script`, as its usage shows them.
@@ -131,6 +169,8 @@ fn report(rt: &HostRuntime, usage: &str, end: ScriptEnd) -> io::Result<()> {
         5 => eprintln!(rt; "output fault"),
         6 => eprintln!(rt; "script: bad frame at octet {place}"),
         7 => eprintln!(rt; "out of memory"),
+        8 => eprintln!(rt; "journal fault"),
+        9 => eprintln!(rt; "journal: refused at octet {place}"),
         _ => Ok(()),
     }
 }

@@ -7,15 +7,15 @@ ghost use Rattle.caldav_server.specs.ServeEnds.{IsServeStatus, IsServedStatus};
 ghost use Rattle.command_words.specs.ServeWords as spec;
 ghost use Rattle.caldav_server.specs.Shares.{RoseBy, share_of};
 
-use crate::sessions::{Crew, Ground, NotStarted, run_crew};
+use crate::crew::NotServed;
+use crate::desks::serve_desk;
 use cal_base::{Arc, Door, Files, List, NoMemory, Word};
+use cal_book::{Book, Never};
 use cal_script::{NoUsers, ScriptEnd, take_users};
-use cal_session::Service;
 use command_words::{ServeWords, Untaken, read_serve};
 use privileges::Users;
 use std::alloc::Global;
 use std::sync::Wait;
-use std::sync::atomic::AtomicU64;
 use std::thread::Threads;
 
 /// Runs the command: looks at its words, then at the users file, opens the door, and serves the
@@ -107,50 +107,40 @@ fn serve_users<D: Door, R: Threads + Wait + Sync>(
     }
     match serve_at(rt, alloc, words, users, door) {
         Ok(()) => 0,
-        Err(NotStarted::Door) => 4,
-        Err(NotStarted::NoMemory) => 7,
+        Err(NotServed::Door) => 4,
+        Err(NotServed::NoMemory) => 7,
+        Err(NotServed::Broken(never)) => match never {},
     }
 }
 
-/// Serves at a door that is open.
+/// Serves at a door that is open, over the book.
 fn serve_at<D: Door, R: Threads + Wait + Sync>(
     rt: &R,
     alloc: Global,
     words: &ServeWords<'_>,
     users: Arc<Users>,
     door: &mut D,
-) -> Result<(), NotStarted>
+) -> Result<(), NotServed<Never>>
     requires sessions { 0 < words.now.sessions }
     ensures limited { OnOk result (0 < words.now.connections) }
     ensures tries { OnOk result (RoseBy (share_of words.now.connections words.now.sessions 0) (D.tries door.old) (D.tries door.new)) }
-    ensures door { IsErrOf result NotStarted.Door → Rose (D.faults door.old) (D.faults door.new) }
+    ensures door { IsErrOf result NotServed.Door → Rose (D.faults door.old) (D.faults door.new) }
     ensures never_falls { D.faults door.old ≤ D.faults door.new }
 {
     let Ok(shared) = Arc::try_clone(&users) else {
-        return Err(NotStarted::NoMemory);
+        return Err(NotServed::NoMemory);
     };
-    match Service::start(alloc, shared) {
-        Ok((service, pass)) => {
-            let running = AtomicU64::new(words.sessions);
-            let ground = Ground {
-                alloc,
-                lock: service.lock(),
-                users: &users,
-                running: &running,
-                crew: Crew {
-                    sessions: words.sessions,
-                    workers: words.workers,
-                    connections: words.connections,
-                },
-            };
-            run_crew(rt, &ground, pass, door)
+    match Book::start(alloc, shared) {
+        Ok(book) => {
+            let (result, _book) = serve_desk(rt, alloc, words, &users, book, door);
+            result
         }
-        Err(NoMemory) => Err(NotStarted::NoMemory),
+        Err(NoMemory) => Err(NotServed::NoMemory),
     }
 }
 
 /// An end that no place tells more of.
-fn without_place(status: u8) -> ScriptEnd
+pub(crate) fn without_place(status: u8) -> ScriptEnd
     ensures { result ≡ record { status = status; place = 0 } }
 {
     ScriptEnd { status, place: 0 }

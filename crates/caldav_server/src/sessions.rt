@@ -1,19 +1,17 @@
-//! Sessions and workers, each in a thread of its own.
-ghost use Rattle.std.specs.Prelude.{◌≡◌, ◌≤◌, ◌<◌, false, Some, All, OnOk, IsErrOf};
-ghost use Rattle.std.specs.Option.{ForSome};
-ghost use Rattle.cal_base.specs.World.Outside.{IsNext, Rose};
+//! What a session and a worker do, each in a thread of its own.
+ghost use Rattle.std.specs.Prelude.{◌≡◌, ◌≤◌, ◌<◌, OnOk};
+ghost use Rattle.cal_base.specs.World.Outside.{IsNext};
+ghost use Rattle.caldav_server.specs.Crews.{HasTakenTurns};
 ghost use Rattle.caldav_server.specs.Shares.{IsPassFor, RoseBy, share_of};
 
-use cal_base::{Door, List, NoMemory, OpenGate};
+use cal_base::{Clock, Door, Link, OpenGate};
 use cal_book::Desk;
-use cal_session::serve_on;
+use cal_session::{OnEnd, serve_on};
 use expansion_workers::work_on;
 use privileges::Users;
-use std::alloc::{AllocError, Global};
-use std::sync::Wait;
-use std::sync::atomic::{AtomicU64, Ordering};
-use std::thread;
-use std::thread::Threads;
+use std::alloc::Global;
+use std::sync::atomic::{AtomicBool, AtomicU64, Ordering};
+use std::sync::{Mutex, Wait};
 use turn_lock::{Pass, TurnLock};
 
 /// How many turns a worker takes before it looks whether it is still wanted.
@@ -34,14 +32,30 @@ pub(crate) struct Ground<'a, B: Desk> {
     pub(crate) alloc: Global,
     pub(crate) lock: &'a TurnLock<B>,
     pub(crate) users: &'a Users,
+    /// Who has it may wait for a connection, or starts the threads, none of which may till then.
+    pub(crate) doorway: &'a Mutex<()>,
     /// How many sessions have not ended.
     pub(crate) running: &'a AtomicU64,
+    /// Whether all are to end.
+    pub(crate) over: &'a AtomicBool,
     pub(crate) crew: Crew,
+}
+
+impl<'a, B: Desk> Ground<'a, B> {
+    /// Whether all are to end.
+    fn is_over(&self) -> bool {
+        self.over.load(Ordering::SeqCst)
+    }
+
+    /// Tells all to end: each session before its next connection, each worker before its next turns.
+    pub(crate) fn end_all(&self) {
+        self.over.store(true, Ordering::SeqCst);
+    }
 }
 
 /// What a thread is for.
 #[derive(Clone, Copy)]
-enum Duty {
+pub(crate) enum Duty {
     /// It serves so many connections, or connections without end where the crew has no number.
     Serve(u64),
     /// It expands recurring events while a session runs.
@@ -50,22 +64,32 @@ enum Duty {
 
 /// What a thread is started with.
 #[derive(Drop)]
-struct Post<B: Desk, D: Door> {
-    pass: Pass<B>,
-    door: D,
-    duty: Duty,
+pub(crate) struct Post<B: Desk, D: Door> {
+    pub(crate) pass: Pass<B>,
+    pub(crate) door: D,
+    pub(crate) duty: Duty,
 }
 
-/// Why the threads were not started.
-pub(crate) enum NotStarted {
-    Door,
-    NoMemory,
+/// Why a thread ended before all was done that it was for.
+#[derive(Drop)]
+pub(crate) enum Stop<X> {
+    /// All were to end.
+    Over,
+    /// The desk broke when it was asked, and told this.
+    Broken(X),
+}
+
+/// What a thread leaves at its end.
+#[derive(Drop)]
+pub(crate) struct Done<B: Desk> {
+    pub(crate) pass: Pass<B>,
+    pub(crate) end: Result<(), Stop<B::Fault>>,
 }
 
 /// How many of the connections a session serves, where it is the one with this number. The first
 /// ones get one more where the number of sessions does not divide.
 #[tactic(auto, using(crate::proofs::Sharing::share_fits))]
-fn share_of(crew: Crew, session: u64) -> u64
+pub(crate) fn share_of(crew: Crew, session: u64) -> u64
     requires { 0 < crew.sessions }
     ensures { result ≡ share_of crew.connections crew.sessions session }
 {
@@ -77,237 +101,218 @@ fn share_of(crew: Crew, session: u64) -> u64
     }
 }
 
-/// Serves with all sessions, the first of which has the door that is handed in, beside all workers,
-/// until the last of them has ended.
-#[tactic(auto, using(crate::proofs::FaultCounts::rose_since))]
-pub(crate) fn run_crew<B: Desk + Send, D: Door, R: Threads + Wait + Sync>(
-    rt: &R,
-    ground: &Ground<'_, B>,
-    first: Pass<B>,
-    door: &mut D,
-) -> Result<(), NotStarted>
-    requires pass { IsPassFor ground.now.lock.now ground.now.users.now first }
-    requires crew { 0 < ground.now.crew.sessions }
-    ensures some { OnOk result (0 < ground.now.crew.connections) }
-    ensures tries { OnOk result (RoseBy (share_of ground.now.crew.connections ground.now.crew.sessions 0) (D.tries door.old) (D.tries door.new)) }
-    ensures door { IsErrOf result NotStarted.Door → Rose (D.faults door.old) (D.faults door.new) }
-    ensures never_falls { D.faults door.old ≤ D.faults door.new }
-{
-    let mut pass = first;
-    let mut posts = List::new(ground.alloc);
-    fill_posts(rt, ground, &mut pass, door, &mut posts)?;
-    match run_posts(rt, ground, pass, door, posts) {
-        Ok(()) => Ok(()),
-        Err(NoMemory) => Err(NotStarted::NoMemory),
-    }
-}
-
-/// Makes a post for each session but the first, and for each worker.
-#[tactic(auto, using(crate::proofs::FaultCounts::rose_since))]
-fn fill_posts<B: Desk, D: Door, R: Wait>(
-    rt: &R,
-    ground: &Ground<'_, B>,
-    pass: &mut Pass<B>,
-    door: &mut D,
-    posts: &mut List<Post<B, D>>,
-) -> Result<(), NotStarted>
-    requires pass { IsPassFor ground.now.lock.now ground.now.users.now pass.old }
-    requires crew { 0 < ground.now.crew.sessions }
-    requires ready { All (λ post. IsPassFor ground.now.lock.now ground.now.users.now post.pass) posts.old }
-    ensures pass { IsPassFor ground.now.lock.now ground.now.users.now pass.new }
-    ensures ready { All (λ post. IsPassFor ground.now.lock.now ground.now.users.now post.pass) posts.new }
-    ensures door { IsErrOf result NotStarted.Door → Rose (D.faults door.old) (D.faults door.new) }
-    ensures never_falls { D.faults door.old ≤ D.faults door.new }
-    ensures tries_kept { D.tries door.new ≡ D.tries door.old }
-{
-    'sessions: for session in 1..ground.crew.sessions {
-        let duty = Duty::Serve(share_of(ground.crew, session));
-        add_post(rt, ground, pass, door, duty, posts)?;
-    }
-    'workers: for _worker in 0..ground.crew.workers {
-        add_post(rt, ground, pass, door, Duty::Expand, posts)?;
-    }
-    Ok(())
-}
-
-/// Makes a post with a pass and a door of its own.
-fn add_post<B: Desk, D: Door, R: Wait>(
-    rt: &R,
-    ground: &Ground<'_, B>,
-    pass: &mut Pass<B>,
-    door: &mut D,
-    duty: Duty,
-    posts: &mut List<Post<B, D>>,
-) -> Result<(), NotStarted>
-    requires pass { IsPassFor ground.now.lock.now ground.now.users.now pass.old }
-    requires ready { All (λ post. IsPassFor ground.now.lock.now ground.now.users.now post.pass) posts.old }
-    ensures pass { IsPassFor ground.now.lock.now ground.now.users.now pass.new }
-    ensures ready { All (λ post. IsPassFor ground.now.lock.now ground.now.users.now post.pass) posts.new }
-    ensures door { IsErrOf result NotStarted.Door → Rose (D.faults door.old) (D.faults door.new) }
-    ensures never_falls { D.faults door.old ≤ D.faults door.new }
-    ensures tries_kept { D.tries door.new ≡ D.tries door.old }
-{
-    let Ok(door) = door.another(ground.alloc) else {
-        return Err(NotStarted::Door);
-    };
-    let Ok(pass) = ground.lock.split(rt, pass) else {
-        return Err(NotStarted::NoMemory);
-    };
-    match posts.push(Post { pass, door, duty }) {
-        Ok(()) => Ok(()),
-        Err(NoMemory) => Err(NotStarted::NoMemory),
-    }
-}
-
-/// Runs the first session and all posts at once.
-fn run_posts<B: Desk + Send, D: Door, R: Threads + Wait + Sync>(
-    rt: &R,
-    ground: &Ground<'_, B>,
-    first: Pass<B>,
-    door: &mut D,
-    posts: List<Post<B, D>>,
-) -> Result<(), NoMemory>
-    requires pass { IsPassFor ground.now.lock.now ground.now.users.now first }
-    requires ready { All (λ post. IsPassFor ground.now.lock.now ground.now.users.now post.pass) posts }
-    requires crew { 0 < ground.now.crew.sessions }
-    ensures some { OnOk result (0 < ground.now.crew.connections) }
-    ensures tries { OnOk result (RoseBy (share_of ground.now.crew.connections ground.now.crew.sessions 0) (D.tries door.old) (D.tries door.new)) }
-    ensures never_falls { D.faults door.old ≤ D.faults door.new }
-{
-    let share = share_of(ground.crew, 0);
-    let mut pass = first;
-    let mut rest = Some(posts.into_vec());
-    let (_, ended) = thread::join_mut(
-        rt,
-        &mut || -> ()
-            requires { IsPassFor ground.now.lock.now ground.now.users.now pass }
-            ensures { (0 < ground.entry.now.crew.connections) × RoseBy share (D.tries door.entry.now) (D.tries door.exit.now) × (D.faults door.entry.now ≤ D.faults door.exit.now) }
-        { serve_share(rt, ground, &mut pass, &mut *door, share) },
-        &mut move || -> Result<Vec<()>, AllocError>
-            requires { ForSome rest (λ posts. All (λ post. IsPassFor ground.now.lock.now ground.now.users.now post.pass) posts.items) }
-        {
-            match rest.take() {
-                Some(posts) => run_others(rt, ground, posts),
-                None => Err(AllocError),
-            }
-        },
-    );
-    match ended {
-        Ok(_) => Ok(()),
-        Err(AllocError) => Err(NoMemory),
-    }
-}
-
-/// Runs all posts at once.
-fn run_others<B: Desk + Send, D: Door, R: Threads + Wait + Sync>(
-    rt: &R,
-    ground: &Ground<'_, B>,
-    posts: Vec<Post<B, D>>,
-) -> Result<Vec<()>, AllocError>
-    requires { All (λ post. IsPassFor ground.now.lock.now ground.now.users.now post.pass) posts.items }
-{
-    thread::map_vec(
-        rt,
-        posts,
-        &|post: Post<B, D>| -> ()
-            requires { IsPassFor ground.now.lock.now ground.now.users.now post.pass }
-        { run_post(rt, ground, post) },
-    )
-}
-
 /// Does what a post is for.
-fn run_post<B: Desk, D: Door, R: Wait>(rt: &R, ground: &Ground<'_, B>, post: Post<B, D>)
+pub(crate) fn run_post<B: Desk, D: Door, R: Wait>(
+    rt: &R,
+    ground: &Ground<'_, B>,
+    post: Post<B, D>,
+) -> Done<B>
     requires { IsPassFor ground.now.lock.now ground.now.users.now post.pass }
+    ensures { HasTakenTurns post.pass result.pass }
 {
     let Post {
         mut pass,
         mut door,
         duty,
     } = post;
+    let end = do_duty(rt, ground, &mut pass, &mut door, duty);
+    Done { pass, end }
+}
+
+/// Does a duty with a pass, unless all are to end already.
+#[tactic(auto, using(crate::proofs::Crews::turns_none))]
+fn do_duty<B: Desk, D: Door, R: Wait>(
+    rt: &R,
+    ground: &Ground<'_, B>,
+    pass: &mut Pass<B>,
+    door: &mut D,
+    duty: Duty,
+) -> Result<(), Stop<B::Fault>>
+    requires { IsPassFor ground.now.lock.now ground.now.users.now pass.old }
+    ensures { HasTakenTurns pass.old pass.new }
+{
+    if ground.is_over() {
+        return Err(Stop::Over);
+    }
     match duty {
-        Duty::Serve(share) => serve_share(rt, ground, &mut pass, &mut door, share),
-        Duty::Expand => expand_claims(rt, ground, &mut pass, &mut door),
+        Duty::Serve(share) => serve_share(rt, ground, pass, door, share),
+        Duty::Expand => expand_claims(rt, ground, pass, door),
     }
 }
 
 /// Serves so many connections, or connections without end where the crew has no number of them.
-fn serve_share<B: Desk, D: Door, R: Wait>(
+pub(crate) fn serve_share<B: Desk, D: Door, R: Wait>(
     rt: &R,
     ground: &Ground<'_, B>,
     pass: &mut Pass<B>,
     door: &mut D,
     share: u64,
-)
+) -> Result<(), Stop<B::Fault>>
     requires pass { IsPassFor ground.now.lock.now ground.now.users.now pass.old }
-    ensures some { 0 < ground.now.crew.connections }
-    ensures tries { RoseBy share (D.tries door.old) (D.tries door.new) }
+    ensures pass { HasTakenTurns pass.old pass.new }
+    ensures some { OnOk result (0 < ground.now.crew.connections) }
+    ensures tries { OnOk result (RoseBy share (D.tries door.old) (D.tries door.new)) }
+    ensures never_falls { D.faults door.old ≤ D.faults door.new }
+{
+    let end = serve_all(rt, ground, pass, door, share);
+    ground.running.fetch_sub(1, Ordering::SeqCst);
+    end
+}
+
+/// The same, before the session is counted as one that has ended.
+#[tactic(auto, using(crate::proofs::Crews::turns_none, crate::proofs::Crews::turns_more, crate::proofs::Crews::ready_on))]
+fn serve_all<B: Desk, D: Door, R: Wait>(
+    rt: &R,
+    ground: &Ground<'_, B>,
+    pass: &mut Pass<B>,
+    door: &mut D,
+    share: u64,
+) -> Result<(), Stop<B::Fault>>
+    requires pass { IsPassFor ground.now.lock.now ground.now.users.now pass.old }
+    ensures pass { HasTakenTurns pass.old pass.new }
+    ensures some { OnOk result (0 < ground.now.crew.connections) }
+    ensures tries { OnOk result (RoseBy share (D.tries door.old) (D.tries door.new)) }
     ensures never_falls { D.faults door.old ≤ D.faults door.new }
 {
     if ground.crew.connections == 0 {
         'endless: for _ in rt.forever() {
-            serve_next(rt, ground, pass, door);
+            serve_next(rt, ground, pass, door)?;
         }
         unreachable!()
     }
     'share: for _connection in 0..share {
-        serve_next(rt, ground, pass, door);
+        serve_next(rt, ground, pass, door)?;
     }
-    ground.running.fetch_sub(1, Ordering::SeqCst);
+    Ok(())
 }
 
 /// Waits for the next connection and serves it. Where none comes, as while the system has no more
 /// descriptors, it rests before it goes on.
+#[tactic(auto, using(crate::proofs::Crews::turns_none))]
 fn serve_next<B: Desk, D: Door, R: Wait>(
     rt: &R,
     ground: &Ground<'_, B>,
     pass: &mut Pass<B>,
     door: &mut D,
-)
+) -> Result<(), Stop<B::Fault>>
     requires pass { IsPassFor ground.now.lock.now ground.now.users.now pass.old }
-    ensures pass { IsPassFor ground.now.lock.now ground.now.users.now pass.new }
-    ensures tried { IsNext (D.tries door.old) (D.tries door.new) }
+    ensures pass { HasTakenTurns pass.old pass.new }
+    ensures tried { OnOk result (IsNext (D.tries door.old) (D.tries door.new)) }
     ensures never_falls { D.faults door.old ≤ D.faults door.new }
 {
-    match door.accept(rt) {
-        Ok(mut link) => {
-            let mut clock = door.clock();
-            let _ = serve_on(
-                rt,
-                ground.alloc,
-                ground.lock,
-                pass,
-                ground.users,
-                &mut link,
-                &mut clock,
-            );
+    match next_link(rt, ground, door)? {
+        Some(link) => serve_link(rt, ground, pass, link, door.clock()),
+        None => {
+            door.rest(rt);
+            Ok(())
         }
-        Err(_) => door.rest(rt),
+    }
+}
+
+/// The next connection, or none where the door failed. One session at a time waits for it, so that
+/// one connection more is all that is waited for once all are to end.
+fn next_link<B: Desk, D: Door, R: Wait>(
+    rt: &R,
+    ground: &Ground<'_, B>,
+    door: &mut D,
+) -> Result<Option<D::Link>, Stop<B::Fault>>
+    ensures tried { OnOk result (IsNext (D.tries door.old) (D.tries door.new)) }
+    ensures never_falls { D.faults door.old ≤ D.faults door.new }
+{
+    let doorway = ground.doorway.lock(rt);
+    let link = accept_next(rt, ground, door);
+    drop(doorway);
+    link
+}
+
+/// The same, in the doorway. A connection that comes when all are to end is let go unanswered.
+fn accept_next<B: Desk, D: Door, R: Wait>(
+    rt: &R,
+    ground: &Ground<'_, B>,
+    door: &mut D,
+) -> Result<Option<D::Link>, Stop<B::Fault>>
+    ensures tried { OnOk result (IsNext (D.tries door.old) (D.tries door.new)) }
+    ensures never_falls { D.faults door.old ≤ D.faults door.new }
+{
+    if ground.is_over() {
+        return Err(Stop::Over);
+    }
+    let came = door.accept(rt);
+    if ground.is_over() {
+        return Err(Stop::Over);
+    }
+    match came {
+        Ok(link) => Ok(Some(link)),
+        Err(_) => Ok(None),
+    }
+}
+
+/// Serves a connection. Where the desk breaks, all are to end.
+fn serve_link<B: Desk, L: Link + Drop, C: Clock + Drop, R: Wait>(
+    rt: &R,
+    ground: &Ground<'_, B>,
+    pass: &mut Pass<B>,
+    mut link: L,
+    mut clock: C,
+) -> Result<(), Stop<B::Fault>>
+    requires { IsPassFor ground.now.lock.now ground.now.users.now pass.old }
+    ensures { HasTakenTurns pass.old pass.new }
+{
+    let end = serve_on(
+        rt,
+        ground.alloc,
+        ground.lock,
+        pass,
+        ground.users,
+        &mut link,
+        &mut clock,
+    );
+    match end {
+        OnEnd::Ended(_) => Ok(()),
+        OnEnd::Broken(fault, _) => {
+            ground.end_all();
+            Err(Stop::Broken(fault))
+        }
     }
 }
 
 /// Claims and expands while a session runs, and rests where there is nothing to claim.
+#[tactic(auto, using(crate::proofs::Crews::turns_none, crate::proofs::Crews::turns_more, crate::proofs::Crews::ready_on))]
 fn expand_claims<B: Desk, D: Door, R: Wait>(
     rt: &R,
     ground: &Ground<'_, B>,
     pass: &mut Pass<B>,
     door: &mut D,
-)
-    requires pass { IsPassFor ground.now.lock.now ground.now.users.now pass.old }
+) -> Result<(), Stop<B::Fault>>
+    requires { IsPassFor ground.now.lock.now ground.now.users.now pass.old }
+    ensures { HasTakenTurns pass.old pass.new }
 {
     'working: for _ in rt.forever() {
+        if ground.is_over() {
+            return Err(Stop::Over);
+        }
         if ground.running.load(Ordering::SeqCst) == 0 {
             break;
         }
-        let worked = work_on(
-            rt,
-            ground.alloc,
-            ground.lock,
-            pass,
-            &OpenGate::new(),
-            WORKER_TURNS,
-        );
-        if worked.claimed == 0 {
+        if !has_worked(rt, ground, pass) {
             door.rest(rt);
         }
     }
+    Ok(())
+}
+
+/// Takes a worker's turns, and says whether there was something to claim.
+fn has_worked<B: Desk, R: Wait>(rt: &R, ground: &Ground<'_, B>, pass: &mut Pass<B>) -> bool
+    requires { IsPassFor ground.now.lock.now ground.now.users.now pass.old }
+    ensures { HasTakenTurns pass.old pass.new }
+{
+    let worked = work_on(
+        rt,
+        ground.alloc,
+        ground.lock,
+        pass,
+        &OpenGate::new(),
+        WORKER_TURNS,
+    );
+    0 < worked.claimed
 }
