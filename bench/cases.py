@@ -1,13 +1,13 @@
 #!/usr/bin/env python3
-"""Writes the cases of scripts and of walks through books of the program cases_server, and what each of them has to give, from the rules of docs/.
+"""Writes the cases of scripts, of walks through books and of books that are kept of the program cases_server, and what each of them has to give, from the rules of docs/.
 
     bench/cases.py            writes them into stdin and stdout of its crate, where all other parts stay
     bench/cases.py --check    says whether they are what it would write
 
 What is to come is made here from the rules: the octets of each reply by docs/REPLIES.md, the order of refusals by
-docs/STATE_AND_LIMITS.md and docs/REQUESTS.md. Nothing is taken from the program. It needs Python 3 alone.
+docs/STATE_AND_LIMITS.md and docs/REQUESTS.md, the octets of a journal file by docs/JOURNAL.md. Nothing is taken from the program. It needs Python 3 alone.
 """
-import base64, hashlib, os, re, sys
+import base64, hashlib, os, re, struct, sys
 from email.utils import formatdate
 
 TOP = os.path.dirname(os.path.dirname(os.path.abspath(__file__)))
@@ -235,6 +235,7 @@ NOBODY = "<D:principal><D:href>/principals/nobody/</D:href></D:principal>"
 
 CASES, ANSWERS = [], []  # of scripts
 WALKS, TOLD = [], []
+KEPT, LOADED = [], []  # of books that are kept
 
 
 def case(title, text, status, place, output, form="frames", read="-", write="-", words="script --users users"):
@@ -1327,6 +1328,88 @@ def books():
     ])
 
 
+# Journal files of alice and bob
+
+MEMBERS = ("alice", "bob")
+
+
+def named(name):
+    return struct.pack(">B", len(name)) + name.encode()
+
+
+def counted(octets):
+    return struct.pack(">I", len(octets)) + octets
+
+
+HEADER = b"caldavjournal 1\n" + counted(b"".join(b"user %s\n" % who.encode() for who in MEMBERS))
+
+
+class Record:
+    """A record behind its open gate, and what is printed of it: who asked for a change, when and with which status, and the fields of its kind."""
+
+    def __init__(self, kind, status, fields, home="alice", name="calendar", who="alice", moment=MOMENT):
+        self.octets = b"\1" + counted(struct.pack(">BIQHI", kind, MEMBERS.index(who), moment, status, MEMBERS.index(home)) + named(name) + fields)
+        self.told = f"session 0, user {MEMBERS.index(who)}, moment {moment}, status {status}"
+
+
+def settings(size, *made):
+    """Settings, each a namespace, a name and a value, or None where the property is removed."""
+    return struct.pack(">II", size, len(made)) + b"".join(
+        counted(space.encode()) + counted(name.encode()) + (b"\0" if value is None else b"\1" + counted(value.encode())) for space, name, value in made
+    )
+
+
+def granted(size, *made):
+    """Grants, each a kind, a number and the bits of the privileges."""
+    return struct.pack(">IB", size, len(made)) + b"".join(struct.pack(">BIH", *grant) for grant in made)
+
+
+def kept(title, frames, replies, records, first, told, end=0, begin=0):
+    """A script at a new book, the entry of the first object that is left, and what is loaded of the file up to one place and from another on."""
+    left = "nothing is to be expanded" if first is None else f"object {first} is expanded next"
+    size = len(HEADER) + sum(len(record.octets) for record in records) + 1
+    KEPT.append(f"#{title}\n{end} {begin}\n".encode() + b"".join(frames))
+    LOADED.append("".join(line + "\n" for line in [f"# {title}", f"done: {replies} replies, {size} octets; {left}", *told]).encode())
+
+
+def journals():
+    one, work = CALENDAR + "one.ics", HOME + "work/"
+    later = event("one", "DTSTART:20250310T110000Z", "DTEND:20250310T120000Z")
+    made = make("<D:displayname>Work</D:displayname>")
+    patched = (
+        f"<D:propertyupdate {NAMES}><D:set><D:prop><D:displayname>Home</D:displayname><x:colour xmlns:x=\"urn:x\">red</x:colour></D:prop></D:set>"
+        "<D:remove><D:prop><x:note xmlns:x=\"urn:x\"/></D:prop></D:remove></D:propertyupdate>"
+    ).encode()
+    reads = grants(ace(BOB, "<D:read/>"))
+    xml = {"media": "application/xml"}
+    stores, removes = frame(put("one.ics", E1)), frame(request("DELETE", one))
+    others = frame(put("two.ics", E2, path="/calendars/bob/calendar/", who="bob"), 1)
+    first, last = Record(1, 201, named("one.ics") + counted(E1)), Record(2, 204, named("one.ics"))
+    records = [
+        first, Record(1, 204, named("one.ics") + counted(later), moment=MOMENT + 60), Record(4, 201, settings(len(made), ("DAV:", "displayname", "Work")), name="work"),
+        Record(5, 207, settings(len(patched), ("DAV:", "displayname", "Home"), ("urn:x", "colour", "red"), ("urn:x", "note", None)), name="work"),
+        Record(6, 200, granted(len(reads), (2, 1, 3))), Record(1, 201, named("two.ics") + counted(E2), home="bob", who="bob"), last, Record(3, 204, b"", name="work"),
+    ]
+    # two requests change nothing: bob may read the object, and may not delete it
+    frames = [
+        stores, frame(put("one.ics", later), moment=MOMENT + 60), frame(request("MKCALENDAR", work, made, **xml)), frame(request("PROPPATCH", work, patched, **xml)),
+        frame(request("ACL", CALENDAR, reads, **xml)), frame(request("GET", one, who="bob"), 1), frame(request("DELETE", one, who="bob"), 1), others, removes, frame(request("DELETE", work)),
+    ]
+    kept("each kind of change", frames, 10, records, 5, [f"entry {number}: {record.told}" for number, record in enumerate(records)])
+    kept("no change", [], 0, [], None, [])
+    begin = len(HEADER)
+    end = begin + len(first.octets)
+    kept("a record that stands twice", [stores], 1, [first], 0, [f"at {end} status 201 is kept, and 204 is made"], end, begin)
+    kept("a record that is lost", [stores, removes], 2, [first, last], None, [f"at {begin} status 204 is kept, and 0 is made"], begin, end)
+    kept("the last gate is lost", [stores], 1, [first], 0, [f"refused at {end}"], end, end + 1)
+    kept("the mark is cut", [stores], 1, [first], 0, ["refused at 0"], 0, 1)
+    kept("the first user is lost", [stores], 1, [first], 0, ["refused at 5"], 20, 20 + len("user alice\n"))
+    # a change is in the file and not answered where the last sync fails, and nowhere else
+    title = "each call of the disk fails in turn, while two connections change something"
+    KEPT.append(f"#{title}\nfails\n".encode() + stores + others + removes)
+    LOADED.append(f"# {title}\nof 200 calls 197 leave what was answered, 3 one change more\n".encode())
+
+
 def with_part(text, kind, cases):
     """An input or an output of the program with other cases of a kind, which stand behind the line `@KIND` up to the next `@`."""
     front, head, rest = text.partition(b"@%s\n" % kind.encode())
@@ -1338,9 +1421,9 @@ def with_part(text, kind, cases):
 
 def main():
     orders = (methods, shapes, conditions, bodies, reading, deleting, putting, properties, granting, reporting, long_answers, homes)
-    for part in (ends, cuttings, moments, streams, objects, *orders, replaced, several, rows, teams, books):
+    for part in (ends, cuttings, moments, streams, objects, *orders, replaced, several, rows, teams, books, journals):
         part()
-    for name, made in (("stdin", {"books": WALKS, "scripts": CASES}), ("stdout", {"books": TOLD, "scripts": ANSWERS})):
+    for name, made in (("stdin", {"books": WALKS, "kept": KEPT, "scripts": CASES}), ("stdout", {"books": TOLD, "kept": LOADED, "scripts": ANSWERS})):
         path = os.path.join(TOP, "crates/cases_server", name)
         with open(path, "rb") as file:
             text = file.read()

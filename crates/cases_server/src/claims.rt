@@ -24,13 +24,13 @@ fn new_book(alloc: Global, users: &Arc<Users>) -> Result<Book, NoMemory>
 }
 
 /// A source that brings these octets, none of whose reads fail.
-fn source_of(alloc: Global, octets: &[u8]) -> Result<MemorySource, NoMemory> {
+pub fn source_of(alloc: Global, octets: &[u8]) -> Result<MemorySource, NoMemory> {
     let octets = Octets::of(alloc, octets)?;
     Ok(MemorySource::new(octets, List::new(alloc), ALLOWANCE))
 }
 
 /// Prints the entries of a book.
-fn print_entries(rt: &HostRuntime, book: &Book) -> io::Result<()> {
+pub fn print_entries(rt: &HostRuntime, book: &Book) -> io::Result<()> {
     for number in 0..book.entries() {
         if let Some(entry) = book.entry(number) {
             println!(rt;

@@ -2,13 +2,14 @@
 //!
 //! Given: parts on standard input, each behind a line `@KIND`. Gives: for each that line, and what came
 //! of its cases.
-//! `bench/cases.py` writes the cases of `scripts` and `books`, and what they have to give.
+//! `bench/cases.py` writes the cases of `scripts`, `books` and `kept`, and what they have to give.
 //!
 //! | Kind | Cases | Module |
 //! |---|---|---|
 //! | `props` | `find WHO DEPTH PATH PROPS`, `ask WHO PATH PROP`, `patch SETTINGS` and `make SETTINGS`, one a line | `props` |
 //! | `books` | a line `#TITLE`, a line of steps, and the octets of a connection | `books` |
 //! | `claims` | the frames of one script | `claims` |
+//! | `kept` | a line `#TITLE`, a line `END BEGIN` or `fails`, and the frames of a script | `kept` |
 //! | `scripts` | a line `#TITLE`, a line `FORM READ WRITE WORD..`, and the input of a script | `scripts` |
 //! | `sessions` | a line `# WORD NUMBER`, and the octets of a connection | `sessions` |
 #![tactic(auto)]
@@ -16,6 +17,7 @@
 mod books;
 mod claims;
 mod files;
+mod kept;
 mod passes;
 mod props;
 mod props_texts;
@@ -32,6 +34,7 @@ mod walk;
 use books::print_books;
 use cal_base::{StdSource, read_up_to};
 use claims::print_claims;
+use kept::print_kept;
 use props::print_props;
 use scripts::print_scripts;
 use sessions::print_sessions;
@@ -53,6 +56,7 @@ fn print_part<R: Threads + Wait + Sync + Print>(
         "props" => print_props(rt, cases),
         "books" => print_books(rt, cases),
         "claims" => print_claims(rt, cases),
+        "kept" => print_kept(rt, cases),
         "scripts" => print_scripts(rt, cases),
         "sessions" => print_sessions(threads, rt.alloc(), cases),
         _ => println!(rt; "no such part"),

@@ -65,7 +65,7 @@ pub fn serve<R: Wait>(rt: &R, alloc: Global, link: &mut MemoryLink) -> Result<Ru
 }
 
 /// How many replies some octets have.
-fn replies(octets: &[u8]) -> usize {
+pub fn replies(octets: &[u8]) -> usize {
     octets
         .windows(8)
         .filter(|window| *window == b"\r\nDate: ".as_slice())
