@@ -7,12 +7,14 @@
 ports of 127.0.0.1, and ends what it started. The status is 0 where all is as it should be.
 
 What is shown here no contract says: that there is memory and a network, that a connection which comes is answered, that
-the program ends once its connections were served. What is wanted comes from docs/: COMMANDS.md (words, statuses, lines
-on standard error), REPLIES.md (replies, entity tags) and XML.md (the body of a report). The digests of `load` were worked
-out by a second program, from LOAD.md alone."""
+the program ends once its connections were served; and, with `--journal`, that the file of the system keeps what a server
+acknowledged over its end, and when it is killed. What is wanted comes from docs/: COMMANDS.md (words, statuses, lines on
+standard error), REPLIES.md (replies, entity tags), XML.md (the body of a report) and JOURNAL.md (the file). The digests of
+`load` were worked out by a second program, from LOAD.md alone."""
 import contextlib, copy, email.utils, hashlib, os, re, socket, subprocess, sys, tempfile, threading, time
 
 sys.dont_write_bytecode = True
+import journals
 from workers import KEY, USERS, free_port
 
 TOP = os.path.dirname(os.path.dirname(os.path.abspath(__file__)))
@@ -24,6 +26,17 @@ TEN_EACH = "sessions 3\nrequests 36\naccepted 36\noctets 22483\nsha256 7d0ed65fc
 
 USAGE_OF_SERVE, USAGE_OF_LOAD = "usage: caldav_server serve\n", "usage: caldav_server load\n"
 AT = "--users users --listen 127.0.0.1:1 --connections 1"
+HEADER = journals.header(["alice"], [])
+# Journal files that are refused, each with the place: no journal; of other users; one that ends in a gate's place; one with
+# a record of no octets; one with a change that is not accepted (a deletion of what is not there).
+GONE = journals.Record(journals.DELETE, 0, 1741600000, 204, 0, "calendar", "gone.ics")
+REFUSED = {
+    "no-journal": (b"caldavjournal 2\n" + HEADER[16:], 0),
+    "of-others": (journals.header(["alice", "bob"], []) + b"\0", 11),
+    "cut": (HEADER, len(HEADER)),
+    "empty-record": (HEADER + b"\1\0\0\0\0\0", len(HEADER)),
+    "other-status": (journals.journal(["alice"], [], [journals.payload(GONE)]), len(HEADER)),
+}
 
 # Words, and the status, standard output and standard error that they have to end with.
 ENDS = [
@@ -39,6 +52,19 @@ ENDS = [
     ("serve --users none --listen 127.0.0.1:1 --connections 1", 4, "", "input fault\n"),
     ("serve --users bad --listen 127.0.0.1:1 --connections 1", 3, "", f"users file: bad line at octet {len(USERS)}\n"),
     ("serve --users users --listen nowhere --connections 1", 4, "", "input fault\n"),
+    (f"serve {AT} --journal", 2, "", USAGE_OF_SERVE),
+    (f"serve {AT} --journal never --journal=never", 2, "", USAGE_OF_SERVE),
+    (f"serve {AT} --journal never --sessions 0", 2, "", USAGE_OF_SERVE),
+    ("serve --users none --journal never --listen 127.0.0.1:1 --connections 1", 4, "", "input fault\n"),
+    ("serve --users bad --journal=never --listen 127.0.0.1:1 --connections 1", 3, "", f"users file: bad line at octet {len(USERS)}\n"),
+    (f"serve {AT} --journal none/journal", 8, "", "journal fault\n"),
+    (f"serve {AT} --journal .", 8, "", "journal fault\n"),
+    *[(f"serve {AT} --journal={name}", 9, "", f"journal: refused at octet {place}\n") for name, (_, place) in REFUSED.items()],
+    *[(f"script --users users --journal {name}", 9, "", f"journal: refused at octet {place}\n") for name, (_, place) in REFUSED.items()],
+    ("script --users users --journal none/journal", 8, "", "journal fault\n"),
+    ("script --users none --journal never", 4, "", "input fault\n"),
+    ("script --users users --journal", 2, "", "usage: caldav_server script --users FILE\n"),
+    ("script --users users --journal=never", 2, "", "usage: caldav_server script --users FILE\n"),
     ("load --number 1", 0, ONE_EACH, ""),
     ("load --number=10 --sessions=3 --workers=0", 0, TEN_EACH, ""),
     ("load --sessions 3 --workers 4 --number 10", 0, TEN_EACH, ""),
@@ -60,11 +86,11 @@ ASKS = [
     ("-h", ["serve", "load", "script"]),
     ("--version", ["caldav_server 0.1.0"]),
     ("-V", ["caldav_server 0.1.0"]),
-    ("serve --help", ["--users", "--listen", "--sessions", "--workers", "--connections"]),
+    ("serve --help", ["--users", "--journal", "--listen", "--sessions", "--workers", "--connections"]),
     ("serve --version", ["caldav_server 0.1.0"]),
     ("load -h", ["--number", "--sessions", "--workers"]),
     ("load -V", ["caldav_server 0.1.0"]),
-    ("script --help", ["--users"]),
+    ("script --help", ["--users", "--journal"]),
     ("script --version", ["caldav_server 0.1.0"]),
 ]
 
@@ -85,15 +111,21 @@ class Program:
         other.begin = ["sh", "-c", f'ulimit -n {many} && exec "$0" "$@"', *self.begin]
         return other
 
-    def start(self, words, output=subprocess.PIPE):
-        how = {"bufsize": 0, "stdin": subprocess.DEVNULL, "stdout": output, "stderr": subprocess.PIPE, "cwd": self.folder, "env": self.environment}
+    def with_room(self, blocks):
+        """The same on a disk that is full: no file gets longer than so many blocks of 512 octets."""
+        other = copy.copy(self)
+        other.begin = ["sh", "-c", f'trap "" XFSZ && ulimit -f {blocks} && exec "$0" "$@"', *self.begin]
+        return other
+
+    def start(self, words, output=subprocess.PIPE, given=subprocess.DEVNULL):
+        how = {"bufsize": 0, "stdin": given, "stdout": output, "stderr": subprocess.PIPE, "cwd": self.folder, "env": self.environment}
         return subprocess.Popen([*self.begin, *words], **how)
 
-    def ended(self, words, output=subprocess.PIPE):
+    def ended(self, words, output=subprocess.PIPE, given=None):
         """The status, and what was written on standard output and standard error."""
-        process = self.start(words, output)
+        process = self.start(words, output, subprocess.DEVNULL if given is None else subprocess.PIPE)
         try:
-            wrote, told = process.communicate(timeout=WAIT)
+            wrote, told = process.communicate(given, timeout=WAIT)
         except subprocess.TimeoutExpired:
             raise Wrong(f"{' '.join(words)}: does not end")
         finally:
@@ -158,29 +190,33 @@ class Talk:
         name = f"e{day}"
         lines = ["BEGIN:VCALENDAR", "VERSION:2.0", "PRODID:-//a//EN", "BEGIN:VEVENT", f"UID:{name}", "DTSTAMP:20250101T000000Z"]
         lines += [f"DTSTART:202503{day}T090000Z", f"DTEND:202503{day}T100000Z", "SUMMARY:Stand-up", "END:VEVENT", "END:VCALENDAR"]
+        self.name = f"{name}.ics"
         event, shown = ("".join(line + end for line in lines) for end in ("\r\n", "&#13;\n"))
+        self.event = event.encode()
         query = (
             '<C:calendar-query xmlns:D="DAV:" xmlns:C="urn:ietf:params:xml:ns:caldav"><D:prop><D:getetag/><C:calendar-data/></D:prop><C:filter><C:comp-filter name="VCALENDAR">'
             f'<C:comp-filter name="VEVENT"><C:time-range start="202503{day}T000000Z" end="202503{day + 1}T000000Z"/></C:comp-filter></C:comp-filter></C:filter></C:calendar-query>'
         )
         calendar = "/calendars/alice/calendar/"
-        self.asked = request("PUT", f"{calendar}{name}.ics", "text/calendar", event)
-        self.asked += request("REPORT", calendar, "application/xml", query, "Connection: close\r\n")
+        self.put = request("PUT", f"{calendar}{name}.ics", "text/calendar", event)
+        self.query = request("REPORT", calendar, "application/xml", query, "Connection: close\r\n")
+        self.asked = self.put + self.query
         tag = f'"{hashlib.sha256(event.encode()).hexdigest()}"'
         body = (
             '<?xml version="1.0" encoding="utf-8"?>\n<D:multistatus xmlns:D="DAV:" xmlns:C="urn:ietf:params:xml:ns:caldav"><D:response>'
             f"<D:href>{calendar}{name}.ics</D:href><D:propstat><D:prop><D:getetag>{tag}</D:getetag><C:calendar-data>{shown}</C:calendar-data></D:prop>"
             "<D:status>HTTP/1.1 200 OK</D:status></D:propstat></D:response></D:multistatus>"
         )
-        created = f"HTTP/1.1 201 Created\r\nDate: *\r\nETag: {tag}\r\nContent-Length: 0\r\n\r\n"
+        self.created = f"HTTP/1.1 201 Created\r\nDate: *\r\nETag: {tag}\r\nContent-Length: 0\r\n\r\n"
         found = f"HTTP/1.1 207 Multi-Status\r\nDate: *\r\nContent-Type: application/xml; charset=utf-8\r\nConnection: close\r\nContent-Length: {len(body)}\r\n\r\n"
-        self.due = created + found + body
+        self.found = found + body
 
-    def look(self, got, begun):
+    def look(self, got, begun, due=None):
         """Looks whether these replies are due, and each of their dates between the beginning and now."""
+        due = self.created + self.found if due is None else due
         dates = re.findall(r"\r\nDate: ([^\r]*)\r\n", got)
-        if re.sub(r"\r\nDate: [^\r]*\r\n", "\r\nDate: *\r\n", got) != self.due:
-            raise Wrong(f"a connection was answered {got!r} and not {self.due!r}")
+        if re.sub(r"\r\nDate: [^\r]*\r\n", "\r\nDate: *\r\n", got) != due:
+            raise Wrong(f"a connection was answered {got!r} and not {due!r}")
         for date in dates:
             moment = email.utils.parsedate_to_datetime(date)
             if email.utils.format_datetime(moment, usegmt=True) != date or not int(begun) <= moment.timestamp() <= time.time():
@@ -213,8 +249,8 @@ def silent_connections(program):
 
 
 def no_descriptor(program):
-    """A connection that cannot be taken counts: with its address the server has as many open files as it may."""
-    with Server(program.with_files(4), 1, "--sessions", "1", "--workers", "0") as server, contextlib.suppress(OSError):
+    """A connection that cannot be taken counts: with its address, at which two doors stand, the server has as many open files as it may."""
+    with Server(program.with_files(5), 1, "--sessions", "1", "--workers", "0") as server, contextlib.suppress(OSError):
         server.connect().close()
 
 
@@ -224,6 +260,93 @@ def taken_port(program):
         other.listen()
         words = f"serve --users users --listen 127.0.0.1:{other.getsockname()[1]} --sessions 1 --connections 1".split()
         program.has_to_end(words, 4, "", "input fault\n")
+
+
+KEPT = ["--sessions", "2", "--workers", "1", "--journal"]
+FIRST, SECOND, THIRD = Talk(10), Talk(11), Talk(12)  # a journal with the first two has 504 octets
+
+
+def asked(server, octets):
+    """All that comes on a connection on which this was asked."""
+    with server.connect() as link:
+        link.sendall(octets)
+        return all_octets(link)
+
+
+def shown_again(program, file, *talks):
+    """A server over a journal shows what was put before it was started."""
+    begun = time.time()
+    with Server(program, 2, *KEPT, file) as server:
+        for talk in (talks * 2)[:2]:
+            talk.look(asked(server, talk.query), begun, talk.found)
+
+
+def keeps(program):
+    """What was acknowledged is there after a server has ended, and after one was killed; nobody else takes its file meanwhile."""
+    begun = time.time()
+    with Server(program, 2, *KEPT, "kept") as server:
+        FIRST.look(asked(server, FIRST.asked), begun)
+        program.has_to_end(f"serve {AT} --journal kept".split(), 8, "", "journal fault\n")
+        program.has_to_end("script --users users --journal kept".split(), 8, "", "journal fault\n")
+        FIRST.look(asked(server, FIRST.query), begun, FIRST.found)
+    shown_again(program, "kept", FIRST)
+    killed = Server(program, 9, *KEPT, "kept")
+    try:
+        SECOND.look(asked(killed, SECOND.asked), begun)
+    finally:
+        killed.stop()
+    shown_again(program, "kept", FIRST, SECOND)
+    if os.stat(os.path.join(program.folder, "kept")).st_mode & 0o777 != 0o600:
+        raise Wrong("a journal is not for its owner alone")
+
+
+def full_disk(program):
+    """A change for which the disk has no room is not answered, and not kept; the server ends with the connection behind it."""
+    begun = time.time()
+    server = Server(program.with_room(1), 9, *KEPT, "full")
+    try:
+        FIRST.look(asked(server, FIRST.put + SECOND.put + THIRD.put), begun, FIRST.created + SECOND.created)
+        with contextlib.suppress(OSError):
+            FIRST.look(asked(server, FIRST.query), begun, "")
+        wrote, told = server.process.communicate()
+        if (server.process.returncode, wrote, told) != (8, b"", b"journal fault\n"):
+            raise Wrong(f"a server on a full disk ended with {server.process.returncode}, {wrote}, {told}")
+    finally:
+        server.stop()
+    shown_again(program, "full", FIRST, SECOND)
+    octets = journals.contents(os.path.join(program.folder, "full"))
+    if [record.name for _, record in journals.Journal(octets).records()] != [FIRST.name, SECOND.name]:
+        raise Wrong(f"a server on a full disk left {octets!r}")
+
+
+def frame(octets):
+    return b"bytes 0 1741600000 %d\n%s\n" % (len(octets), octets)
+
+
+def framed(reply):
+    reply = reply.replace("Date: *", "Date: Mon, 10 Mar 2025 09:46:40 GMT")
+    return f"reply 0 {len(reply)}\n{reply}\n"
+
+
+def kept_script(program):
+    """A script writes the journal that its page describes, and the next one goes on from it; one on a full disk ends at the change."""
+    words = "script --users users --journal played".split()
+    path = os.path.join(program.folder, "played")
+    new = HEADER + b"\0"
+    record = journals.Record(journals.PUT, 0, 1741600000, 201, 0, "calendar", FIRST.name, FIRST.event)
+    for given, wanted, left in ((b"", "", new), (frame(FIRST.put), framed(FIRST.created), journals.journal(["alice"], [], [journals.payload(record)]))):
+        found = program.ended(words, given=given)
+        if found != (0, wanted, ""):
+            raise Wrong(f"{' '.join(words)}: ended with {found} and not with {wanted!r}")
+        if journals.contents(path) != left:
+            raise Wrong(f"{' '.join(words)}: left {journals.contents(path)!r} and not {left!r}")
+    full = program.with_room(1)
+    found, wanted = full.ended(words, given=frame(SECOND.put) + frame(THIRD.put) + frame(FIRST.query)), framed(SECOND.created)
+    if found != (8, wanted, "journal fault\n"):
+        raise Wrong(f"{' '.join(words)}: on a full disk ended with {found} and not with {wanted!r}")
+    found, wanted = full.ended(words, given=frame(FIRST.query)), framed(FIRST.found)
+    if found != (0, wanted, ""):
+        raise Wrong(f"{' '.join(words)}: behind a full disk ended with {found} and not with {wanted!r}")
 
 
 def full_output(program):
@@ -242,6 +365,14 @@ def look(program):
         status, wrote, told = program.ended(words.split())
         if status != 0 or told or not all(it in wrote for it in wanted):
             raise Wrong(f"{words}: ended with {(status, wrote, told)}")
+    for name, (octets, _) in REFUSED.items():
+        if journals.contents(os.path.join(program.folder, name)) != octets:
+            raise Wrong(f"the file {name} was refused, and written to")
+    if os.path.exists(os.path.join(program.folder, "never")):
+        raise Wrong("a journal was made for words or users that are refused")
+    keeps(program)
+    full_disk(program)
+    kept_script(program)
     full_output(program)
     taken_port(program)
     no_descriptor(program)
@@ -253,7 +384,8 @@ def look(program):
 def fault(path, more=None):
     """What is wrong with a built program, if anything is; it runs with this more in its environment."""
     with tempfile.TemporaryDirectory() as folder:
-        for name, octets in (("users", USERS), ("bad", USERS + b"user bob abc\n")):
+        files = {"users": USERS, "bad": USERS + b"user bob abc\n", **{name: octets for name, (octets, _) in REFUSED.items()}}
+        for name, octets in files.items():
             with open(os.path.join(folder, name), "wb") as file:
                 file.write(octets)
         try:
