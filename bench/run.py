@@ -2,7 +2,7 @@
 """Times the programs over generated input, and prints the figures. It needs Python 3, and Debian's package `time` for the memory.
 
 Build the programs once before: `rt run` in crates/caldav_server and in crates/bench.
-Words name the parts that are to run (scripts, growth, puts, expansions, zones, lines, values, objects, rules, rows, filters, bodies, requests, wire, busy, index, claims, turns); without a word all do.
+Words name the parts that are to run (scripts, growth, puts, expansions, zones, lines, values, objects, rules, rows, filters, bodies, requests, wire, busy, slots, index, claims, turns); without a word all do.
 """
 import base64, contextlib, datetime, os, re, resource, socket, subprocess, sys, tempfile, time
 
@@ -643,6 +643,18 @@ def busy():
         print(f"{f'{count} times that all overlap':34} {seconds:8.4f} {seconds / count * 1e6:8.3f} {most:6.1f}  {answer}")
 
 
+def slots():
+    print(f"{'common free time':34} {'times':>8} {'ms a look':>10} {'ns a time':>10}  answer")
+    for calendars, times in ((1, 320000), (8, 40000), (32, 5000), (32, 10000)):
+        for way in ("on", "back"):
+            words = ["slots", str(calendars), str(times), way]
+            made = min(processor_run(BENCH, [*words, "0"], b"")[0] for _ in range(3))
+            runs = [processor_run(BENCH, [*words, "50"], b"") for _ in range(3)]
+            seconds = (min(taken for taken, _, _ in runs) - made) / 50
+            answer = runs[0][2].decode().strip()
+            print(f"{f'{calendars} calendars, {way}':34} {calendars * times:8d} {seconds * 1e3:10.2f} {seconds / (calendars * times) * 1e9:10.1f}  {answer}")
+
+
 def wire():
     print(f"{'stream':34} {'piece':>8} {'octets':>9} {'seconds':>8} {'ns/octet':>9} {'MiB':>6}  answer")
     chunked = b"PUT /a HTTP/1.1\r\nTransfer-Encoding: chunked\r\n\r\n"
@@ -666,7 +678,7 @@ def wire():
 
 PARTS = {
     "scripts": scripts, "growth": growth, "puts": puts, "expansions": expansions, "zones": zones, "lines": lines, "values": values, "objects": objects, "rules": rules, "rows": rows, "filters": filters,
-    "bodies": bodies, "requests": requests, "wire": wire, "busy": busy, "index": index, "claims": claims, "turns": turns,
+    "bodies": bodies, "requests": requests, "wire": wire, "busy": busy, "slots": slots, "index": index, "claims": claims, "turns": turns,
 }
 OF_SERVER = ("scripts", "growth", "puts", "expansions", "zones")
 chosen = sys.argv[1:] or list(PARTS)

@@ -18,6 +18,7 @@
 //! | `claims` | objects, rows of a piece | | pieces published, rows before and after half of the objects end |
 //! | `turns` | threads, turns of each, `times` or none | | how many turns were taken |
 //! | `busy` | how many times there are | | how many runs they have |
+//! | `slots` | calendars, times of each, `on` or `back`, how often | | the first moment that is free in all |
 //! | `wire` | octets of a piece, or none | a stream | its requests, the octets of their bodies, how it ends |
 #![tactic(auto)]
 
@@ -31,6 +32,7 @@ mod objects;
 mod requests;
 mod rows;
 mod rules;
+mod slots;
 mod turns;
 mod values;
 mod wire;
@@ -110,6 +112,12 @@ fn measure_state<R: Threads + Wait + Sync>(
         "claims" => {
             let objects = number(words.next(), 0);
             claims::measure(rt, objects, small(words.next(), 0))
+        }
+        "slots" => {
+            let calendars = small(words.next(), 32);
+            let times = number(words.next(), 0);
+            let back = words.next() == Some("back");
+            slots::measure(rt, calendars, times, back, number(words.next(), 1))
         }
         "turns" => {
             let count = number(words.next(), 1);

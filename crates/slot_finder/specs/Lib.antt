@@ -1,0 +1,2 @@
+pub mod FreeTimes
+pub mod Fits
