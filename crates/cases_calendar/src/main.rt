@@ -9,14 +9,17 @@
 //! | `rules` | texts of rules, one a line | what each says, or the place of its first fault |
 //! | `zones` | a line `#TITLE`, and a calendar with a VTIMEZONE behind it | its onsets, or why there is none |
 //! | `rows` | a line `# FIRST LAST` with two windows, and a calendar object behind it | its rows from one window to the other, or why there is no object |
+//! | `files` | a line `# FROM TO` with two moments, and a calendar file behind it, perhaps with the zone of floating times behind a `|` | the lines of its rows in the range, and the line about it |
 #![tactic(auto)]
 
+mod files;
 mod rows;
 mod rules;
 mod texts;
 mod zones;
 
 use cal_base::{StdSource, read_up_to};
+use files::print_files;
 use rows::print_objects;
 use rules::print_rules;
 use std::io;
@@ -32,6 +35,7 @@ fn print_part(rt: &HostRuntime, part: &[u8]) -> io::Result<()> {
         "rules" => print_rules(rt, cases),
         "zones" => print_zones(rt, cases),
         "rows" => print_objects(rt, cases),
+        "files" => print_files(rt, cases),
         _ => println!(rt; "no such part"),
     }
 }

@@ -1,0 +1,6 @@
+pub mod AnswerLaws
+pub mod LineExamples
+pub mod LineSteps
+pub mod LookedRows
+pub mod NearRowLaws
+pub mod StatedWindows
