@@ -1,5 +1,5 @@
 #!/usr/bin/env python3
-"""Shows that the commands `serve` and `load` do what they should: the built program, its words, sockets and statuses.
+"""Shows that the commands do what they should: the built program, its words, files, sockets and statuses.
 
     bench/commands.py [PROGRAM..]
 
@@ -25,6 +25,7 @@ ONE_EACH = "sessions 4\nrequests 4\naccepted 4\noctets 616\nsha256 b893486846227
 TEN_EACH = "sessions 3\nrequests 36\naccepted 36\noctets 22483\nsha256 7d0ed65fc6f23fbb5e572165155820aa4017f813b900c1383a1a36af986a11a9\n"
 
 USAGE_OF_SERVE, USAGE_OF_LOAD = "usage: caldav_server serve\n", "usage: caldav_server load\n"
+USAGE_OF_EXPAND, USAGE_OF_CHECK = "usage: caldav_server expand\n", "usage: caldav_server check\n"
 AT = "--users users --listen 127.0.0.1:1 --connections 1"
 HEADER = journals.header(["alice"], [])
 # Journal files that are refused, each with the place: no journal; of other users; one that ends in a gate's place; one with
@@ -36,6 +37,51 @@ REFUSED = {
     "cut": (HEADER, len(HEADER)),
     "empty-record": (HEADER + b"\1\0\0\0\0\0", len(HEADER)),
     "other-status": (journals.journal(["alice"], [], [journals.payload(GONE)]), len(HEADER)),
+}
+
+MARCH, NINE = "--from 20250301T000000Z --to 20250329T000000Z", "--from 20250310T130000Z --to 20250310T140000Z"
+
+
+def calendar(*lines):
+    """The octets of a calendar file with these lines in it."""
+    whole = ["BEGIN:VCALENDAR", "VERSION:2.0", "PRODID:-//a//EN", *lines, "END:VCALENDAR"]
+    return "".join(line + "\r\n" for line in whole).encode()
+
+
+def event(*lines):
+    return ["BEGIN:VEVENT", *lines, "END:VEVENT"]
+
+
+# A meeting in New York, of which one instance is taken out and one is moved, and what is listed of it in March 2025.
+NEW_YORK = [
+    *("BEGIN:VTIMEZONE", "TZID:NY", "BEGIN:DAYLIGHT", "DTSTART:16010101T020000", "RRULE:FREQ=YEARLY;BYDAY=2SU;BYMONTH=3"),
+    *("TZOFFSETFROM:-0500", "TZOFFSETTO:-0400", "END:DAYLIGHT", "BEGIN:STANDARD", "DTSTART:16010101T020000"),
+    *("RRULE:FREQ=YEARLY;BYDAY=1SU;BYMONTH=11", "TZOFFSETFROM:-0400", "TZOFFSETTO:-0500", "END:STANDARD", "END:VTIMEZONE"),
+]
+MEETING = event("UID:meet", "DTSTART;TZID=NY:20250304T100000", "DTEND;TZID=NY:20250304T110000", "RRULE:FREQ=WEEKLY;COUNT=5", "EXDATE;TZID=NY:20250318T100000", "SUMMARY:Plan")
+MOVED = event("UID:meet", "RECURRENCE-ID;TZID=NY:20250325T100000", "DTSTART;TZID=NY:20250326T140000", "DTEND;TZID=NY:20250326T150000", "SUMMARY:Plan moved")
+MEETINGS = "20250304T150000Z 20250304T150000Z 20250304T160000Z 0\n20250311T140000Z 20250311T140000Z 20250311T150000Z 0\n20250325T140000Z 20250326T180000Z 20250326T190000Z 1\n"
+
+STAND_UP = ["UID:one", "DTSTAMP:20250101T000000Z", "DTSTART:20250310T090000Z", "DTEND:20250310T100000Z"]
+ONE = calendar(*event(*STAND_UP, "SUMMARY:Stand-up"))
+
+
+def padded(size):
+    """The same event in so many octets, with a line that no reader looks at."""
+    return ONE.replace(b"SUMMARY:", b"X-PAD:" + b"a" * (size - len(ONE) - 8) + b"\r\nSUMMARY:")
+
+
+CALENDARS = {
+    "one.ics": ONE,
+    "meet.ics": calendar(*NEW_YORK, *MEETING, *MOVED),
+    "floating.ics": calendar(*event("UID:floating", "DTSTART:20250310T090000", "DURATION:PT1H")),
+    "two.ics": calendar(*event(*STAND_UP), *event(*STAND_UP)),
+    "early.ics": calendar(*event("UID:early", "DTSTART:15991231T235959Z")),
+    "minutes.ics": calendar(*event(*STAND_UP, "RRULE:FREQ=MINUTELY", "SUMMARY:Stand-up")),
+    "full.ics": padded(262_144),
+    "long.ics": padded(262_145),
+    "x.ics": b"x",
+    "y.ics": b"y",
 }
 
 # Words, and the status, standard output and standard error that they have to end with.
@@ -74,6 +120,32 @@ ENDS = [
     ("load --number 01", 2, "", USAGE_OF_LOAD),
     ("load --number 1 --sessions 17", 2, "", USAGE_OF_LOAD),
     ("load --number 1 --workers 5", 2, "", USAGE_OF_LOAD),
+    (f"expand --file meet.ics {MARCH}", 0, MEETINGS, ""),
+    ("expand --file=meet.ics --to=20250304T150000Z --from=20250301T000000Z", 0, "", ""),
+    (f"expand --file floating.ics {NINE}", 0, "", ""),
+    (f"expand --file floating.ics --zone meet.ics {NINE}", 0, "20250310T090000 20250310T090000 20250310T100000 0\n", ""),
+    (f"expand --file one.ics --zone one.ics {MARCH}", 12, "", "one.ics: not one resource: 7\n"),
+    (f"expand --file x.ics --zone y.ics {MARCH}", 12, "", "x.ics: not a calendar at octet 0\n"),
+    (f"expand --file one.ics --zone y.ics {MARCH}", 12, "", "y.ics: not a calendar at octet 0\n"),
+    (f"expand --file x.ics --zone long.ics {MARCH}", 12, "", "long.ics: too long\n"),
+    (f"expand --file none --zone long.ics {MARCH}", 4, "", "input fault\n"),
+    (f"expand --file one.ics --zone none {MARCH}", 4, "", "input fault\n"),
+    ("expand --file one.ics --from 20250301T000000Z", 2, "", USAGE_OF_EXPAND),
+    ("expand --file one.ics --from 20250301T000000Z --to 20250301T000000Z", 2, "", USAGE_OF_EXPAND),
+    ("expand --file one.ics --from 20250301T000000 --to 20250401T000000Z", 2, "", USAGE_OF_EXPAND),
+    ("expand --file one.ics --from 20250301T000000Z --to 21010101T000000Z", 2, "", USAGE_OF_EXPAND),
+    ("expand --file one.ics --from 15991231T235959Z --to 20250401T000000Z", 2, "", USAGE_OF_EXPAND),
+    ("check --file meet.ics", 0, "event meet 4\n", ""),
+    ("check --file one.ics", 0, "event one 1\n", ""),
+    ("check --file full.ics", 0, "event one 1\n", ""),
+    ("check --file long.ics", 12, "", "long.ics: too long\n"),
+    ("check --file x.ics", 12, "", "x.ics: not a calendar at octet 0\n"),
+    ("check --file two.ics", 12, "", "two.ics: not one resource: 5\n"),
+    ("check --file early.ics", 12, "", "early.ics: date outside\n"),
+    ("check --file minutes.ics", 12, "", "minutes.ics: too many instances\n"),
+    ("check --file none", 4, "", "input fault\n"),
+    ("check", 2, "", USAGE_OF_CHECK),
+    ("check --file one.ics --zone meet.ics", 2, "", USAGE_OF_CHECK),
     ("script --users none", 4, "", "input fault\n"),
     ("script --users bad", 3, "", f"users file: bad line at octet {len(USERS)}\n"),
     ("script", 2, "", "usage: caldav_server script --users FILE\n"),
@@ -82,7 +154,7 @@ ENDS = [
 ]
 # Words that ask for help or the version, and words that have to stand in what is printed.
 ASKS = [
-    ("--help", ["serve", "load", "script"]),
+    ("--help", ["serve", "load", "script", "expand", "check"]),
     ("-h", ["serve", "load", "script"]),
     ("--version", ["caldav_server 0.1.0"]),
     ("-V", ["caldav_server 0.1.0"]),
@@ -90,6 +162,9 @@ ASKS = [
     ("serve --version", ["caldav_server 0.1.0"]),
     ("load -h", ["--number", "--sessions", "--workers"]),
     ("load -V", ["caldav_server 0.1.0"]),
+    ("expand --help", ["--file", "--from", "--to", "--zone", "tail -c"]),
+    ("check -h", ["--file", "tail -c", "not one resource", "METHOD"]),
+    ("check --version", ["caldav_server 0.1.0"]),
     ("script --help", ["--users", "--journal"]),
     ("script --version", ["caldav_server 0.1.0"]),
 ]
@@ -384,7 +459,7 @@ def look(program):
 def fault(path, more=None):
     """What is wrong with a built program, if anything is; it runs with this more in its environment."""
     with tempfile.TemporaryDirectory() as folder:
-        files = {"users": USERS, "bad": USERS + b"user bob abc\n", **{name: octets for name, (octets, _) in REFUSED.items()}}
+        files = {"users": USERS, "bad": USERS + b"user bob abc\n", **{name: octets for name, (octets, _) in REFUSED.items()}, **CALENDARS}
         for name, octets in files.items():
             with open(os.path.join(folder, name), "wb") as file:
                 file.write(octets)
@@ -406,7 +481,7 @@ def main():
         begun = time.monotonic()
         why = fault(path)
         failed = failed or why is not None
-        print(f"{os.path.basename(path)}: {why or 'serve and load do what they should'} ({time.monotonic() - begun:.1f} s)")
+        print(f"{os.path.basename(path)}: {why or 'the commands do what they should'} ({time.monotonic() - begun:.1f} s)")
     sys.exit(1 if failed else 0)
 
 

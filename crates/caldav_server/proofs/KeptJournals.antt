@@ -1,5 +1,5 @@
 -- What a kept book has of its file, and what it was found with.
-use Rattle.std.proofs.Common.{◌≡◌, ◌∙◌, ℕ, ◌+◌, ◌<◌, ◌≤◌, List, [], ◌++◌, Bool, true, false, refl, sym, subst, ap, inl, inr}
+use Rattle.std.proofs.Common.{◌≡◌, ◌∙◌, ℕ, List, [], ◌++◌, Bool, true, false, sym, subst, inl, inr}
 use Rattle.std.specs.Prelude.{Option, Some, None, IfSome, ◌⊎◌, map}
 use Rattle.std.proofs.lemmas.Bool.{cases_Bool}
 use Rattle.std.proofs.lemmas.List.{append-nil}
@@ -9,7 +9,7 @@ use Rattle.cal_model.specs.State.ServerState.{directory_of}
 use Rattle.cal_model.specs.Users.UsersFile.{Users}
 use Rattle.cal_keeper.specs.Disks.CrashModel.{Past, reading}
 use Rattle.cal_keeper.specs.Files.Standing.{recorded, StandsFor, IsKeptFor}
-use Rattle.cal_book.specs.Cores.{Core, state_in}
+use Rattle.cal_book.specs.Cores.{state_in}
 use Rattle.cal_book.specs.EventSteps.{state_behind}
 use Rattle.cal_session.specs.KeptBooks.{KeptState, IsKeptOf, LeavesAllOrButLast}
 use Rattle.cal_session.specs.Loading.{HasTaken, IsReady}
@@ -17,7 +17,7 @@ use Rattle.cal_script.specs.EnteredRequests.{IsEnteredBy}
 use Rattle.cal_script.specs.ScriptEnds.{HasEndedOn, IsLeft}
 use Rattle.cal_script.specs.declared.running.FramesOn.{FramesOn}
 use Rattle.cal_script.specs.declared.running.FramesOn.TheVariants.{End, Broken}
-use Rattle.caldav_server.specs.KeptRuns.{StoodFor, IsKeptWith, GoesOn, IsAnswered, IfBroken}
+use Rattle.caldav_server.specs.KeptRuns.{StoodFor, IsKeptWith, IsAnswered, IfBroken}
 use Rattle.caldav_server.specs.KeptServers.{LeavesJournal, LeavesMore, ServedFrom}
 
 if_some : {A : Type 0} (P Q : A → Type 0) (told : Option A) → ((a : A) → P a → Q a) → IfSome told P → IfSome told Q

@@ -1,6 +1,8 @@
 mod CrewSessions
 mod Crews
 mod FaultCounts
+mod FileLaws
+mod FileReads
 mod KeptEndings
 mod KeptJournals
 mod KeptServing

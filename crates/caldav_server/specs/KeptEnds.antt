@@ -1,6 +1,6 @@
 -- How a script at a journal file ends, by its status.
 -- Given: the words; what the files, the disk, the input and the output told before and after.
-use Rattle.std.specs.Prelude.{◌≡◌, ◌⊎◌, ℕ, List, Option, IfSome}
+use Rattle.std.specs.Prelude.{ℕ, List, Option, IfSome}
 use Rattle.cal_model.specs.History.Journal.{Entry}
 use Rattle.cal_model.specs.Users.UsersFile.{Users}
 use Rattle.cal_keeper.specs.Disks.CrashModel.{Past}

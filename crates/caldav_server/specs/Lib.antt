@@ -1,4 +1,6 @@
 pub mod Crews
+pub mod FileEnds
+pub mod FileTold
 pub mod KeptEnds
 pub mod KeptRuns
 pub mod KeptServers

@@ -5,8 +5,11 @@
 //! runs the server.
 #![tactic(auto)]
 
+mod check;
 mod crew;
 mod desks;
+mod expand;
+mod file_end;
 mod kept_script;
 mod kept_serve;
 mod load;
@@ -16,6 +19,9 @@ mod serve;
 mod sessions;
 mod telling_door;
 
+use crate::check::run_check;
+use crate::expand::run_expand;
+use crate::file_end::ToolEnd;
 use crate::kept_script::run_kept_script;
 use crate::kept_serve::run_kept_serve;
 use crate::load::run_load;
@@ -24,7 +30,9 @@ use crate::telling_door::TellingDoor;
 use cal_base::{List, NoMemory, StdFiles, StdSink, StdSource, TcpDoor, Word};
 use cal_keeper::FileDisk;
 use cal_script::{ScriptEnd, run_script};
-use command_words::{HELP, SCRIPT_HELP, VERSION, journal_path, load_text, serve_text};
+use command_words::{
+    HELP, SCRIPT_HELP, VERSION, check_text, expand_text, journal_path, load_text, serve_text,
+};
 use std::process::ExitCode;
 use std::sync::Wait;
 use std::thread::Threads;
@@ -44,6 +52,16 @@ fn main(rt: HostRuntime) -> ExitCode {
     if word_at(&words, 0) == "load" {
         let end = run_load(&rt, rt.alloc(), &words, &mut StdSink::new(&rt));
         return ended(&rt, "load", end);
+    }
+    if word_at(&words, 0) == "expand" {
+        let mut files = StdFiles::new(&rt);
+        let end = run_expand(rt.alloc(), &words, &mut files, &mut StdSink::new(&rt));
+        return told(&rt, "expand", end);
+    }
+    if word_at(&words, 0) == "check" {
+        let mut files = StdFiles::new(&rt);
+        let end = run_check(rt.alloc(), &words, &mut files, &mut StdSink::new(&rt));
+        return told(&rt, "check", end);
     }
     ended(&rt, USAGE_OF_SCRIPT, end_of_script(&rt, &words))
 }
@@ -137,6 +155,18 @@ fn is_answered(rt: &HostRuntime, words: &List<Word>) -> bool {
             return true;
         }
     }
+    if first == "expand" {
+        if let Some(text) = expand_text(rt.alloc(), words.as_slice()) {
+            let _ = text.print(rt);
+            return true;
+        }
+    }
+    if first == "check" {
+        if let Some(text) = check_text(rt.alloc(), words.as_slice()) {
+            let _ = text.print(rt);
+            return true;
+        }
+    }
     is_told(rt, first, HELP)
 }
 
@@ -151,6 +181,17 @@ fn is_told(rt: &HostRuntime, word: &str, help: &str) -> bool {
         return true;
     }
     false
+}
+
+/// Prints the line that an end tells on standard error, or else that of its status, and gives the status
+/// to the system.
+fn told(rt: &HostRuntime, usage: &str, told: ToolEnd) -> ExitCode {
+    if let Ok(line) = str::from_utf8(told.line.as_slice()) {
+        if !line.is_empty() {
+            let _ = eprintln!(rt; "{line}");
+        }
+    }
+    ended(rt, usage, told.end)
 }
 
 /// Prints the line of a status on standard error, and gives the status to the system.

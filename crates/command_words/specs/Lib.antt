@@ -1,6 +1,10 @@
+pub mod CheckWords
+pub mod ExpandSaid
+pub mod ExpandWords
 pub mod JournalWords
 pub mod LoadSaid
 pub mod LoadWords
 pub mod Options
+pub mod RangeSaid
 pub mod SaidWords
 pub mod ServeWords

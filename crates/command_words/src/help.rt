@@ -9,6 +9,8 @@ Commands:
   serve   serves calendars to calendar programs
   load    runs sessions and workers over memory, and prints what they did
   script  reads a script of requests from standard input and prints the replies
+  expand  lists the instances of a calendar file in a range of time
+  check   tells whether the server would take a calendar file
 
 Options:
   --help     prints help, also behind the name of a command

@@ -1,5 +1,3 @@
-use Rattle.std.proofs.Common.{◌≡◌, ◌∙◌}
-use Rattle.caldav_server.specs.KeptRuns.{IfBroken}
 use Rattle.caldav_server.proofs.KeptJournals.{answered, told_fault}
 use Rattle.caldav_server.proofs.kept_script.answer_kept.Goals as goal
 

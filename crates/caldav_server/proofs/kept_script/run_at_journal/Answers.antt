@@ -1,4 +1,4 @@
-use Rattle.std.proofs.Common.{◌≡◌, ◌∙◌, sym, subst, inl, inr}
+use Rattle.std.proofs.Common.{◌∙◌, sym, subst, inl, inr}
 use Rattle.cal_model.specs.Users.UsersFile.{Users}
 use Rattle.cal_session.specs.Loading.{IsReady, IsRefused, IsMismatched}
 use Rattle.caldav_server.specs.KeptRuns.{IsAnswered}

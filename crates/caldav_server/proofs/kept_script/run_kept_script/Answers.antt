@@ -1,5 +1,4 @@
-use Rattle.std.proofs.Common.{◌≡◌, ◌∙◌, ap, sym, subst, inl, inr, arith, Err}
-use Rattle.std.specs.Prelude.{Some, None}
+use Rattle.std.proofs.Common.{◌∙◌, ap, inl, inr, arith, Err}
 use Rattle.cal_script.specs.UsersTaken.{AreUsersOf, IsRefusedAt}
 use Rattle.command_words.specs.JournalWords.{kept_users_path}
 use Rattle.caldav_server.proofs.KeptEndings.{bad_frame, broke, done, in_part, is_disk_fault, is_input, is_output, known, not_refused, not_three, not_two, placed, refused, stopped, told_by}

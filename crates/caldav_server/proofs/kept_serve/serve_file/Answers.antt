@@ -1,4 +1,4 @@
-use Rattle.std.proofs.Common.{◌≡◌, inl, inr}
+use Rattle.std.proofs.Common.{inl, inr}
 use Rattle.caldav_server.proofs.KeptServing.{known_in_all}
 use Rattle.caldav_server.proofs.kept_serve.serve_file.Goals as goal
 

@@ -1,5 +1,4 @@
-use Rattle.std.proofs.Common.{◌≡◌, ◌∙◌, ℕ, ◌<◌, sym, ap, subst}
-use Rattle.std.specs.Prelude.{IsErrOf}
+use Rattle.std.proofs.Common.{ℕ, ◌<◌, subst}
 use denote.Param.Send.{sendable}
 use Rattle.cal_session.proofs.KeptMoves.{kept_send}
 use Rattle.caldav_server.specs.Shares.{RoseBy, share_of}
