@@ -1,5 +1,5 @@
 -- What a worker's turns are and count, and what a pass knows between them.
-use Rattle.std.specs.Prelude.{◌≡◌, ℕ, ◌+◌}
+use Rattle.std.specs.Prelude.{◌≡◌, ℕ, ◌+◌, Option, Some, None}
 use Rattle.cal_book.specs.declared.claims.Publish.{Publish}
 use Rattle.cal_book.specs.declared.claims.Publish.TheVariants.{Published, Stale, NoMemory}
 use Rattle.expansion_workers.specs.declared.worker.Worked.{Worked}
@@ -19,3 +19,7 @@ IsCounted worked = worked.claimed ≡ worked.published + worked.stale + worked.r
 abbrev pub stale_of : Turn → ℕ
 stale_of turn.Stale = 1
 stale_of other = 0
+
+abbrev pub stale_in : Option Turn → ℕ
+stale_in None = 0
+stale_in (Some turn) = stale_of turn

@@ -2,7 +2,7 @@
 ghost use Rattle.std.specs.Prelude.{◌≡◌, ◌≤◌, ◌<◌, ◌+◌, ◌∷◌, ◌^◌, false, length, IsSome};
 ghost use Rattle.cal_book.specs.Publishing.{IsClaimIn};
 ghost use Rattle.cal_model.specs.History.LiveObjects.{live_at};
-ghost use Rattle.expansion_workers.specs.Work.{IsCounted, stale_of};
+ghost use Rattle.expansion_workers.specs.Work.{IsCounted, stale_in, stale_of};
 ghost use Rattle.turn_lock.specs.Journals.{IsFollowedByOthers, entries_by};
 
 use crate::turns::{give_up, publish_rows, take_claim};
@@ -26,11 +26,9 @@ pub struct Worked {
     pub refused: u32,
 }
 
-/// What became of one turn.
+/// What became of a claim.
 #[derive(Clone, Copy)]
 enum Turn {
-    /// There was no claim.
-    Idle,
     Published,
     Stale,
     Refused,
@@ -38,7 +36,8 @@ enum Turn {
 
 /// Takes so many turns at the desk: each claims a piece, passes the gate with the number of its
 /// origin, expands the piece and publishes it. A claim that meets want of memory is given up. No turn
-/// of the lock is held while a piece is expanded.
+/// of the lock is held while a piece is expanded. The first turn that finds nothing to claim is the
+/// last.
 ///
 /// No entry is added: what the pass sees more is of others.
 pub fn work_on<B: Desk, G: Gate, R: Wait>(
@@ -90,13 +89,15 @@ fn work_under<B: Desk, G: Gate, R: Wait, L: Ledger>(
         refused: 0,
     };
     'turns: for _turn in 0..turns {
-        let turn = take_turn(rt, alloc, lock, pass, gate, &mut steps);
+        let Some(turn) = take_turn(rt, alloc, lock, pass, gate, &mut steps) else {
+            return worked;
+        };
         worked = counted(worked, turn);
     }
     worked
 }
 
-/// One turn.
+/// One turn, or none where there is no claim.
 fn take_turn<B: Desk, G: Gate, R: Wait, L: Ledger>(
     rt: &R,
     alloc: Global,
@@ -104,18 +105,18 @@ fn take_turn<B: Desk, G: Gate, R: Wait, L: Ledger>(
     pass: &mut Pass<B>,
     gate: &G,
     steps: &mut Steps<L>,
-) -> Turn
+) -> Option<Turn>
     requires same { pass.old.lock ≡ lock.now }
     requires free { pass.old.holds_turn ≡ false }
     ensures pass { pass.new ≡ record pass.old { seen = pass.new.seen; looks = pass.new.looks } }
     ensures others { IsFollowedByOthers B.author (pass.old.number ∷ pass.old.gone) pass.old.seen pass.new.seen }
-    ensures stale { stale_of result + length pass.old.seen ≤ length pass.new.seen }
+    ensures stale { stale_in result + length pass.old.seen ≤ length pass.new.seen }
 {
     let Some(claim) = take_claim(rt, lock, pass) else {
-        return Turn::Idle;
+        return None;
     };
     gate.pass(rt, claim.origin);
-    end_claim(rt, alloc, lock, pass, claim, steps)
+    Some(end_claim(rt, alloc, lock, pass, claim, steps))
 }
 
 /// Expands what was claimed and publishes it, or gives it up, in a turn of its own.
@@ -158,7 +159,6 @@ fn counted(worked: Worked, turn: Turn) -> Worked
 {
     let mut worked = worked;
     match turn {
-        Turn::Idle => return worked,
         Turn::Published => worked.published += 1,
         Turn::Stale => worked.stale += 1,
         Turn::Refused => worked.refused += 1,
