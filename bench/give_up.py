@@ -120,7 +120,9 @@ SCRIPTS = {  # each is asked what is wrong with a built program
     "commands.py": commands.fault,
     "workers.py": lambda program, more: workers.fault(program, 3, more)[0],  # few, since what `rt try` builds is slow
 }
-REFUSED_BY_PROOF = {"cal_book::Book::reserve of Desk answers no memory"}  # where there is room already it has to succeed
+REFUSED_BY_PROOF = {  # where there is room already it has to succeed, and a claim ends with its publication
+    "cal_book::Book::reserve of Desk answers no memory", "cal_session::Kept::reserve of Desk answers no memory", "cal_session::Kept::publish of Desk answers no memory",
+}
 USES = {  # names that a body by hand needs more
     "expansion_workers/src/worker.rt": [("use turn_lock::{Pass, TurnLock};", "use turn_lock::{Held, Pass, TurnLock};")],
 }
