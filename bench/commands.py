@@ -26,6 +26,7 @@ TEN_EACH = "sessions 3\nrequests 36\naccepted 36\noctets 22483\nsha256 7d0ed65fc
 
 USAGE_OF_SERVE, USAGE_OF_LOAD = "usage: caldav_server serve\n", "usage: caldav_server load\n"
 USAGE_OF_EXPAND, USAGE_OF_CHECK = "usage: caldav_server expand\n", "usage: caldav_server check\n"
+USAGE_OF_SLOT = "usage: caldav_server slot\n"
 AT = "--users users --listen 127.0.0.1:1 --connections 1"
 HEADER = journals.header(["alice"], [])
 # Journal files that are refused, each with the place: no journal; of other users; one that ends in a gate's place; one with
@@ -38,6 +39,12 @@ REFUSED = {
     "empty-record": (HEADER + b"\1\0\0\0\0\0", len(HEADER)),
     "other-status": (journals.journal(["alice"], [], [journals.payload(GONE)]), len(HEADER)),
 }
+
+# What `slot` is asked, and where alice is busy from 9 to 10.
+MORNING = "--from 20250310T080000Z --to 20250310T130000Z"
+OWN = "/calendars/alice/calendar/"
+LOOKS = f"--users users --journal busy --as alice {MORNING} --minutes 60 --most 5"
+BEHIND = "free 20250310T100000Z 20250310T130000Z\n"
 
 MARCH, NINE = "--from 20250301T000000Z --to 20250329T000000Z", "--from 20250310T130000Z --to 20250310T140000Z"
 
@@ -70,6 +77,9 @@ def padded(size):
     """The same event in so many octets, with a line that no reader looks at."""
     return ONE.replace(b"SUMMARY:", b"X-PAD:" + b"a" * (size - len(ONE) - 8) + b"\r\nSUMMARY:")
 
+
+# A journal file of alice's calendar with this event.
+BUSY = journals.journal(["alice"], [], [journals.payload(journals.Record(journals.PUT, 0, 1741600000, 201, 0, "calendar", "one.ics", ONE))])
 
 CALENDARS = {
     "one.ics": ONE,
@@ -146,6 +156,24 @@ ENDS = [
     ("check --file none", 4, "", "input fault\n"),
     ("check", 2, "", USAGE_OF_CHECK),
     ("check --file one.ics --zone meet.ics", 2, "", USAGE_OF_CHECK),
+    (f"slot {LOOKS} {OWN}", 0, "free 20250310T080000Z 20250310T090000Z\n" + BEHIND, ""),
+    (f"slot {LOOKS.replace('60', '61')} {OWN}", 0, BEHIND, ""),
+    (f"slot {LOOKS.replace('60', '181')} {OWN}", 0, "none\n", ""),
+    (f"slot {LOOKS.replace('--most 5', '--most 1')} {OWN} {OWN[:-1]}", 0, "free 20250310T080000Z 20250310T090000Z\n", ""),
+    (f"slot {LOOKS} {OWN} /calendars/alice/none/", 10, "", "slot: refused word 2\n"),
+    (f"slot {LOOKS} / {OWN}", 10, "", "slot: refused word 1\n"),
+    (f"slot {LOOKS.replace('as alice', 'as nobody')} {OWN}", 10, "", "slot: refused word 0\n"),
+    (f"slot {LOOKS.replace('users users', 'users none')} {OWN}", 4, "", "input fault\n"),
+    (f"slot {LOOKS.replace('users users', 'users bad')} {OWN}", 3, "", f"users file: bad line at octet {len(USERS)}\n"),
+    (f"slot {LOOKS.replace('busy', 'none/journal')} {OWN}", 9, "", "journal: refused at octet 0\n"),
+    (f"slot {LOOKS.replace('busy', 'never')} {OWN}", 9, "", "journal: refused at octet 0\n"),
+    *[(f"slot {LOOKS.replace('busy', name)} {OWN}", 9, "", f"journal: refused at octet {place}\n") for name, (_, place) in REFUSED.items()],
+    (f"slot {LOOKS}", 2, "", USAGE_OF_SLOT),
+    (f"slot {LOOKS.replace('60', '0')} {OWN}", 2, "", USAGE_OF_SLOT),
+    (f"slot {LOOKS.replace('60', '100001')} {OWN}", 2, "", USAGE_OF_SLOT),
+    (f"slot {LOOKS.replace('--most 5', '--most 101')} {OWN}", 2, "", USAGE_OF_SLOT),
+    (f"slot {LOOKS.replace('130000', '080000')} {OWN}", 2, "", USAGE_OF_SLOT),
+    (f"slot {LOOKS}{33 * (' ' + OWN)}", 2, "", USAGE_OF_SLOT),
     ("script --users none", 4, "", "input fault\n"),
     ("script --users bad", 3, "", f"users file: bad line at octet {len(USERS)}\n"),
     ("script", 2, "", "usage: caldav_server script --users FILE\n"),
@@ -154,7 +182,7 @@ ENDS = [
 ]
 # Words that ask for help or the version, and words that have to stand in what is printed.
 ASKS = [
-    ("--help", ["serve", "load", "script", "expand", "check"]),
+    ("--help", ["serve", "load", "script", "expand", "check", "slot"]),
     ("-h", ["serve", "load", "script"]),
     ("--version", ["caldav_server 0.1.0"]),
     ("-V", ["caldav_server 0.1.0"]),
@@ -165,6 +193,8 @@ ASKS = [
     ("expand --help", ["--file", "--from", "--to", "--zone", "tail -c"]),
     ("check -h", ["--file", "tail -c", "not one resource", "METHOD"]),
     ("check --version", ["caldav_server 0.1.0"]),
+    ("slot --help", ["--users", "--journal", "--as", "--from", "--to", "--minutes", "--most", "PATH"]),
+    ("slot -V", ["caldav_server 0.1.0"]),
     ("script --help", ["--users", "--journal"]),
     ("script --version", ["caldav_server 0.1.0"]),
 ]
@@ -443,6 +473,8 @@ def look(program):
     for name, (octets, _) in REFUSED.items():
         if journals.contents(os.path.join(program.folder, name)) != octets:
             raise Wrong(f"the file {name} was refused, and written to")
+    if journals.contents(os.path.join(program.folder, "busy")) != BUSY:
+        raise Wrong("a journal that is only looked at was written to")
     if os.path.exists(os.path.join(program.folder, "never")):
         raise Wrong("a journal was made for words or users that are refused")
     keeps(program)
@@ -459,7 +491,7 @@ def look(program):
 def fault(path, more=None):
     """What is wrong with a built program, if anything is; it runs with this more in its environment."""
     with tempfile.TemporaryDirectory() as folder:
-        files = {"users": USERS, "bad": USERS + b"user bob abc\n", **{name: octets for name, (octets, _) in REFUSED.items()}, **CALENDARS}
+        files = {"users": USERS, "bad": USERS + b"user bob abc\n", **{name: octets for name, (octets, _) in REFUSED.items()}, "busy": BUSY, **CALENDARS}
         for name, octets in files.items():
             with open(os.path.join(folder, name), "wb") as file:
                 file.write(octets)

@@ -12,19 +12,8 @@ use crate::running::{FrameEnd, run_frames};
 use crate::users::{NoUsers, take_users};
 use crate::words::users_path;
 use cal_base::{Files, List, Sink, Source, Word};
+use command_ends::ScriptEnd;
 use std::alloc::Global;
-
-/// How a script ended.
-#[derive(Debug, Clone, Copy, PartialEq, Eq)]
-pub struct ScriptEnd {
-    /// 0 the input was read to its end and every reply was written; 2 the words are others; 3 the
-    /// users file is too long or has a bad line; 4 a file or the input failed; 5 the output failed;
-    /// 6 a frame is bad or cut; 7 there was no memory.
-    pub status: u8,
-    /// At status 0 the octets of input, at status 3 the place of the bad line in the users file or
-    /// the limit of its length, at status 6 the place of the frame in the input, and else 0.
-    pub place: u64,
-}
 
 /// Runs the command: looks at its words, then at the users file, and then answers the frames of the
 /// input in order, each as soon as it is whole.
@@ -35,6 +24,12 @@ pub struct ScriptEnd {
 /// last whole frame are the start of a frame: a bad line is told at its end, and at the latest after
 /// as many octets as the longest line has, however the input goes on. The users are those of the
 /// file, where its content is told.
+///
+/// The status is 0 where the input was read to its end and every reply was written; 2 where the words
+/// are others; 3 where the users file is too long or has a bad line; 4 where a file or the input
+/// failed; 5 where the output did; 6 where a frame is bad or cut; 7 where there was no memory. The
+/// place is, at status 0, the octets of input; at 3, the place of the bad line in the users file or the
+/// limit of its length; at 6, the place of the frame in the input; and else 0.
 pub fn run_script<F: Files, I: Source, O: Sink>(
     alloc: Global,
     words: &List<Word>,

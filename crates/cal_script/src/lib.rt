@@ -23,7 +23,8 @@ mod split;
 mod users;
 mod words;
 
-pub use command::{ScriptEnd, run_script};
+pub use command::run_script;
+pub use command_ends::ScriptEnd;
 pub use laws::{readers_see_alike, script_laws};
 pub use running::{FrameEnd, FramesOn, frames_on, run_frames};
 pub use users::{NoUsers, take_users};

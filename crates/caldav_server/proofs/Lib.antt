@@ -1,8 +1,6 @@
 mod CrewSessions
 mod Crews
 mod FaultCounts
-mod FileLaws
-mod FileReads
 mod KeptEndings
 mod KeptJournals
 mod KeptServing
@@ -19,3 +17,6 @@ mod LoadSeatLemmas
 mod LoadSums
 mod LoadWhole
 mod Sharing
+mod SlotAnswers
+mod SlotBooks
+mod SlotFiles

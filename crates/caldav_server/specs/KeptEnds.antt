@@ -5,10 +5,10 @@ use Rattle.cal_model.specs.History.Journal.{Entry}
 use Rattle.cal_model.specs.Users.UsersFile.{Users}
 use Rattle.cal_keeper.specs.Disks.CrashModel.{Past}
 use Rattle.cal_script.specs.UsersTaken.{AreUsersOf}
-use Rattle.cal_script.specs.declared.command.ScriptEnd.{ScriptEnd}
 use Rattle.cal_script.specs.declared.running.FrameEnd.{FrameEnd}
 use Rattle.cal_script.specs.declared.running.FrameEnd.TheVariants as frames
 use Rattle.cal_script.specs.declared.running.FramesOn.TheVariants.{End, Broken}
+use Rattle.command_ends.specs.declared.ScriptEnd.{ScriptEnd}
 use Rattle.command_words.specs.JournalWords.{kept_users_path}
 use Rattle.caldav_server.specs.KeptRuns.{StoodFor, IsFileRefused, IsAnswered}
 use Rattle.caldav_server.specs.declared.kept_script.JournalEnd.{JournalEnd}

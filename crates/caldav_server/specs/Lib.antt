@@ -1,6 +1,4 @@
 pub mod Crews
-pub mod FileEnds
-pub mod FileTold
 pub mod KeptEnds
 pub mod KeptRuns
 pub mod KeptServers
@@ -12,3 +10,4 @@ pub mod LoadSums
 pub mod LoadTallies
 pub mod ServeEnds
 pub mod Shares
+pub mod SlotEnds

@@ -5,34 +5,36 @@
 //! runs the server.
 #![tactic(auto)]
 
-mod check;
 mod crew;
 mod desks;
-mod expand;
-mod file_end;
 mod kept_script;
 mod kept_serve;
+#[cfg(test)]
+mod kept_tests;
 mod load;
 mod load_joins;
 mod load_sessions;
 mod serve;
 mod sessions;
+mod slot;
+#[cfg(test)]
+mod slot_tests;
 mod telling_door;
 
-use crate::check::run_check;
-use crate::expand::run_expand;
-use crate::file_end::ToolEnd;
 use crate::kept_script::run_kept_script;
 use crate::kept_serve::run_kept_serve;
 use crate::load::run_load;
 use crate::serve::run_serve;
+use crate::slot::run_slot;
 use crate::telling_door::TellingDoor;
 use cal_base::{List, NoMemory, StdFiles, StdSink, StdSource, TcpDoor, Word};
 use cal_keeper::FileDisk;
 use cal_script::{ScriptEnd, run_script};
 use command_words::{
     HELP, SCRIPT_HELP, VERSION, check_text, expand_text, journal_path, load_text, serve_text,
+    slot_text,
 };
+use file_commands::{ToolEnd, run_check, run_expand};
 use std::process::ExitCode;
 use std::sync::Wait;
 use std::thread::Threads;
@@ -52,6 +54,9 @@ fn main(rt: HostRuntime) -> ExitCode {
     if word_at(&words, 0) == "load" {
         let end = run_load(&rt, rt.alloc(), &words, &mut StdSink::new(&rt));
         return ended(&rt, "load", end);
+    }
+    if word_at(&words, 0) == "slot" {
+        return ended(&rt, "slot", end_of_slot(&rt, &words));
     }
     if word_at(&words, 0) == "expand" {
         let mut files = StdFiles::new(&rt);
@@ -104,6 +109,23 @@ fn end_of_script(rt: &HostRuntime, words: &List<Word>) -> ScriptEnd {
     end
 }
 
+/// The end of the command `slot`. Its words name a journal file, if they are taken.
+fn end_of_slot(rt: &HostRuntime, words: &List<Word>) -> ScriptEnd {
+    let alloc = rt.alloc();
+    let mut files = StdFiles::new(rt);
+    let mut output = StdSink::new(rt);
+    let path = match journal_path(words.as_slice()) {
+        Some(path) => path,
+        None => "",
+    };
+    let Ok(path) = Word::of(alloc, path) else {
+        return WITHOUT_MEMORY;
+    };
+    let disk = FileDisk::new(rt, alloc, path);
+    let (end, _disk) = run_slot(alloc, words, &mut files, disk, &mut output);
+    end
+}
+
 /// The words of the command `script`, as its usage shows them.
 const USAGE_OF_SCRIPT: &str = "script --users FILE";
 
@@ -151,6 +173,12 @@ fn is_answered(rt: &HostRuntime, words: &List<Word>) -> bool {
     }
     if first == "load" {
         if let Some(text) = load_text(rt.alloc(), words.as_slice()) {
+            let _ = text.print(rt);
+            return true;
+        }
+    }
+    if first == "slot" {
+        if let Some(text) = slot_text(rt.alloc(), words.as_slice()) {
             let _ = text.print(rt);
             return true;
         }
@@ -212,6 +240,7 @@ fn report(rt: &HostRuntime, usage: &str, end: ScriptEnd) -> io::Result<()> {
         7 => eprintln!(rt; "out of memory"),
         8 => eprintln!(rt; "journal fault"),
         9 => eprintln!(rt; "journal: refused at octet {place}"),
+        10 => eprintln!(rt; "slot: refused word {place}"),
         _ => Ok(()),
     }
 }

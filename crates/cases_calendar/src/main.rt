@@ -1,5 +1,5 @@
-//! Reads rules, time zones and calendar objects from their texts, so that tables of them can be
-//! compared.
+//! Reads rules, time zones and calendar objects from their texts, and runs the commands over calendar
+//! files, so that tables of them can be compared.
 //!
 //! Given: parts on standard input, each behind a line `@KIND`. Gives: for each that line, and what came
 //! of its cases.
@@ -9,7 +9,7 @@
 //! | `rules` | texts of rules, one a line | what each says, or the place of its first fault |
 //! | `zones` | a line `#TITLE`, and a calendar with a VTIMEZONE behind it | its onsets, or why there is none |
 //! | `rows` | a line `# FIRST LAST` with two windows, and a calendar object behind it | its rows from one window to the other, or why there is no object |
-//! | `files` | a line `# FROM TO` with two moments, and a calendar file behind it, perhaps with the zone of floating times behind a `|` | the lines of its rows in the range, and the line about it |
+//! | `files` | a line `# TITLE`, a calendar file behind it, perhaps with that of a time zone behind a `|`, and lines `$READ WRITE WORD..` with commands over them | what each command writes, how it ends, and the line that tells why |
 #![tactic(auto)]
 
 mod files;

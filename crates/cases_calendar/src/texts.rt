@@ -6,12 +6,17 @@ use cal_moment::{Local, write_local};
 use cal_object::ReadFault;
 use std::io;
 
+/// The front of a text up to the first octet of a kind, and what stands behind that.
+pub fn parts(text: &[u8], at: u8) -> (&[u8], &[u8]) {
+    match text.iter().position(|octet| *octet == at) {
+        Some(end) => (&text[..end], &text[end + 1..]),
+        None => (text, &[]),
+    }
+}
+
 /// The line of a case and what stands behind it.
 pub fn case_parts(case: &[u8]) -> (&[u8], &[u8]) {
-    match case.iter().position(|octet| *octet == b'\n') {
-        Some(end) => (&case[..end], &case[end + 1..]),
-        None => (case, &[]),
-    }
+    parts(case, b'\n')
 }
 
 /// A number of a case's line.

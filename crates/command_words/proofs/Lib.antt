@@ -5,4 +5,5 @@ mod JournalLaws
 mod LoadWordLaws
 mod Numbers
 mod RangeTexts
+mod SlotWordLaws
 mod WordLaws

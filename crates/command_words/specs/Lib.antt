@@ -8,3 +8,5 @@ pub mod Options
 pub mod RangeSaid
 pub mod SaidWords
 pub mod ServeWords
+pub mod SlotSaid
+pub mod SlotWords

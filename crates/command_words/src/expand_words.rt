@@ -10,7 +10,7 @@ use crate::file_words::{file_option, with_notes};
 use crate::options::{
     Untaken, asked_text, needed_option, new_command, text_of, why_untaken, with_option,
 };
-use crate::range_said::range_said;
+use crate::range_said::{from_option, range_said, to_option};
 use cal_base::Word;
 use cal_model::Range;
 use clap::{Arg, ArgMatches, Command, Error};
@@ -40,30 +40,6 @@ fn expand_command<'a>(alloc: Global) -> Result<Command<'a>, AllocError>
     let command = with_option(command, to_option(alloc))?;
     let command = with_option(command, zone_option(alloc))?;
     Ok(command)
-}
-
-fn from_option<'a>(alloc: Global) -> Arg<'a>
-    ensures rule { rule_of result ≡ needed (codes "from") }
-    ensures local { result.global ≡ false }
-{
-    needed_option(
-        alloc,
-        "from",
-        "MOMENT",
-        "From when on, in UTC, as 20250301T000000Z",
-    )
-}
-
-fn to_option<'a>(alloc: Global) -> Arg<'a>
-    ensures rule { rule_of result ≡ needed (codes "to") }
-    ensures local { result.global ≡ false }
-{
-    needed_option(
-        alloc,
-        "to",
-        "MOMENT",
-        "Up to when, in UTC, as 20250401T000000Z",
-    )
 }
 
 fn zone_option<'a>(alloc: Global) -> Arg<'a>

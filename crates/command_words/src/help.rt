@@ -11,6 +11,7 @@ Commands:
   script  reads a script of requests from standard input and prints the replies
   expand  lists the instances of a calendar file in a range of time
   check   tells whether the server would take a calendar file
+  slot    prints the times at which some calendars are all free
 
 Options:
   --help     prints help, also behind the name of a command

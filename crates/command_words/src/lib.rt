@@ -1,5 +1,5 @@
-//! The words of the commands `serve`, `load`, `expand` and `check`, those that name a journal file, and the texts
-//! of help.
+//! The words of the commands `serve`, `load`, `expand`, `check` and `slot`, those that name a journal file,
+//! and the texts of help.
 //!
 //! Given: the words behind the program's name. Gives: what their options say, or why they are not
 //! taken; and the help or the version where they ask for it. Used by: the program `caldav_server`.
@@ -14,6 +14,7 @@ mod load_words;
 mod options;
 mod range_said;
 mod serve_words;
+mod slot_words;
 
 pub use check_words::{check_text, read_check};
 pub use expand_words::{ExpandWords, expand_text, read_expand};
@@ -22,3 +23,4 @@ pub use journal_words::{journal_path, kept_users_path};
 pub use load_words::{LoadWords, load_text, read_load};
 pub use options::{Untaken, VERSION};
 pub use serve_words::{ServeWords, read_kept_serve, read_serve, serve_text};
+pub use slot_words::{SlotWords, read_slot, slot_text};

@@ -1,15 +1,46 @@
-//! The range that two words state.
-ghost use Rattle.std.specs.Prelude.{◌≡◌};
+//! The range that two words state, and the options that have them.
+ghost use Rattle.std.specs.Prelude.{◌≡◌, codes, false};
+ghost use Rattle.clap.specs.Words.{rule_of};
 ghost use Rattle.cal_model.specs.Bodies.RangeElements.{range_between};
 ghost use Rattle.cal_model.specs.Values.UtcTexts.{moment_in_utc, utc_of};
 ghost use Rattle.cal_model.specs.Values.ValueTexts.{utc_of_local};
 ghost use Rattle.cal_moment.specs.Calendar.{IsCalendarDay};
+ghost use Rattle.command_words.specs.Options.{needed};
 ghost use Rattle.command_words.specs.RangeSaid as spec;
 
+use crate::options::needed_option;
 use cal_model::{FIRST_DATE, LAST_DATE, Range};
 use cal_moment::{Local, Utc, read_date_time};
+use clap::Arg;
+use std::alloc::Global;
 
 const DAY_SECONDS: i64 = 86_400;
+
+/// The option that says where a range begins.
+pub(crate) fn from_option<'a>(alloc: Global) -> Arg<'a>
+    ensures rule { rule_of result ≡ needed (codes "from") }
+    ensures local { result.global ≡ false }
+{
+    needed_option(
+        alloc,
+        "from",
+        "MOMENT",
+        "From when on, in UTC, as 20250301T000000Z",
+    )
+}
+
+/// The option that says where a range ends.
+pub(crate) fn to_option<'a>(alloc: Global) -> Arg<'a>
+    ensures rule { rule_of result ≡ needed (codes "to") }
+    ensures local { result.global ≡ false }
+{
+    needed_option(
+        alloc,
+        "to",
+        "MOMENT",
+        "Up to when, in UTC, as 20250401T000000Z",
+    )
+}
 
 /// The range from the moment that one word says up to the one that another says. Each is a DATE-TIME in
 /// UTC of the dates that are served, and the first lies before the second.

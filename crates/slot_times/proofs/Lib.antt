@@ -1,0 +1,6 @@
+mod SlotFound
+mod SlotLaws
+mod SlotPaths
+mod SlotRuns
+mod SlotSeen
+mod SlotTexts

@@ -1,0 +1,3 @@
+pub mod SlotTimes
+pub mod SlotCalendars
+pub mod SlotAnswers
