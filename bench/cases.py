@@ -1,5 +1,5 @@
 #!/usr/bin/env python3
-"""Writes the cases of scripts, of walks through books and of books that are kept of the program cases_server, and what each of them has to give, from the rules of docs/.
+"""Writes the cases of scripts, of walks through books, of books that are kept and of journal files of the program cases_server, and what each of them has to give, from the rules of docs/.
 
     bench/cases.py            writes them into stdin and stdout of its crate, where all other parts stay
     bench/cases.py --check    says whether they are what it would write
@@ -236,6 +236,7 @@ NOBODY = "<D:principal><D:href>/principals/nobody/</D:href></D:principal>"
 CASES, ANSWERS = [], []  # of scripts
 WALKS, TOLD = [], []
 KEPT, LOADED = [], []  # of books that are kept
+RUNS, LEFT = [], []  # of journal files
 
 
 def case(title, text, status, place, output, form="frames", read="-", write="-", words="script --users users"):
@@ -1410,6 +1411,103 @@ def journals():
     LOADED.append(f"# {title}\nof 200 calls 197 leave what was answered, 3 one change more\n".encode())
 
 
+# Journal files
+
+class File:
+    """The journal file of the three users, and the cases that go on with it: how long it is, and how many entries it has."""
+
+    NAMES = ("alice", "bob", "carol")
+
+    def __init__(self):
+        self.header = 16 + 4 + sum(len(f"user {name}\n") for name in self.NAMES)
+        self.length, self.entries, self.frames = 0, 0, []
+
+    def case(self, title, steps):
+        """Requests with their replies, and the lengths of the payloads of those that are accepted."""
+        text, output = exchange([(asked, told) for asked, told, _ in steps])
+        assert b"#" not in text and "#" not in title
+        made = self.length == 0
+        length = (self.length or self.header + 1) + sum(4 + size + 1 for _, _, size in steps if size)
+        told = [f"# {title}\ndone {len(text)}, a file of {length} octets\n".encode() + output]
+        failing, stopped = self.loading(made)
+        written, entries = 0, self.entries
+        for _, answered, size in steps:
+            if size:
+                failing += [("broken", written, f"{entries} entries"), ("broken", written, f"{entries + 1} entries")]
+                stopped += [(entries, entries), (entries, entries + 1)]
+                entries += 1
+            written += len(answer(answered))
+        told += [f"a call fails: {end}, {many} octets written, then {then}\n".encode() for end, many, then in distinct(failing)]
+        stopped = [tuple(it if isinstance(it, str) else f"{it} entries" for it in both) for both in stopped]
+        told += [f"stopped within a call: {without}, or {with_it}\n".encode() for without, with_it in distinct(stopped)]
+        self.length, self.entries = length, entries
+        RUNS.append(f"#{title}\n".encode() + text)
+        LEFT.append(b"".join(told))
+
+    def loading(self, made):
+        """What comes where a call fails while the file is loaded, and what a stop leaves then."""
+        if not made:
+            return [("failed", 0, f"{self.entries} entries")], [(self.entries, self.entries)]
+        # The length, the header, the gate, and the sync; a file that is not there is made anew, and one without its gate is refused at that.
+        header = f"refused at {self.header}"
+        return [("failed", 0, "0 entries"), ("failed", 0, header), ("failed", 0, "0 entries")], [(0, 0), (0, header), (0, 0)]
+
+
+def distinct(lines):
+    """Without those that are the same as the one before."""
+    return [line for line, before in zip(lines, [None, *lines]) if line != before]
+
+
+def files():
+    """Runs at one journal file, one after another."""
+    def payload(calendar, *own):
+        return 1 + 4 + 8 + 2 + 4 + 1 + len(calendar) + sum(own)
+
+    def stores(name, body, calendar="calendar"):
+        return payload(calendar, 1 + len(name), 4 + len(body))
+
+    file = File()
+    file.case("a new file", [])
+    file.case("a PUT", [(put("one.ics", E1), stored(E1), stores("one.ics", E1))])
+    assert (file.header, file.length) == (51, 288)
+    day = query("20250310T090000Z", "20250310T100000Z", "<D:getetag/>")
+    tag = f'<D:getetag>"{etag(E1)}"</D:getetag>'
+    work, later = HOME + "work/", event("one", "DTSTART:20250310T110000Z", "DTEND:20250310T120000Z")
+    file.case("what was put before, and changes of each kind between requests that change nothing", [
+        (report(day), found((CALENDAR + "one.ics", [(200, tag)])), 0),
+        (put("one.ics", E1, if_none="*"), reply(412), 0),
+        (request("MKCALENDAR", work), reply(201), payload("work", 4, 4)),
+        (request("MKCALENDAR", work), refused("<D:resource-must-be-null/>"), 0),
+        (request("PROPPATCH", work, update("<D:displayname>Work</D:displayname>")), found((work, [(200, "<D:displayname/>")])), payload("work", 4, 4, 4 + len("DAV:"), 4 + len("displayname"), 1 + 4 + len("Work"))),
+        (request("ACL", work, grants(ace(BOB))), reply(200), payload("work", 4, 1, 7)),
+        (put("two.ics", E2, work), stored(E2), stores("two.ics", E2, "work")),
+        (put("new.ics", NEW, work), stored(NEW), stores("new.ics", NEW, "work")),
+        (request("DELETE", work + "two.ics"), reply(204), payload("work", 1 + len("two.ics"))),
+        (request("GET", work + "two.ics"), reply(404), 0),
+        (put("one.ics", later), stored(later, 204), stores("one.ics", later)),
+    ])
+    month = ("20250301T000000Z", "20250401T000000Z")
+    file.case("what each of these left, and the calendar is deleted", [
+        (request("GET", CALENDAR + "one.ics"), reply(200, later, TEXT, etag(later)), 0),
+        (request("GET", work + "two.ics"), reply(404), 0),
+        (request("GET", work + "new.ics", who="bob"), needs(work + "new.ics", "D:read"), 0),
+        (report(busy(*month), work, who="bob"), busy_times(*month, ("BUSY", "20250312T090000Z/20250312T100000Z")), 0),
+        (request("PROPFIND", work, propfind("<D:displayname/>"), depth="0"), found((work, [(200, "<D:displayname>Work</D:displayname>")])), 0),
+        (request("DELETE", work), reply(204), payload("work")),
+    ])
+    file.case("the calendar is not there", [(request("PROPFIND", work, propfind("<D:displayname/>"), depth="0"), reply(404), 0)])
+    sides = []
+    for who in ("alice", "bob"):
+        names = [f"{who}{number}" for number in range(3)]
+        sides.append(b"".join(put(name + ".ics", event(name, "DTSTART:20250310T090000Z"), f"/calendars/{who}/calendar/", who=who) for name in names))
+    RUNS.append(b"#two sessions\n" + b"|".join(sides))
+    # Whichever session comes first, the changes are kept one behind the other, so that the number of the call says how many were kept before it.
+    both = [(told, told + more) for told in range(6) for more in (0, 1)]
+    LEFT.append(b"# two sessions\n6 answered, 6 in the file\n" + b"".join(b"a call fails: %d answered, %d in the file\n" % pair for pair in both))
+    without = sum(len(f"user {name}\n") for name in File.NAMES[:2])
+    LEFT.append(f"without a file: the same replies\nfor other users: refused at {without}\n".encode())
+
+
 def with_part(text, kind, cases):
     """An input or an output of the program with other cases of a kind, which stand behind the line `@KIND` up to the next `@`."""
     front, head, rest = text.partition(b"@%s\n" % kind.encode())
@@ -1421,9 +1519,9 @@ def with_part(text, kind, cases):
 
 def main():
     orders = (methods, shapes, conditions, bodies, reading, deleting, putting, properties, granting, reporting, long_answers, homes)
-    for part in (ends, cuttings, moments, streams, objects, *orders, replaced, several, rows, teams, books, journals):
+    for part in (ends, cuttings, moments, streams, objects, *orders, replaced, several, rows, teams, books, journals, files):
         part()
-    for name, made in (("stdin", {"books": WALKS, "kept": KEPT, "scripts": CASES}), ("stdout", {"books": TOLD, "kept": LOADED, "scripts": ANSWERS})):
+    for name, made in (("stdin", {"books": WALKS, "kept": KEPT, "scripts": CASES, "journals": RUNS}), ("stdout", {"books": TOLD, "kept": LOADED, "scripts": ANSWERS, "journals": LEFT})):
         path = os.path.join(TOP, "crates/cases_server", name)
         with open(path, "rb") as file:
             text = file.read()

@@ -2,7 +2,7 @@
 //!
 //! Given: parts on standard input, each behind a line `@KIND`. Gives: for each that line, and what came
 //! of its cases.
-//! `bench/cases.py` writes the cases of `scripts`, `books` and `kept`, and what they have to give.
+//! `bench/cases.py` writes the cases of `scripts`, `books`, `kept` and `journals`, and what they have to give.
 //!
 //! | Kind | Cases | Module |
 //! |---|---|---|
@@ -11,13 +11,17 @@
 //! | `claims` | the frames of one script | `claims` |
 //! | `kept` | a line `#TITLE`, a line `END BEGIN` or `fails`, and the frames of a script | `kept` |
 //! | `scripts` | a line `#TITLE`, a line `FORM READ WRITE WORD..`, and the input of a script | `scripts` |
+//! | `journals` | a line `#TITLE`, and the frames of a run, or the octets of two connections | `journals` |
 //! | `sessions` | a line `# WORD NUMBER`, and the octets of a connection | `sessions` |
 #![tactic(auto)]
 
 mod books;
 mod claims;
 mod files;
+mod journal_threads;
+mod journals;
 mod kept;
+mod kept_runs;
 mod passes;
 mod props;
 mod props_texts;
@@ -34,6 +38,7 @@ mod walk;
 use books::print_books;
 use cal_base::{StdSource, read_up_to};
 use claims::print_claims;
+use journals::print_journals;
 use kept::print_kept;
 use props::print_props;
 use scripts::print_scripts;
@@ -58,6 +63,7 @@ fn print_part<R: Threads + Wait + Sync + Print>(
         "claims" => print_claims(rt, cases),
         "kept" => print_kept(rt, cases),
         "scripts" => print_scripts(rt, cases),
+        "journals" => print_journals(threads, rt.alloc(), cases),
         "sessions" => print_sessions(threads, rt.alloc(), cases),
         _ => println!(rt; "no such part"),
     }

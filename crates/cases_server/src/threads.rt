@@ -3,8 +3,8 @@
 
 ghost use Rattle.std.specs.Prelude.{◌≡◌, false, Some};
 
-use crate::passes::{PUT, REPORT, Server, answer};
-use crate::runs::service;
+use crate::passes::{PUT, REPORT, Server, answer, asked};
+use crate::runs::{replies, service};
 use cal_base::{Gate, NoMemory};
 use cal_book::Desk;
 use expansion_workers::{Worked, work_on};
@@ -44,30 +44,49 @@ fn await_flag<R: Wait>(rt: &R, flag: &AtomicU64) {
     unreachable!()
 }
 
-/// Serves a connection of one request with a pass that is given and given back.
-fn answer_by<B: Desk + Drop, R: Wait>(
+/// What a session answered: the status of its first reply, 0 where there is none, and how many it wrote.
+#[derive(Clone, Copy)]
+pub struct Answered {
+    pub status: u16,
+    pub replies: usize,
+}
+
+/// Serves a connection with a pass that is given and given back.
+fn serve_by<B: Desk + Drop, R: Wait>(
     rt: &R,
     server: &Server<'_, B>,
     pass: Pass<B>,
     octets: &[u8],
-) -> (u16, Pass<B>)
+) -> (Answered, Pass<B>)
     requires same { pass.lock ≡ server.now.lock.now }
     requires free { pass.holds_turn ≡ false }
     requires users { pass.base ≡ Some server.now.users.now }
     ensures { result.1 ≡ record pass { seen = result.1.seen; looks = result.1.looks } }
 {
     let mut pass = pass;
-    let status = answer(rt, server, &mut pass, octets);
-    (status, pass)
+    match asked(rt, server, &mut pass, octets) {
+        Ok((status, written)) => {
+            let replies = replies(written.as_slice());
+            (Answered { status, replies }, pass)
+        }
+        Err(NoMemory) => {
+            let none = Answered {
+                status: 0,
+                replies: 0,
+            };
+            (none, pass)
+        }
+    }
 }
 
-/// Two sessions in two threads that change one object by one tag.
-fn change_twice<B: Desk + Send + Drop, R: Threads + Wait + Sync>(
+/// Two sessions in two threads.
+pub fn serve_both<B: Desk + Send + Drop, R: Threads + Wait + Sync>(
     rt: &R,
     server: &Server<'_, B>,
     first: Pass<B>,
     second: Pass<B>,
-) -> ((u16, Pass<B>), (u16, Pass<B>))
+    octets: (&[u8], &[u8]),
+) -> ((Answered, Pass<B>), (Answered, Pass<B>))
     requires first { (first.lock ≡ server.now.lock.now) × (first.holds_turn ≡ false) × (first.base ≡ Some server.now.users.now) }
     requires second { (second.lock ≡ server.now.lock.now) × (second.holds_turn ≡ false) × (second.base ≡ Some server.now.users.now) }
     ensures first { result.0.1 ≡ record first { seen = result.0.1.seen; looks = result.0.1.looks } }
@@ -75,16 +94,16 @@ fn change_twice<B: Desk + Send + Drop, R: Threads + Wait + Sync>(
 {
     join(
         rt,
-        || -> (u16, Pass<B>)
+        || -> (Answered, Pass<B>)
             requires { (first.lock ≡ server.now.lock.now) × (first.holds_turn ≡ false) × (first.base ≡ Some server.now.users.now) }
-        { answer_by(rt, server, first, CHANGE) },
-        || -> (u16, Pass<B>)
+        { serve_by(rt, server, first, octets.0) },
+        || -> (Answered, Pass<B>)
             requires { (second.lock ≡ server.now.lock.now) × (second.holds_turn ≡ false) × (second.base ≡ Some server.now.users.now) }
-        { answer_by(rt, server, second, CHANGE) },
+        { serve_by(rt, server, second, octets.1) },
     )
 }
 
-/// Of two that race the lesser status and the greater, and how many entries there are behind them.
+/// Of two sessions that change one object by one tag the lesser status and the greater, and how many entries there are behind them.
 fn race<R: Threads + Wait + Sync>(rt: &R, alloc: Global) -> Result<(u16, u16, u64), NoMemory> {
     let (service, mut first, users) = service(alloc)?;
     let server = Server {
@@ -94,9 +113,17 @@ fn race<R: Threads + Wait + Sync>(rt: &R, alloc: Global) -> Result<(u16, u16, u6
     };
     answer(rt, &server, &mut first, PUT);
     let second = service.lock().split(rt, &mut first)?;
-    let ((left, mut first), (right, second)) = change_twice(rt, &server, first, second);
+    let ((left, mut first), (right, second)) = serve_both(
+        rt,
+        &server,
+        first,
+        second,
+        (CHANGE, CHANGE),
+    );
     service.lock().join(&mut first, second);
-    Ok((left.min(right), left.max(right), first.seen_len()))
+    let lesser = left.status.min(right.status);
+    let greater = left.status.max(right.status);
+    Ok((lesser, greater, first.seen_len()))
 }
 
 /// Prints it.
@@ -138,9 +165,9 @@ fn answer_at<B: Desk + Drop, R: Wait>(
     ensures { result.1 ≡ record pass { seen = result.1.seen; looks = result.1.looks } }
 {
     await_flag(rt, &gate.is_held);
-    let answered = answer_by(rt, server, pass, REPORT);
+    let (answered, pass) = serve_by(rt, server, pass, REPORT);
     gate.is_open.store(1, Ordering::SeqCst);
-    answered
+    (answered.status, pass)
 }
 
 /// A worker that a gate holds, and a session that opens the gate behind its reply, in two threads.
