@@ -1,5 +1,5 @@
 //! A book that is kept in a file.
-ghost use Rattle.std.specs.Prelude.{◌≡◌, ◌≤◌, true, false, refl, is_some, slice_get, IfSome};
+ghost use Rattle.std.specs.Prelude.{◌≡◌, ◌<◌, ◌≤◌, true, false, refl, is_some, slice_get, IfSome};
 ghost use Rattle.cal_base.specs.World.Outside.{Rose};
 ghost use Rattle.cal_model.specs.State.ServerState.{directory_of};
 ghost use Rattle.cal_book.specs.LegalJournals.{is_legal, beginning_is_legal};
@@ -54,6 +54,14 @@ impl<D: Disk> Kept<D> {
         let Kept { book, keeper } = self;
         drop(book);
         keeper.into_disk()
+    }
+
+    /// The fault by which it is broken, if it is: then a call of its disk failed, and was counted.
+    pub fn fault(&self) -> Option<DiskFault>
+        ensures broken { is_some result ≡ self.now.keeper.broken }
+        ensures counted { is_some result ≡ true → 0 < D.faults self.now.keeper.disk }
+    {
+        self.keeper.fault()
     }
 
     /// The book. (That the file has its journal holds of each kept book.)

@@ -26,7 +26,7 @@ use Rattle.cal_session.specs.declared.served.Served.{Served}
 use Rattle.load_requests.specs.MeantRequests.{Spell}
 use Rattle.caldav_server.specs.LoadSessions.{replies_in, HasAnswered, was_accepted, HadMemory}
 use Rattle.caldav_server.specs.LoadDone.{Did, IsAccountOf}
-use Rattle.caldav_server.specs.declared.load_sessions.Duty.TheVariants.{Serve}
+use Rattle.caldav_server.specs.declared.load_sessions.Role.TheVariants.{Serve}
 use Rattle.caldav_server.specs.declared.load_sessions.Outcome.{Outcome}
 use Rattle.caldav_server.specs.declared.load_sessions.Outcome.TheVariants as came
 use Rattle.caldav_server.proofs.LoadCounts.{few-requests}

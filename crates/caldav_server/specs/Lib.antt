@@ -1,13 +1,13 @@
-pub mod Crews
 pub mod KeptEnds
 pub mod KeptRuns
 pub mod KeptServers
 pub mod LoadDone
 pub mod LoadEnds
-pub mod LoadSeats
+pub mod LoadJobs
 pub mod LoadSessions
 pub mod LoadSums
 pub mod LoadTallies
 pub mod ServeEnds
 pub mod Shares
 pub mod SlotEnds
+pub mod ThreadPasses

@@ -5,7 +5,6 @@
 //! runs the server.
 #![tactic(auto)]
 
-mod crew;
 mod desks;
 mod kept_script;
 mod kept_serve;
@@ -20,6 +19,7 @@ mod slot;
 #[cfg(test)]
 mod slot_tests;
 mod telling_door;
+mod threads;
 
 use crate::kept_script::run_kept_script;
 use crate::kept_serve::run_kept_serve;
