@@ -1,9 +1,10 @@
 //! A book that is kept in a file.
-ghost use Rattle.std.specs.Prelude.{◌≡◌, ◌<◌, ◌≤◌, true, false, refl, is_some, slice_get, IfSome};
+ghost use Rattle.std.specs.Prelude.{◌≡◌, ◌≤◌, true, false, refl, is_some, slice_get, IfSome};
 ghost use Rattle.cal_base.specs.World.Outside.{Rose};
 ghost use Rattle.cal_model.specs.State.ServerState.{directory_of};
 ghost use Rattle.cal_book.specs.LegalJournals.{is_legal, beginning_is_legal};
 ghost use Rattle.cal_keeper.specs.Files.Payloads.{HasForm};
+ghost use Rattle.cal_keeper.specs.Keepers.{HasCounted};
 ghost use Rattle.cal_session.specs.KeptBooks.{IsKeptOf};
 ghost use Rattle.cal_session.specs.KeptSteps.{HasKept};
 
@@ -59,7 +60,7 @@ impl<D: Disk> Kept<D> {
     /// The fault by which it is broken, if it is: then a call of its disk failed, and was counted.
     pub fn fault(&self) -> Option<DiskFault>
         ensures broken { is_some result ≡ self.now.keeper.broken }
-        ensures counted { is_some result ≡ true → 0 < D.faults self.now.keeper.disk }
+        ensures counted { HasCounted D.faults self.now.keeper }
     {
         self.keeper.fault()
     }

@@ -17,4 +17,4 @@ returns-clause-left g c =
 pub returns-clause-disk_fault : goal.returns-clause-disk_fault
 returns-clause-disk_fault g c = λ eight.
     let is = c.status_of.ensures ∙ ap (λ broken. served_status broken c.args.served) (c.is_some.ensures ∙ c.fault.ensures.broken) in
-    rw c.into_disk.ensures (c.fault.ensures.counted (c.fault.ensures.broken ∙ broken_at_eight c.args.kept.keeper.broken c.args.served (sym is ∙ eight)))
+    rw c.into_disk.ensures (c.fault.ensures.counted (broken_at_eight c.args.kept.keeper.broken c.args.served (sym is ∙ eight)))
