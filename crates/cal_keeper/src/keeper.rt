@@ -4,6 +4,7 @@ ghost use Rattle.cal_base.specs.World.Outside.{Rose};
 ghost use Rattle.cal_journal.specs.KeptEntries.{kept_entry};
 ghost use Rattle.cal_keeper.specs.Files.Payloads.{HasForm};
 ghost use Rattle.cal_keeper.specs.Files.Appending.{AppendsTo};
+ghost use Rattle.cal_keeper.specs.Keepers.{HasCounted};
 
 use crate::commit::commit;
 use crate::disk::Disk;
@@ -29,14 +30,14 @@ pub struct Keeper<D: Disk> {
 }
 
 impl<D: Disk> Model for Keeper<D> {
-    ghost use Rattle.std.specs.Prelude.{◌<◌, ◌≤◌, ◌^◌};
+    ghost use Rattle.std.specs.Prelude.{◌≡◌, ◌<◌, ◌≤◌, ◌^◌, true};
     ghost use Rattle.cal_keeper.specs.Keepers.{KeeperState};
 
     ghost Value = { KeeperState D };
 
     ghost view = { λ k. record { disk = k.disk; principals = k.principals; place = k.place; records = k.records; broken = k.broken } };
 
-    ghost invariant = { λ k. (k.place < 2 ^ 62) × (k.records ≤ k.place) };
+    ghost invariant = { λ k. (k.place < 2 ^ 62) × (k.records ≤ k.place) × (k.broken ≡ true → 0 < D.faults k.disk) };
 }
 
 impl<D: Disk> Keeper<D> {
@@ -88,9 +89,11 @@ impl<D: Disk> Keeper<D> {
         self.records
     }
 
-    /// The fault by which it is broken, if it is.
+    /// The fault by which it is broken, if it is. (That its disk counted a fault then holds of each
+    /// keeper.)
     pub fn fault(&self) -> Option<DiskFault>
-        ensures { is_some result ≡ self.now.broken }
+        ensures broken { is_some result ≡ self.now.broken }
+        ensures counted { HasCounted D.faults self.now }
     {
         if self.broken {
             Some(DiskFault(()))
