@@ -1,5 +1,5 @@
 #!/usr/bin/env python3
-"""Runs the built program at each limit of docs/LIMITS.md, and at one more, and says where it answers otherwise.
+"""Runs the built program at the limits of docs/LIMITS.md that a script of requests can meet, and at one more, and says where it answers otherwise.
 
     bench/limits.py [PROGRAM]
 

@@ -17,7 +17,7 @@ Beside them a client that behaves asks, each time on a new connection, for an ob
 the calendar. What has to hold:
 
 - each of its answers is the one that it had before the siege, but for the date;
-- none takes longer than the times of a connection allow (docs/OUTSIDE.md);
+- none takes longer than the times of a connection allow (docs/LIMITS.md);
 - at the end the server has as many threads and open files as before, and its memory has not grown by more than a quarter.
 
 It prints how often each kind of client was there, how long the well-behaved one waited, and memory, threads and files
