@@ -54,9 +54,9 @@ leaves_no_journal old new spares stays = record {
 
 -- A draft that is begun
 
-pub draft_begun : (text : List ℕ) (place : ℕ) (ok : Bool) (old laid settled new : Option Past) → place ≡ 16 → Puts 0 blank true old laid → settled ≡ option_map synced laid → Puts place (long_text text) ok settled new → LaysBlank text ok old new
-draft_begun text place ok None laid settled new place_is first is second = subst (λ (told : Option Past). Puts place (long_text text) ok told new) (is ∙ ap (option_map synced) first) second
-draft_begun text place ok (Some old) laid settled new place_is first is second =
+pub draft_begun : (text : List ℕ) (place : ℕ) (ok : Bool) (old laid settled new : Option Past) → place ≡ 16 → Puts 0 blank true old laid → Puts place (long_text text) ok settled new → settled ≡ option_map synced laid → LaysBlank text ok old new
+draft_begun text place ok None laid settled new place_is first second is = subst (λ (told : Option Past). Puts place (long_text text) ok told new) (is ∙ ap (option_map synced) first) second
+draft_begun text place ok (Some old) laid settled new place_is first second is =
     let second = subst (λ (told : Option Past). Puts 16 (long_text text) ok told new) (is ∙ ap (option_map synced) first.1) (subst (λ (at : ℕ). Puts at (long_text text) ok settled new) place_is second) in (
       second.0,
       second.1,
