@@ -129,10 +129,6 @@ torn_front front body image count count_is some torn =
     sym (take-append-drop count image) ∙ ap (λ (xs : List ℕ). take count image ++ xs) back
 
 module _ (text : List ℕ) (payloads : List (List ℕ)) (place : ℕ) (old mid : Past) (draft : IsDraft (blank ++ text) payloads place old) (puts : PutsText place (0 ∷ []) true old mid) where
-  -- what stands behind the mark, up to the closed gate
-  abbrev body : List ℕ
-  body = text ++ flat_map open_record payloads
-
   gate_there : reading mid ≡ blank ++ ((text ++ flat_map open_record payloads) ++ 0 ∷ [])
   gate_there =
       let here : place ≡ length (reading old) = draft.place_is ∙ sym (ap length draft.reads) in
@@ -172,9 +168,9 @@ module _ (text : List ℕ) (payloads : List (List ℕ)) (place : ℕ) (old mid :
   sealed_kept new replaces = record {
     place_is = draft.place_is;
     file = marked_file [] (reading new) (
-      replaces.stands refl
-          ∙ ap (λ (xs : List ℕ). with_piece 0 mark xs) gate_there
-          ∙ ap (λ (xs : List ℕ). mark ++ xs) (sym (append-nil ((text ++ flat_map open_record payloads) ++ 0 ∷ []))));
+        replaces.stands refl
+        ∙ ap (λ (xs : List ℕ). with_piece 0 mark xs) gate_there
+        ∙ ap (λ (xs : List ℕ). mark ++ xs) (sym (append-nil ((text ++ flat_map open_record payloads) ++ 0 ∷ []))));
     settled = replaces.settled refl;
   }
 
