@@ -14,7 +14,7 @@ use Rattle.cal_keeper.specs.Files.Appending.{StandsWithOrWithout, Appends, Appen
 use Rattle.cal_keeper.specs.Principals.{counts_of}
 
 -- what has one property has another
-leaves_more : (P Q : List ℕ → Type 0) (old new : Past) → ((image : List ℕ) → P image → Q image) → LeavesOnly P old new → LeavesOnly Q old new
+pub leaves_more : (P Q : List ℕ → Type 0) (old new : Past) → ((image : List ℕ) → P image → Q image) → LeavesOnly P old new → LeavesOnly Q old new
 leaves_more P Q old new more leaves = record {
   later = leaves.later;
   each = λ image left. more image (leaves.each image left);
@@ -22,7 +22,7 @@ leaves_more P Q old new more leaves = record {
 }
 
 -- a record of one session is in the form of another
-recorded_form : (users : Users) (entry : Entry) → HasForm (counts_of users) entry → IsRecorded users (recorded entry)
+pub recorded_form : (users : Users) (entry : Entry) → HasForm (counts_of users) entry → IsRecorded users (recorded entry)
 recorded_form users entry form = record {
   session = refl;
   form = record {

@@ -1,5 +1,5 @@
 -- A header that is laid in an empty file.
-use Rattle.std.proofs.Common.{◌≡◌, ℕ, zero, suc, ◌+◌, true, List, [], ◌∷◌, ◌++◌, length, drop, Option, Some, None, IfSome, option_map, refl, sym, ◌∙◌, ap, subst, arith}
+use Rattle.std.proofs.Common.{◌≡◌, ℕ, true, List, [], ◌∷◌, ◌++◌, length, Option, Some, None, IfSome, option_map, refl, sym, ◌∙◌, ap, subst, arith}
 use Rattle.std.proofs.lemmas.List.{append-nil}
 use Rattle.cal_model.specs.Users.UsersFile.{Users}
 use Rattle.cal_keeper.specs.Disks.CrashModel.{Past, synced, reading, with_piece}
@@ -8,15 +8,11 @@ use Rattle.cal_keeper.specs.Steps.HeaderSteps.{Begins}
 use Rattle.cal_keeper.specs.Files.Headers.{header_of}
 use Rattle.cal_keeper.specs.Files.RecordForm.{IsKept}
 use Rattle.cal_keeper.specs.Files.Standing.{IsKeptFor}
-use Rattle.cal_keeper.proofs.Pieces.{piece_within}
+use Rattle.cal_keeper.proofs.Pieces.{piece_behind}
 
--- a piece in a file without octets
-piece_first : (piece : List ℕ) → with_piece 0 piece [] ≡ piece
-piece_first piece = piece_within 0 piece [] (omega arith) ∙ ap (λ (xs : List ℕ). piece ++ xs) (none (0 + length piece)) ∙ append-nil piece
-  where
-    none : (n : ℕ) → drop {A = ℕ} n [] ≡ []
-    none zero = refl
-    none (suc n) = refl
+pub no_octets : (xs : List ℕ) → length xs ≡ 0 → xs ≡ []
+no_octets [] none = refl
+no_octets (x ∷ xs) none = absurd (omega (arith, none))
 
 new_file : (header : List ℕ) (past : Past) → reading past ≡ header ++ 0 ∷ [] → IsKept header [] (length header) (synced past)
 new_file header past is = record {
@@ -36,8 +32,13 @@ begun header (Some old) mid new puts settled = (
   synced puts.0,
   settled ∙ ap (option_map synced) puts.1,
   λ went empty.
-      new_file header puts.0 (puts.2.stands refl (omega arith) ∙ ap (λ (xs : List ℕ). with_piece 0 (header ++ 0 ∷ []) xs) empty ∙ piece_first (header ++ 0 ∷ [])),
+      new_file header puts.0 (puts.2.stands refl (omega arith) ∙ ap (λ (xs : List ℕ). with_piece 0 (header ++ 0 ∷ []) xs) empty ∙ piece_behind 0 (header ++ 0 ∷ []) [] refl),
 )
+
+-- it was counted that there are none
+pub counted_none : (told : Option Past) (count : ℕ) → count ≡ 0 → IfSome told (λ p. count ≡ length (reading p)) → IfSome told (λ p. 0 ≡ length (reading p))
+counted_none None count none is = tt
+counted_none (Some past) count none is = sym none ∙ is
 
 -- so it is a file of no entries
 pub begun_file : (users : Users) (header : List ℕ) (place : ℕ) (old new : Option Past) → header ≡ header_of users → place ≡ length header → IfSome old (λ p. 0 ≡ length (reading p)) → Begins header true old new → IfSome new (IsKeptFor users [] place)
@@ -47,7 +48,3 @@ begun_file users header place (Some old) new header_is place_is empty begins =
       recorded = tt;
       kept = subst (λ (h : List ℕ). IsKept h [] place begins.0) header_is (subst (λ (n : ℕ). IsKept header [] n begins.0) (sym place_is) (begins.2 refl (no_octets (reading old) (sym empty))));
     })
-  where
-    no_octets : (xs : List ℕ) → length xs ≡ 0 → xs ≡ []
-    no_octets [] none = refl
-    no_octets (x ∷ xs) none = absurd (omega (arith, none))

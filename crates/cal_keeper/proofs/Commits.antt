@@ -4,7 +4,7 @@ use Rattle.std.specs.Int.{w32, to_be_bytes}
 use Rattle.std.proofs.lemmas.Bool.{false≢true, cases_eq}
 use Rattle.std.proofs.lemmas.List.{take_at, drop_at, flat_map_more}
 use Rattle.cal_keeper.specs.Disks.CrashModel.{Past, found, wrote, synced, reading, IsTorn, MayLeave, moment, LeftSince, LeavesOnly, with_piece}
-use Rattle.cal_keeper.specs.Steps.WriteRuns.{IsSpared, PutsText, Puts, OpensGate, Opens}
+use Rattle.cal_keeper.specs.Steps.WriteRuns.{IsSpared, PutsText, Puts, ReplacesPiece, Replaces}
 use Rattle.cal_keeper.specs.Files.RecordForm.{open_gate, counted_payload, open_record, front_of, IsFile, IsKept}
 use Rattle.cal_keeper.specs.Steps.Committing.{IsWithOrWithout, Commits}
 use Rattle.cal_keeper.proofs.Pieces.{piece_within}
@@ -130,7 +130,7 @@ commit_unstaged payload place (Some old) new puts = (
 
 -- The gate that is opened in front of it
 
-module _ (header : List ℕ) (payloads : List (List ℕ)) (payload : List ℕ) (place : ℕ) (old mid new : Past) (ok : Bool) (kept : IsKept header payloads place old) (puts : PutsText (place + 1) (counted_payload payload ++ 0 ∷ []) true old mid) (opens : OpensGate place ok mid new) where
+module _ (header : List ℕ) (payloads : List (List ℕ)) (payload : List ℕ) (place : ℕ) (old mid new : Past) (ok : Bool) (kept : IsKept header payloads place old) (puts : PutsText (place + 1) (counted_payload payload ++ 0 ∷ []) true old mid) (opens : ReplacesPiece place (1 ∷ []) ok mid new) where
   abbrev rest : List ℕ
   rest = drop (place + 1 + length (counted_payload payload ++ 0 ∷ [])) (front_of header payloads ++ kept.file.gate ∷ kept.file.rest)
 
@@ -181,10 +181,10 @@ module _ (header : List ℕ) (payloads : List (List ℕ)) (payload : List ℕ) (
   }
 
 -- a record that was put whole, and its gate
-pub commit_staged : (payload : List ℕ) (place : ℕ) (ok : Bool) (old mid new : Option Past) → Puts (place + 1) (counted_payload payload ++ 0 ∷ []) true old mid → Opens place ok mid new → Commits place payload ok old new
-commit_staged payload place ok None mid new puts opens = subst (λ (m : Option Past). Opens place ok m new) puts opens
+pub commit_staged : (payload : List ℕ) (place : ℕ) (ok : Bool) (old mid new : Option Past) → Puts (place + 1) (counted_payload payload ++ 0 ∷ []) true old mid → Replaces place (1 ∷ []) ok mid new → Commits place payload ok old new
+commit_staged payload place ok None mid new puts opens = subst (λ (m : Option Past). Replaces place (1 ∷ []) ok m new) puts opens
 commit_staged payload place ok (Some old) mid new puts opens =
-    let opens = subst (λ (m : Option Past). Opens place ok m new) puts.1 opens in (
+    let opens = subst (λ (m : Option Past). Replaces place (1 ∷ []) ok m new) puts.1 opens in (
       opens.0,
       opens.1,
       record {

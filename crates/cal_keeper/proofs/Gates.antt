@@ -7,7 +7,7 @@ use Rattle.cal_keeper.specs.Disks.CrashModel.{IsTorn}
 use Rattle.cal_keeper.specs.Steps.WriteRuns.{IsSpared}
 use Rattle.cal_keeper.proofs.Runs.{is_there}
 
-get_same : (xs ys : List ℕ) (i : ℕ) → slice_get xs i ≡ slice_get ys i → get_or xs i 0 ≡ get_or ys i 0
+pub get_same : (xs ys : List ℕ) (i : ℕ) → slice_get xs i ≡ slice_get ys i → get_or xs i 0 ≡ get_or ys i 0
 get_same xs ys i same = sym (unwrap_or-slice_get xs i 0) ∙ ap (λ (o : Option ℕ). unwrap_or o 0) same ∙ unwrap_or-slice_get ys i 0
 
 -- what is spared up to a gate begins with the front and the gate

@@ -4,6 +4,8 @@ pub mod Gates
 pub mod Commits
 pub mod Stops
 pub mod Appending
+pub mod DraftForms
+pub mod DraftEntries
 pub mod PayloadTexts
 pub mod Beginning
 pub mod UserTexts

@@ -9,10 +9,9 @@ ghost use Rattle.cal_keeper.specs.Steps.Committing.{Commits};
 ghost use Rattle.cal_keeper.specs.Files.RecordForm.{counted_payload};
 
 use crate::disk::Disk;
-use crate::gate::open_gate;
 use crate::payload::put_payload;
 use crate::payload_size::payload_size;
-use crate::writing::put;
+use crate::writing::{put, replace};
 use cal_base::Failed;
 use cal_journal::Entry;
 
@@ -28,7 +27,7 @@ pub(crate) fn commit<D: Disk>(disk: &mut D, place: u64, entry: &Entry) -> Result
     ensures few { IfOk result (λ next. next < 2 ^ 62) }
 {
     let end = stage(disk, place + 1, entry)?;
-    open_gate(disk, place)?;
+    replace(disk, place, &[1])?;
     Ok(end - 1)
 }
 
@@ -41,7 +40,19 @@ fn stage<D: Disk>(disk: &mut D, place: u64, entry: &Entry) -> Result<u64, Failed
     ensures end { IfOk result (λ end. end ≡ place + 5 + length (payload_of (kept_entry entry.now))) }
     ensures few { IfOk result (λ end. end ≤ 2 ^ 62) }
 {
-    let at = put(disk, place, &payload_size(entry).to_be_bytes())?;
-    let at = put_payload(disk, at, entry)?;
+    let at = put_counted(disk, place, entry)?;
     put(disk, at, &[0])
+}
+
+/// Writes a payload behind its length. Gives the place behind both.
+pub(crate) fn put_counted<D: Disk>(disk: &mut D, place: u64, entry: &Entry) -> Result<u64, Failed>
+    requires { (counts : PrincipalCounts) × HasForm counts (kept_entry entry.now) }
+    ensures never_falls { D.faults disk.old ≤ D.faults disk.new }
+    ensures failed { OnErr result (Rose (D.faults disk.old) (D.faults disk.new)) }
+    ensures puts { Puts place (counted_payload (payload_of (kept_entry entry.now))) (is_ok result) (D.past disk.old) (D.past disk.new) }
+    ensures end { IfOk result (λ end. end ≡ place + 4 + length (payload_of (kept_entry entry.now))) }
+    ensures few { IfOk result (λ end. end ≤ 2 ^ 62) }
+{
+    let at = put(disk, place, &payload_size(entry).to_be_bytes())?;
+    put_payload(disk, at, entry)
 }

@@ -1,7 +1,7 @@
-//! Runs of writes.
+//! Runs of writes, and a write between two syncs.
 ghost use Rattle.std.specs.Prelude.{◌≡◌, ◌+◌, ◌<◌, ◌≤◌, ◌^◌, ◌++◌, ◌∷◌, [], length, is_ok, IfOk, OnErr};
 ghost use Rattle.cal_base.specs.World.Outside.{Rose};
-ghost use Rattle.cal_keeper.specs.Steps.WriteRuns.{Puts};
+ghost use Rattle.cal_keeper.specs.Steps.WriteRuns.{Puts, Replaces};
 ghost use Rattle.cal_keeper.specs.Files.Payloads.{name_text, long_text};
 
 use crate::disk::Disk;
@@ -59,4 +59,17 @@ pub(crate) fn put_long<D: Disk>(disk: &mut D, place: u64, octets: &[u8]) -> Resu
 {
     let size = octets.len() as u32;
     put_two(disk, place, &size.to_be_bytes(), octets)
+}
+
+/// Brings what was written before to the disk, writes a piece over the octets at a place by a write of
+/// its own, and brings that to the disk.
+#[tactic(auto, using(crate::specs::Disks::PossibleImages::piece_is_torn))]
+pub(crate) fn replace<D: Disk>(disk: &mut D, place: u64, piece: &[u8]) -> Result<(), Failed>
+    ensures never_falls { D.faults disk.old ≤ D.faults disk.new }
+    ensures failed { OnErr result (Rose (D.faults disk.old) (D.faults disk.new)) }
+    ensures replaces { Replaces place piece.now (is_ok result) (D.past disk.old) (D.past disk.new) }
+{
+    disk.sync()?;
+    disk.write_at(place, piece)?;
+    disk.sync()
 }

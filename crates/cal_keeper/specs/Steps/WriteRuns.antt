@@ -1,6 +1,6 @@
--- Runs of writes: a text that is put at a place piece by piece, and a gate that is opened.
+-- Runs of writes: a text that is put at a place piece by piece, and a piece that is written between two syncs.
 -- Given: the pasts before and after, where the disk tells them.
-use Rattle.std.specs.Prelude.{◌≡◌, ℕ, ◌<◌, ◌≤◌, ◌⊎◌, Bool, IsTrue, List, [], ◌∷◌, length, slice_get, Option, Some, None}
+use Rattle.std.specs.Prelude.{◌≡◌, ℕ, ◌<◌, ◌≤◌, ◌⊎◌, Bool, IsTrue, List, length, slice_get, Option, Some, None}
 use Rattle.cal_keeper.specs.Disks.CrashModel.{Past, reading, IsTorn, MayLeave, moment, LeftSince, IsSettled, with_piece}
 
 -- each octet in front of a place stays
@@ -24,14 +24,14 @@ abbrev pub Puts : ℕ → List ℕ → Bool → Option Past → Option Past → 
 Puts place text went_through None new = new ≡ None
 Puts place text went_through (Some old) new = (past : Past) × (new ≡ Some past) × PutsText place text went_through old past
 
--- A single octet is written at a place behind a sync, and synced itself. At whichever moment a crash comes, it leaves what it might have left before, or the octets as they were read but for the one at that place.
-pub record OpensGate (place : ℕ) (went_through : Bool) (old new : Past) : Type 0 where
+-- A piece is written over the octets at a place, behind a sync, and synced itself. At whichever moment a crash comes, it leaves what it might have left before, or the octets as they were read but for those of the piece.
+pub record ReplacesPiece (place : ℕ) (piece : List ℕ) (went_through : Bool) (old new : Past) : Type 0 where
   pub later : moment old ≤ moment new
-  pub since : (start : ℕ) (image : List ℕ) → start ≤ moment old → LeftSince start new image → LeftSince start old image ⊎ IsTorn place 1 (reading old) image
+  pub since : (start : ℕ) (image : List ℕ) → start ≤ moment old → LeftSince start new image → LeftSince start old image ⊎ IsTorn place (length piece) (reading old) image
   pub settled : IsTrue went_through → IsSettled new
-  pub stands : IsTrue went_through → reading new ≡ with_piece place (1 ∷ []) (reading old)
+  pub stands : IsTrue went_through → reading new ≡ with_piece place piece (reading old)
 
 -- the same, where the disk tells the past
-abbrev pub Opens : ℕ → Bool → Option Past → Option Past → Type 0
-Opens place went_through None new = new ≡ None
-Opens place went_through (Some old) new = (past : Past) × (new ≡ Some past) × OpensGate place went_through old past
+abbrev pub Replaces : ℕ → List ℕ → Bool → Option Past → Option Past → Type 0
+Replaces place piece went_through None new = new ≡ None
+Replaces place piece went_through (Some old) new = (past : Past) × (new ≡ Some past) × ReplacesPiece place piece went_through old past

@@ -1,4 +1,5 @@
 use Rattle.cal_keeper.proofs.AcceptedForms.{accepted_has_form}
+use Rattle.cal_keeper.proofs.DraftEntries.{drafts_are_no_journals, drafts_go_on, drafts_are_finished}
 use Rattle.cal_keeper.proofs.EntryLaws.{form_is_bookable, sessions_are_alike, recorded_is_legal, recorded_leads_alike}
 use Rattle.cal_keeper.proofs.ReadingLaws.{readings_are_exact, standing_files_are_read, crashes_are_recovered, failures_leave_files, histories_are_kept}
 use Rattle.cal_keeper.proofs.laws.file_laws.Goals as goal
@@ -32,3 +33,12 @@ returns-clause-legal c = recorded_is_legal
 
 pub returns-clause-leads : goal.returns-clause-leads
 returns-clause-leads c = recorded_leads_alike
+
+pub returns-clause-unmarked : goal.returns-clause-unmarked
+returns-clause-unmarked c = drafts_are_no_journals
+
+pub returns-clause-going_on : goal.returns-clause-going_on
+returns-clause-going_on c = drafts_go_on
+
+pub returns-clause-finished : goal.returns-clause-finished
+returns-clause-finished c = drafts_are_finished
