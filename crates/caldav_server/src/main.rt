@@ -5,6 +5,7 @@
 //! runs the server.
 #![tactic(auto)]
 
+mod cause;
 mod desks;
 mod kept_script;
 mod kept_serve;
@@ -21,6 +22,7 @@ mod slot_tests;
 mod telling_door;
 mod threads;
 
+use crate::cause::print_cause;
 use crate::kept_script::run_kept_script;
 use crate::kept_serve::run_kept_serve;
 use crate::load::run_load;
@@ -49,26 +51,28 @@ fn main(rt: HostRuntime) -> ExitCode {
         return ExitCode::SUCCESS;
     }
     if word_at(&words, 0) == "serve" {
-        return ended(&rt, "serve", end_of_serve(&rt, &rt, &words));
+        let end = end_of_serve(&rt, &rt, &words);
+        return explained(&rt, "serve", end, &words);
     }
     if word_at(&words, 0) == "load" {
         let end = run_load(&rt, rt.alloc(), &words, &mut StdSink::new(&rt));
-        return ended(&rt, "load", end);
+        return explained(&rt, "load", end, &words);
     }
     if word_at(&words, 0) == "slot" {
-        return ended(&rt, "slot", end_of_slot(&rt, &words));
+        return explained(&rt, "slot", end_of_slot(&rt, &words), &words);
     }
     if word_at(&words, 0) == "expand" {
         let mut files = StdFiles::new(&rt);
         let end = run_expand(rt.alloc(), &words, &mut files, &mut StdSink::new(&rt));
-        return told(&rt, "expand", end);
+        return told(&rt, "expand", end, &words);
     }
     if word_at(&words, 0) == "check" {
         let mut files = StdFiles::new(&rt);
         let end = run_check(rt.alloc(), &words, &mut files, &mut StdSink::new(&rt));
-        return told(&rt, "check", end);
+        return told(&rt, "check", end, &words);
     }
-    ended(&rt, USAGE_OF_SCRIPT, end_of_script(&rt, &words))
+    let end = end_of_script(&rt, &words);
+    explained(&rt, USAGE_OF_SCRIPT, end, &words)
 }
 
 /// The end of the command `serve`, which is at a journal file where a word names one.
@@ -211,15 +215,23 @@ fn is_told(rt: &HostRuntime, word: &str, help: &str) -> bool {
     false
 }
 
-/// Prints the line that an end tells on standard error, or else that of its status, and gives the status
-/// to the system.
-fn told(rt: &HostRuntime, usage: &str, told: ToolEnd) -> ExitCode {
+/// Prints the line that an end tells on standard error, or else that of its status with its cause, and
+/// gives the status to the system.
+fn told(rt: &HostRuntime, usage: &str, told: ToolEnd, words: &List<Word>) -> ExitCode {
     if let Ok(line) = str::from_utf8(told.line.as_slice()) {
         if !line.is_empty() {
             let _ = eprintln!(rt; "{line}");
         }
     }
-    ended(rt, usage, told.end)
+    explained(rt, usage, told.end, words)
+}
+
+/// Prints the line of a status on standard error, and behind it the cause where that is seen, and gives
+/// the status to the system.
+fn explained(rt: &HostRuntime, usage: &str, end: ScriptEnd, words: &List<Word>) -> ExitCode {
+    let code = ended(rt, usage, end);
+    let _ = print_cause(rt, words.as_slice(), end);
+    code
 }
 
 /// Prints the line of a status on standard error, and gives the status to the system.
