@@ -1,15 +1,16 @@
 -- How a run of a script ends.
 -- Given: what the input told before and after the run, and what the output did.
-use Rattle.std.specs.Prelude.{◌≡◌, ◌≢◌, ◌⊎◌, ℕ, ◌+◌, List, [], ◌∷◌, length, bytes_eq, not, ◌&&◌, Bool, true, false, All, ◌++◌, if◌then◌else◌, Option, Some, None, IfSome, codes}
+use Rattle.std.specs.Prelude.{◌≡◌, ◌≢◌, ◌⊎◌, ℕ, ◌+◌, List, [], ◌∷◌, length, bytes_eq, not, ◌&&◌, Bool, All, ◌++◌, if◌then◌else◌, Option, Some, None, IfSome, codes}
 use Rattle.cal_base.specs.declared.stream.Sink.{Ghosts as SinkMembers}
 use Rattle.cal_base.specs.declared.stream.Source.{Ghosts as SourceMembers}
-use Rattle.cal_base.specs.World.Outside.{Rose, Takes, Adds}
+use Rattle.cal_base.specs.World.Outside.{Takes, Adds}
 use Rattle.cal_model.specs.State.ServerState.{ServerState}
 use Rattle.cal_model.specs.Transcripts.ScriptFrames.{Frame as ScriptFrame, frames_text, IsFrame, IsCutInto}
 use Rattle.cal_model.specs.Transcripts.Transcript.{Standing, Follows}
 use Rattle.cal_model.specs.Transcripts.TranscriptLaws.{Leads}
 use Rattle.cal_model.specs.Users.UsersFile.{Users}
 use Rattle.cal_script.specs.AnsweredFrames.{BrokeAmong}
+use Rattle.cal_script.specs.Answering.{Breaks}
 use Rattle.cal_script.specs.FrameHeads.{IsFrameStart}
 use Rattle.cal_script.specs.Standings.{standing_in}
 use Rattle.cal_script.specs.declared.running.FrameEnd.{FrameEnd}
@@ -138,7 +139,7 @@ abbrev pub HasEndedOn : {X : Type 0} → Users → ServerState → ServerState �
 HasEndedOn users before after (End ended) told = HasEnded (IsPrintedFrom users (standing_in before) after) (IsPrintedInPartFrom users (standing_in before)) ended told
 HasEndedOn users before after (Broken fault) told = BrokeOff users (standing_in before) told
 
--- whether the desk is broken does not change, unless it told its fault: then it is, and it was so before or a fault was counted
+-- whether the desk is broken does not change, unless it told its fault
 abbrev pub IsLeft : {X : Type 0} → FramesOn X → Bool → ℕ → Bool → ℕ → Type 0
 IsLeft (End ended) before count after counted = after ≡ before
-IsLeft (Broken fault) before count after counted = (after ≡ true) × (before ≡ false → Rose count counted)
+IsLeft (Broken fault) before count after counted = Breaks before count after counted

@@ -88,7 +88,9 @@ fn serve_under<B: Desk, L: Link, C: Clock, R: Wait, G: Ledger>(
     let mut steps = Steps::<G>::open(blank);
     let mut turns = ReservedList::new(context.alloc);
     let mut wire = Wire::new(context.alloc);
-    let stop = serve_new(context, pass, &mut wire, &mut turns, link, clock, &mut steps);
+    let stop = serve_new(
+        context, pass, &mut wire, &mut turns, link, clock, &mut steps,
+    );
     end_with(stop, turns)
 }
 
