@@ -1,5 +1,5 @@
 -- A session goes on by an answer, or stops at one: its reply was written, or a front of it; or the desk broke.
-use Rattle.std.proofs.Common.{◌≡◌, ℕ, ◌+◌, ◌<◌, ◌≤◌, ◌⊎◌, inl, inr, List, [], ◌∷◌, ◌++◌, length, take, arith, refl, sym, ap, subst, ◌∙◌, true, false, Option, Some}
+use Rattle.std.proofs.Common.{◌≡◌, ℕ, ◌+◌, ◌<◌, ◌≤◌, ◌⊎◌, inl, inr, List, [], ◌∷◌, ◌++◌, length, take, arith, refl, sym, ap, subst, ◌∙◌, true, false, Some}
 use Rattle.std.specs.Prelude.{ℤ, Result, Ok, Err}
 use Rattle.std.proofs.lemmas.List.{append-nil, append_assoc, length-append, length-take-le}
 use Rattle.cal_base.specs.World.Outside.{Takes, Adds}
@@ -32,7 +32,7 @@ use Rattle.cal_session.specs.declared.served.Served.{Served}
 use Rattle.cal_session.specs.declared.served.How.{How}
 use Rattle.cal_session.specs.declared.served.How.TheVariants.{Closed, CutInRequest, Limit, WireRefused, ReadFault, WriteFault, NoMemory}
 use Rattle.cal_session.proofs.SessionLaws.{seen_further, session_more, run_more, run_refused, all_front, answered_some, answered_before, answered_all, rose_since}
-use Rattle.cal_session.proofs.StepLemmas.{adds_on, replies_further, map_further, map_len, looks_on}
+use Rattle.cal_session.proofs.StepLemmas.{replies_further, map_further, map_len, looks_on}
 use Rattle.cal_session.proofs.StreamLemmas.{open_parts, served_closed, spells_more, spells_on, still_open}
 use Rattle.cal_session.proofs.TurnLaws.{session_later}
 

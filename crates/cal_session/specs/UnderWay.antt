@@ -5,7 +5,7 @@ use Rattle.http_wire.specs.Wires.{Stands}
 use Rattle.http_wire.specs.declared.wire.Wire.{Wire}
 use Rattle.cal_model.specs.Streams.StreamRequests.{Spells, Front, front, idle, cut}
 use Rattle.cal_model.specs.Transcripts.ConnectionAnswers.{is_open}
-use Rattle.cal_session.specs.Connections.{requests_of, replies_of}
+use Rattle.cal_session.specs.Connections.{requests_of}
 use Rattle.cal_session.specs.SessionStates.{Environment, SessionState, HasSeenMore}
 use Rattle.cal_session.specs.Sessions.{whole_exchange, HasRun, HasServed, HasBroken}
 use Rattle.cal_session.specs.Turns.{Answer, seen_behind}
