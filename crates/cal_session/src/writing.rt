@@ -4,6 +4,7 @@ ghost use Rattle.cal_base.specs.World.Outside.{IsMoment};
 ghost use Rattle.cal_model.specs.Replies.Statuses.{reason};
 ghost use Rattle.cal_model.specs.Replies.WireReplies.{answer_octets, fault_octets};
 ghost use Rattle.cal_model.specs.Streams.WireLimits.{request_limit};
+ghost use Rattle.cal_session.specs.SessionStates.{link_told};
 ghost use Rattle.cal_session.specs.WrittenReplies.{IsSent};
 
 use crate::served::How;
@@ -31,7 +32,7 @@ pub(crate) fn send_reply<L: Link>(
     requires before { before < request_limit }
     requires moment { IsMoment moment }
     requires known { 0 < length (reason reply.now.status) }
-    ensures sent { IsSent (answer_octets before wire.now reply.now moment) (L.written link.old) (L.written link.new) (L.faults link.old) (L.faults link.new) result }
+    ensures sent { IsSent (answer_octets before wire.now reply.now moment) (link_told L.Link link.old) (link_told L.Link link.new) result }
     ensures left_kept { L.left link.new ≡ L.left link.old }
     ensures allowance { L.allowance link.new ≡ L.allowance link.old }
     ensures never_falls { L.faults link.old ≤ L.faults link.new }
@@ -58,7 +59,7 @@ pub(crate) fn send_fault<L: Link>(
     link: &mut L,
 ) -> Option<How>
     requires moment { IsMoment moment }
-    ensures sent { IsSent (fault_octets why moment) (L.written link.old) (L.written link.new) (L.faults link.old) (L.faults link.new) result }
+    ensures sent { IsSent (fault_octets why moment) (link_told L.Link link.old) (link_told L.Link link.new) result }
     ensures left_kept { L.left link.new ≡ L.left link.old }
     ensures allowance { L.allowance link.new ≡ L.allowance link.old }
     ensures never_falls { L.faults link.old ≤ L.faults link.new }
@@ -71,7 +72,7 @@ pub(crate) fn send_fault<L: Link>(
 
 /// Writes octets.
 fn send<L: Link>(octets: &[u8], link: &mut L) -> Option<How>
-    ensures sent { IsSent octets.now (L.written link.old) (L.written link.new) (L.faults link.old) (L.faults link.new) result }
+    ensures sent { IsSent octets.now (link_told L.Link link.old) (link_told L.Link link.new) result }
     ensures left_kept { L.left link.new ≡ L.left link.old }
     ensures allowance { L.allowance link.new ≡ L.allowance link.old }
     ensures never_falls { L.faults link.old ≤ L.faults link.new }

@@ -13,7 +13,7 @@ use Rattle.cal_book.specs.EventSteps.{state_behind}
 use Rattle.cal_session.specs.KeptBooks.{KeptState, IsKeptOf, LeavesAllOrButLast}
 use Rattle.cal_session.specs.Loading.{HasTaken, IsReady}
 use Rattle.cal_script.specs.EnteredRequests.{IsEnteredBy}
-use Rattle.cal_script.specs.ScriptEnds.{HasEndedOn, IsLeft}
+use Rattle.cal_script.specs.ScriptEnds.{HasEndedOn, IsLeft, RunTold}
 use Rattle.cal_script.specs.declared.running.FramesOn.{FramesOn}
 use Rattle.cal_script.specs.declared.running.FramesOn.TheVariants.{End, Broken}
 use Rattle.caldav_server.specs.KeptRuns.{StoodFor, IsKeptWith, IsAnswered, IfBroken}
@@ -80,24 +80,24 @@ served_from past users disk kept status now ready left = record { journal = kept
 -- frames that were answered at a kept book
 
 -- what is said of them is so from the state of the one journal to that of the other
-pub answered : {D X : Type 0} (past : D → Option Past) (users : Users) (before now : KeptState D) (ended : FramesOn X) (input input_after written written_after : Option (List ℕ)) (count counted : ℕ)
+pub answered : {D X : Type 0} (past : D → Option Past) (users : Users) (before now : KeptState D) (ended : FramesOn X) (told : RunTold) (count counted : ℕ)
     → before.book.users ≡ users → now.book.users ≡ users → before.keeper.broken ≡ false
-    → HasEndedOn users (state_in before.book) (state_in now.book) ended input input_after written written_after
-    → IsEnteredBy users input before.book.work.journal now.book.work.journal → IsLegal (directory_of users) now.book.work.journal
+    → HasEndedOn users (state_in before.book) (state_in now.book) ended told
+    → IsEnteredBy users told.left before.book.work.journal now.book.work.journal → IsLegal (directory_of users) now.book.work.journal
     → IsLeft ended before.keeper.broken count now.keeper.broken counted → IsKeptOf past now.book now.keeper
-    → IsAnswered users before.book.work.journal (past now.keeper.disk) ended input input_after written written_after
-answered {D} {X} past users before now (End ended) input input_after written written_after count counted e f unbroken h entered legal left kept = (
+    → IsAnswered users before.book.work.journal (past now.keeper.disk) ended told
+answered {D} {X} past users before now (End ended) told count counted e f unbroken h entered legal left kept = (
   now.book.work.journal,
   record { entered = entered; legal = legal },
   kept_with past users now f kept (left ∙ unbroken),
-  subst (λ (known : Users). HasEndedOn {X = X} users (state_behind users before.book.work.journal) (state_behind known now.book.work.journal) (End ended) input input_after written written_after) f
-      (subst (λ (known : Users). HasEndedOn {X = X} users (state_behind known before.book.work.journal) (state_in now.book) (End ended) input input_after written written_after) e h),
+  subst (λ (known : Users). HasEndedOn {X = X} users (state_behind users before.book.work.journal) (state_behind known now.book.work.journal) (End ended) told) f
+      (subst (λ (known : Users). HasEndedOn {X = X} users (state_behind known before.book.work.journal) (state_in now.book) (End ended) told) e h),
 )
-answered {D} {X} past users before now (Broken fault) input input_after written written_after count counted e f unbroken h entered legal left kept = (
+answered {D} {X} past users before now (Broken fault) told count counted e f unbroken h entered legal left kept = (
   now.book.work.journal,
   record { entered = entered; legal = legal },
   crash_leaves past users now f kept left.0,
-  subst (λ (known : Users). HasEndedOn {X = X} users (state_behind known before.book.work.journal) (state_in now.book) (Broken fault) input input_after written written_after) e h,
+  subst (λ (known : Users). HasEndedOn {X = X} users (state_behind known before.book.work.journal) (state_in now.book) (Broken fault) told) e h,
 )
 
 -- a fault was counted where one was told

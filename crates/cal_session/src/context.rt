@@ -6,7 +6,7 @@ use turn_lock::{Keeps, TurnLock};
 
 /// The runtime, the lock round the desk, and the users.
 #[derive(Drop)]
-pub(crate) struct Hall<'a, R, B: Keeps> {
+pub(crate) struct Context<'a, R, B: Keeps> {
     pub(crate) rt: &'a R,
     pub(crate) alloc: Global,
     pub(crate) lock: &'a TurnLock<B>,
