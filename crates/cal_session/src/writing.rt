@@ -85,7 +85,7 @@ fn send<L: Link>(octets: &[u8], link: &mut L) -> Option<How>
 
 /// Writes a head and the content behind it.
 fn send_both<L: Link>(head: &[u8], content: &[u8], link: &mut L) -> Option<How>
-    ensures sent { IsSent (head.now ++ content.now) (L.written link.old) (L.written link.new) (L.faults link.old) (L.faults link.new) result }
+    ensures sent { IsSent (head.now ++ content.now) (link_told L.Link link.old) (link_told L.Link link.new) result }
     ensures left_kept { L.left link.new ≡ L.left link.old }
     ensures allowance { L.allowance link.new ≡ L.allowance link.old }
     ensures never_falls { L.faults link.old ≤ L.faults link.new }
