@@ -1,16 +1,16 @@
 -- A journal file that is written whole, whatever its header and its payloads are.
-use Rattle.std.proofs.Common.{◌≡◌, ◌⊎◌, inl, inr, ⊎_elim, ℕ, ◌+◌, ◌-◌, ◌<◌, ◌≤◌, Bool, true, false, IsTrue, List, [], ◌∷◌, ◌++◌, length, get_or, slice_get, take, drop, flat_map, Option, Some, None, option_map, refl, sym, ◌∙◌, ap, subst, arith, length-append, length-take, append_assoc, take-append-drop}
+use Rattle.std.proofs.Common.{◌≡◌, ◌⊎◌, inl, inr, ⊎_elim, ℕ, ◌+◌, ◌-◌, ◌<◌, ◌≤◌, Bool, true, false, List, [], ◌∷◌, ◌++◌, length, get_or, take, drop, flat_map, Option, Some, None, option_map, refl, sym, ◌∙◌, ap, subst, arith, length-append, length-take, append_assoc, take-append-drop}
 use Rattle.std.specs.Int.{w32, to_be_bytes}
 use Rattle.std.proofs.lemmas.Bool.{false≢true, cases_eq}
 use Rattle.std.proofs.lemmas.List.{append-nil, get_or-take, get_or-append-add}
 use Rattle.std.proofs.lemmas.List.Prefix.{front_from_reads, at_from_reads}
-use Rattle.cal_keeper.specs.Disks.CrashModel.{Past, synced, reading, IsTorn, MayLeave, moment, LeftSince, LeavesOnly, with_piece}
+use Rattle.cal_keeper.specs.Disks.CrashModel.{Past, synced, reading, IsTorn, moment, LeftSince, LeavesOnly, with_piece}
 use Rattle.cal_keeper.specs.Files.Drafts.{blank, StaysBlank, IsDraft}
 use Rattle.cal_keeper.specs.Files.Headers.{mark}
 use Rattle.cal_keeper.specs.Files.Opening.{IsNoJournal}
 use Rattle.cal_keeper.specs.Files.Payloads.{long_text}
 use Rattle.cal_keeper.specs.Files.RecordForm.{counted_payload, open_record, front_of, IsFile, IsKept}
-use Rattle.cal_keeper.specs.Steps.Drafting.{LaysBlank, IsNoneOrFile, SealsDraft, Seals}
+use Rattle.cal_keeper.specs.Steps.Drafting.{LaysBlank, IsNoneOrFile, Seals}
 use Rattle.cal_keeper.specs.Steps.WriteRuns.{IsSpared, Spares, PutsText, Puts, ReplacesPiece, Replaces}
 use Rattle.cal_keeper.proofs.Commits.{only_now, front_longer}
 use Rattle.cal_keeper.proofs.Gates.{get_same}
