@@ -132,6 +132,9 @@ fn print_journal_fault(rt: &HostRuntime, path: &str) -> io::Result<()> {
         Err(error) if error.kind() == io::ErrorKind::WouldBlock => {
             eprintln!(rt; "{path}: another program has locked it")
         }
+        Err(error) if error.kind() == io::ErrorKind::Unsupported => {
+            eprintln!(rt; "{path}: is no file")
+        }
         Err(error) => eprintln!(rt; "{path}: {error}"),
     }
 }
