@@ -14,8 +14,3 @@ kept_near FreeBusy c near = near
 kept_near Event c near = All-nil IsNearStored
 kept_near Todo c near = All-nil IsNearStored
 kept_near Journal c near = All-nil IsNearStored
-
-pub stored_next : (out new all : List BusyTime) (c : Component) (cs : List Component) → new ≡ out ++ flat_map times_of_stored (stored_periods c.kind c) → out ++ stored_times (c ∷ cs) ≡ all → new ++ stored_times cs ≡ all
-stored_next out new all c cs e so_far =
-    ap (λ ts. ts ++ stored_times cs) e ∙ append_assoc out (flat_map times_of_stored (stored_periods c.kind c)) (stored_times cs)
-    ∙ ap (λ ts. out ++ ts) (sym (flat_map-append times_of_stored (stored_periods c.kind c) (flat_map (λ (x : Component). stored_periods x.kind x) cs))) ∙ so_far
