@@ -24,12 +24,12 @@ WAIT = 120  # seconds for what takes a moment on a quiet machine
 ONE_EACH = "sessions 4\nrequests 4\naccepted 4\noctets 616\nsha256 b893486846227676cde4933e4594d6e4c7b4048c40a5bffafe6cc26d9f740cb7\n"
 TEN_EACH = "sessions 3\nrequests 36\naccepted 36\noctets 22483\nsha256 7d0ed65fc6f23fbb5e572165155820aa4017f813b900c1383a1a36af986a11a9\n"
 
-SEE_HELP = "see caldav_server --help, and caldav_server COMMAND --help\n"
-USAGE_OF_SERVE, USAGE_OF_LOAD = f"usage: caldav_server serve\n{SEE_HELP}", f"usage: caldav_server load\n{SEE_HELP}"
-USAGE_OF_EXPAND, USAGE_OF_CHECK = f"usage: caldav_server expand\n{SEE_HELP}", f"usage: caldav_server check\n{SEE_HELP}"
-USAGE_OF_SLOT, USAGE_OF_SCRIPT = f"usage: caldav_server slot\n{SEE_HELP}", f"usage: caldav_server script --users FILE\n{SEE_HELP}"
-# What is told of a bad line behind the good one, and of a file that is not there.
-BAD_LINE = f"users file: bad line at octet {len(USERS)}\nbad: line 2\n"
+USAGE_OF_SERVE, USAGE_OF_LOAD = "usage: caldav_server serve\n", "usage: caldav_server load\n"
+USAGE_OF_EXPAND, USAGE_OF_CHECK = "usage: caldav_server expand\n", "usage: caldav_server check\n"
+USAGE_OF_SLOT, USAGE_OF_SCRIPT = "usage: caldav_server slot\n", "usage: caldav_server script --users FILE\n"
+# What is told of a bad line behind the good one; and what a server says besides of that, and of a file that is not there.
+BAD_LINE = f"users file: bad line at octet {len(USERS)}\n"
+SECOND_LINE = "bad: line 2\n"
 NO_FILE = "none: No such file or directory (os error 2)\n"
 AT = "--users users --listen 127.0.0.1:1 --connections 1"
 HEADER = journals.header(["alice"], [])
@@ -111,19 +111,19 @@ ENDS = [
     ("serve --users users --listen 127.0.0.1:1 --connections=+1", 2, "", USAGE_OF_SERVE),
     ("serve --users users --listen 127.0.0.1:1 --connections=01", 2, "", USAGE_OF_SERVE),
     ("serve --users none --listen 127.0.0.1:1 --connections 1", 4, "", f"input fault\n{NO_FILE}"),
-    ("serve --users bad --listen 127.0.0.1:1 --connections 1", 3, "", BAD_LINE),
+    ("serve --users bad --listen 127.0.0.1:1 --connections 1", 3, "", BAD_LINE + SECOND_LINE),
     ("serve --users users --listen nowhere --connections 1", 4, "", "input fault\nnowhere: invalid socket address\n"),
     (f"serve {AT} --journal", 2, "", USAGE_OF_SERVE),
     (f"serve {AT} --journal never --journal=never", 2, "", USAGE_OF_SERVE),
     (f"serve {AT} --journal never --sessions 0", 2, "", USAGE_OF_SERVE),
     ("serve --users none --journal never --listen 127.0.0.1:1 --connections 1", 4, "", f"input fault\n{NO_FILE}"),
-    ("serve --users bad --journal=never --listen 127.0.0.1:1 --connections 1", 3, "", BAD_LINE),
+    ("serve --users bad --journal=never --listen 127.0.0.1:1 --connections 1", 3, "", BAD_LINE + SECOND_LINE),
     (f"serve {AT} --journal none/journal", 8, "", f"journal fault\n{NO_FILE}"),
     (f"serve {AT} --journal .", 8, "", "journal fault\n.: is a directory\n"),
     *[(f"serve {AT} --journal={name}", 9, "", f"journal: refused at octet {place}\n{name}: {cause}\n") for name, (_, place, cause) in REFUSED.items()],
-    *[(f"script --users users --journal {name}", 9, "", f"journal: refused at octet {place}\n{name}: {cause}\n") for name, (_, place, cause) in REFUSED.items()],
-    ("script --users users --journal none/journal", 8, "", f"journal fault\n{NO_FILE}"),
-    ("script --users none --journal never", 4, "", f"input fault\n{NO_FILE}"),
+    *[(f"script --users users --journal {name}", 9, "", f"journal: refused at octet {place}\n") for name, (_, place, _) in REFUSED.items()],
+    ("script --users users --journal none/journal", 8, "", "journal fault\n"),
+    ("script --users none --journal never", 4, "", "input fault\n"),
     ("script --users users --journal", 2, "", USAGE_OF_SCRIPT),
     ("script --users users --journal=never", 2, "", USAGE_OF_SCRIPT),
     ("load --number 1", 0, ONE_EACH, ""),
@@ -143,8 +143,8 @@ ENDS = [
     (f"expand --file x.ics --zone y.ics {MARCH}", 12, "", "x.ics: not a calendar at octet 0\n"),
     (f"expand --file one.ics --zone y.ics {MARCH}", 12, "", "y.ics: not a calendar at octet 0\n"),
     (f"expand --file x.ics --zone long.ics {MARCH}", 12, "", "long.ics: too long\n"),
-    (f"expand --file none --zone long.ics {MARCH}", 4, "", f"input fault\n{NO_FILE}"),
-    (f"expand --file one.ics --zone none {MARCH}", 4, "", f"input fault\n{NO_FILE}"),
+    (f"expand --file none --zone long.ics {MARCH}", 4, "", "input fault\n"),
+    (f"expand --file one.ics --zone none {MARCH}", 4, "", "input fault\n"),
     ("expand --file one.ics --from 20250301T000000Z", 2, "", USAGE_OF_EXPAND),
     ("expand --file one.ics --from 20250301T000000Z --to 20250301T000000Z", 2, "", USAGE_OF_EXPAND),
     ("expand --file one.ics --from 20250301T000000 --to 20250401T000000Z", 2, "", USAGE_OF_EXPAND),
@@ -158,7 +158,7 @@ ENDS = [
     ("check --file two.ics", 12, "", "two.ics: not one resource: 5\n"),
     ("check --file early.ics", 12, "", "early.ics: date outside\n"),
     ("check --file minutes.ics", 12, "", "minutes.ics: too many instances\n"),
-    ("check --file none", 4, "", f"input fault\n{NO_FILE}"),
+    ("check --file none", 4, "", "input fault\n"),
     ("check", 2, "", USAGE_OF_CHECK),
     ("check --file one.ics --zone meet.ics", 2, "", USAGE_OF_CHECK),
     (f"slot {LOOKS} {OWN}", 0, "free 20250310T080000Z 20250310T090000Z\n" + BEHIND, ""),
@@ -168,18 +168,18 @@ ENDS = [
     (f"slot {LOOKS} {OWN} /calendars/alice/none/", 10, "", "slot: refused word 2\n"),
     (f"slot {LOOKS} / {OWN}", 10, "", "slot: refused word 1\n"),
     (f"slot {LOOKS.replace('as alice', 'as nobody')} {OWN}", 10, "", "slot: refused word 0\n"),
-    (f"slot {LOOKS.replace('users users', 'users none')} {OWN}", 4, "", f"input fault\n{NO_FILE}"),
+    (f"slot {LOOKS.replace('users users', 'users none')} {OWN}", 4, "", "input fault\n"),
     (f"slot {LOOKS.replace('users users', 'users bad')} {OWN}", 3, "", BAD_LINE),
-    (f"slot {LOOKS.replace('busy', 'none/journal')} {OWN}", 9, "", f"journal: refused at octet 0\nnone/journal: {NO_FILE[6:]}"),
-    (f"slot {LOOKS.replace('busy', 'never')} {OWN}", 9, "", f"journal: refused at octet 0\nnever: {NO_FILE[6:]}"),
-    *[(f"slot {LOOKS.replace('busy', name)} {OWN}", 9, "", f"journal: refused at octet {place}\n{name}: {cause}\n") for name, (_, place, cause) in REFUSED.items()],
+    (f"slot {LOOKS.replace('busy', 'none/journal')} {OWN}", 9, "", "journal: refused at octet 0\n"),
+    (f"slot {LOOKS.replace('busy', 'never')} {OWN}", 9, "", "journal: refused at octet 0\n"),
+    *[(f"slot {LOOKS.replace('busy', name)} {OWN}", 9, "", f"journal: refused at octet {place}\n") for name, (_, place, _) in REFUSED.items()],
     (f"slot {LOOKS}", 2, "", USAGE_OF_SLOT),
     (f"slot {LOOKS.replace('60', '0')} {OWN}", 2, "", USAGE_OF_SLOT),
     (f"slot {LOOKS.replace('60', '100001')} {OWN}", 2, "", USAGE_OF_SLOT),
     (f"slot {LOOKS.replace('--most 5', '--most 101')} {OWN}", 2, "", USAGE_OF_SLOT),
     (f"slot {LOOKS.replace('130000', '080000')} {OWN}", 2, "", USAGE_OF_SLOT),
     (f"slot {LOOKS}{33 * (' ' + OWN)}", 2, "", USAGE_OF_SLOT),
-    ("script --users none", 4, "", f"input fault\n{NO_FILE}"),
+    ("script --users none", 4, "", "input fault\n"),
     ("script --users bad", 3, "", BAD_LINE),
     ("script", 2, "", USAGE_OF_SCRIPT),
     ("", 2, "", USAGE_OF_SCRIPT),
@@ -398,7 +398,7 @@ def keeps(program):
         FIRST.look(asked(server, FIRST.asked), begun)
         locked = "journal fault\nkept: another program has locked it\n"
         program.has_to_end(f"serve {AT} --journal kept".split(), 8, "", locked)
-        program.has_to_end("script --users users --journal kept".split(), 8, "", locked)
+        program.has_to_end("script --users users --journal kept".split(), 8, "", "journal fault\n")
         FIRST.look(asked(server, FIRST.query), begun, FIRST.found)
     shown_again(program, "kept", FIRST)
     killed = Server(program, 9, *KEPT, "kept")

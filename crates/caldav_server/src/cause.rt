@@ -1,4 +1,4 @@
-//! The cause of a status, where its line leaves several.
+//! The cause of a server's status, where its line leaves several.
 
 use cal_base::{FileFault, Files, StdFiles, Word};
 use cal_script::ScriptEnd;
@@ -10,11 +10,10 @@ use std::{fs, io};
 /// How many octets of a users file are read.
 const USERS_LIMIT: u64 = 65_536;
 
-/// Prints which cause of its status an end had, where a second look at the files and the address of
-/// the words shows one.
+/// Prints which cause of its status the end of a server had, where a second look at the files and the
+/// address of the words shows one.
 pub(crate) fn print_cause(rt: &HostRuntime, words: &[Word], end: ScriptEnd) -> io::Result<()> {
     match end.status {
-        2 => eprintln!(rt; "see caldav_server --help, and caldav_server COMMAND --help"),
         3 => print_bad_line(rt, value_of(words, "--users"), end.place),
         4 => print_input_fault(rt, words),
         8 => print_journal_fault(rt, value_of(words, "--journal")),
@@ -79,13 +78,11 @@ fn line_at(octets: &[u8], place: u64) -> u64 {
     line
 }
 
-/// Prints why the first file that cannot be read is not, or else why the address is not listened at.
+/// Prints why the users file cannot be read, or else why the address is not listened at.
 fn print_input_fault(rt: &HostRuntime, words: &[Word]) -> io::Result<()> {
-    'options: for option in ["--users", "--file", "--zone"] {
-        let path = value_of(words, option);
-        if let Err(error) = look_at_file(rt, path) {
-            return eprintln!(rt; "{path}: {error}");
-        }
+    let path = value_of(words, "--users");
+    if let Err(error) = look_at_file(rt, path) {
+        return eprintln!(rt; "{path}: {error}");
     }
     let address = value_of(words, "--listen");
     match look_at_address(rt, address) {

@@ -52,27 +52,28 @@ fn main(rt: HostRuntime) -> ExitCode {
     }
     if word_at(&words, 0) == "serve" {
         let end = end_of_serve(&rt, &rt, &words);
-        return explained(&rt, "serve", end, &words);
+        let status = ended(&rt, "serve", end);
+        let _ = print_cause(&rt, words.as_slice(), end);
+        return status;
     }
     if word_at(&words, 0) == "load" {
         let end = run_load(&rt, rt.alloc(), &words, &mut StdSink::new(&rt));
-        return explained(&rt, "load", end, &words);
+        return ended(&rt, "load", end);
     }
     if word_at(&words, 0) == "slot" {
-        return explained(&rt, "slot", end_of_slot(&rt, &words), &words);
+        return ended(&rt, "slot", end_of_slot(&rt, &words));
     }
     if word_at(&words, 0) == "expand" {
         let mut files = StdFiles::new(&rt);
         let end = run_expand(rt.alloc(), &words, &mut files, &mut StdSink::new(&rt));
-        return told(&rt, "expand", end, &words);
+        return told(&rt, "expand", end);
     }
     if word_at(&words, 0) == "check" {
         let mut files = StdFiles::new(&rt);
         let end = run_check(rt.alloc(), &words, &mut files, &mut StdSink::new(&rt));
-        return told(&rt, "check", end, &words);
+        return told(&rt, "check", end);
     }
-    let end = end_of_script(&rt, &words);
-    explained(&rt, USAGE_OF_SCRIPT, end, &words)
+    ended(&rt, USAGE_OF_SCRIPT, end_of_script(&rt, &words))
 }
 
 /// The end of the command `serve`, which is at a journal file where a word names one.
@@ -215,23 +216,15 @@ fn is_told(rt: &HostRuntime, word: &str, help: &str) -> bool {
     false
 }
 
-/// Prints the line that an end tells on standard error, or else that of its status with its cause, and
-/// gives the status to the system.
-fn told(rt: &HostRuntime, usage: &str, told: ToolEnd, words: &List<Word>) -> ExitCode {
+/// Prints the line that an end tells on standard error, or else that of its status, and gives the status
+/// to the system.
+fn told(rt: &HostRuntime, usage: &str, told: ToolEnd) -> ExitCode {
     if let Ok(line) = str::from_utf8(told.line.as_slice()) {
         if !line.is_empty() {
             let _ = eprintln!(rt; "{line}");
         }
     }
-    explained(rt, usage, told.end, words)
-}
-
-/// Prints the line of a status on standard error, and behind it the cause where that is seen, and gives
-/// the status to the system.
-fn explained(rt: &HostRuntime, usage: &str, end: ScriptEnd, words: &List<Word>) -> ExitCode {
-    let code = ended(rt, usage, end);
-    let _ = print_cause(rt, words.as_slice(), end);
-    code
+    ended(rt, usage, told.end)
 }
 
 /// Prints the line of a status on standard error, and gives the status to the system.
