@@ -14,7 +14,8 @@ one account asks for more than that, each time of another server:
 - `bodies`: sixteen bodies at once, whose elements have a long namespace.
 
 What has to hold: some request is answered 503, none is left without an answer, the server is there at the end, and then it
-answers an ordinary request as before; `zones` and `lines` also after a DELETE of one object. FOLDER is a memory group of the
+answers an ordinary request as before; `zones` and `lines` also after a DELETE of one object. Of `replies` a connection may
+be closed in place of 503: that is so where a reply was made and there is no room to write it, for which it is copied once. FOLDER is a memory group of the
 system (cgroup) that the server is put into; with `--data 0` there is no limit but its own, and what becomes of the server
 is told. It needs Linux and Python 3 alone; build the program first by `rt run` in crates/caldav_server.
 """
@@ -37,12 +38,7 @@ class Server:
             file.write(USERS)
         words = [options.program, "serve", "--users", f"{folder}/users", "--journal", f"{folder}/journal", "--listen", f"127.0.0.1:{self.address[1]}"]
         how = {"stdin": subprocess.DEVNULL, "stderr": subprocess.PIPE, "env": {**os.environ, "MALLOC_ARENA_MAX": options.arenas}}
-        self.process = subprocess.Popen([*words, "--sessions", "16", "--workers", "2"], **how)
-        if options.within:
-            with open(os.path.join(options.within, "cgroup.procs"), "w") as file:
-                file.write(f"{self.process.pid}")
-        if options.data:
-            resource.prlimit(self.process.pid, resource.RLIMIT_DATA, (options.data, options.data))
+        self.process = subprocess.Popen([*words, "--sessions", "16", "--workers", "2"], preexec_fn=lambda: limited(options), **how)
         if not self.process.stderr.readline().startswith(b"listening"):
             raise OSError("the server does not listen")
         self.told = {}
@@ -86,6 +82,15 @@ class Server:
         time.sleep(2)
         with concurrent.futures.ThreadPoolExecutor(16) as crowd:
             return list(crowd.map(self.read, links))
+
+
+def limited(options):
+    """Puts this process under the limits, before it becomes the server."""
+    if options.within:
+        with open(os.path.join(options.within, "cgroup.procs"), "w") as file:
+            file.write(f"{os.getpid()}")
+    if options.data:
+        resource.setrlimit(resource.RLIMIT_DATA, (options.data, options.data))
 
 
 def until_refused(server, text, most):
@@ -146,7 +151,8 @@ def holds(options, folder, case):
         server.told.clear()
         came = case(server, options)
         told = ", ".join(f"{count} of {status}" for status, count in sorted(server.told.items()))
-        fine = "503" in server.told and "none" not in server.told and "cut" not in server.told
+        closed = {"none"} if case is replies else set()
+        fine = bool(server.told.keys() & {"503", *closed}) and not server.told.keys() & ({"none", "cut"} - closed)
         after = server.ask(MONTH)
         with open(f"/proc/{server.process.pid}/status") as file:
             memory = [int(line.split()[1]) // 1024 for line in file if line.startswith(("VmHWM", "VmData"))]
