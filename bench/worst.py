@@ -502,7 +502,7 @@ def climb(options, users, chance, found):
                 if place not in best or each(one, measure) > each(best[place], measure):
                     best[place] = one
         if len(found) > 5000:
-            found[:] = worst(options, found, 2000)
+            found[:] = worst(found, 2000, 200)
         if tried % 100 == 0:
             print(f"{tried} cases, {used:.0f} s", flush=True)
     print(f"{tried} cases in {used:.0f} s of the server's processor time")
@@ -521,20 +521,16 @@ def next_case(options, chance, best):
             return case
 
 
-def worst(options, found, count):
-    """The worst requests by time and by memory in turn, so many of each family at most."""
-    taken, each_family, told = set(), {}, []
+def worst(found, count, of_each):
+    """The worst requests by time and by memory in turn, so many of each family and method at most."""
+    told, families = {}, {}
     ranks = [sorted(found, key=lambda one: -each(one, measure)) for measure in ("seconds", "most")]
-    for pair in zip(*ranks):
-        for one in pair:
-            key = (one.case, one.what)
-            family = (one.case.family, one.what)
-            if key in taken or each_family.get(family, 0) >= max(options.each, count // 20 if count > options.show else 0):
-                continue
-            taken.add(key)
-            each_family[family] = each_family.get(family, 0) + 1
-            told.append(one)
-    return told[:count]
+    for one in (one for pair in zip(*ranks) for one in pair):
+        family = (one.case.family, one.what)
+        if (one.case, one.what) not in told and families.get(family, 0) < of_each:
+            families[family] = families.get(family, 0) + 1
+            told[one.case, one.what] = one
+    return list(told.values())[:count]
 
 
 def shown(case):
@@ -549,7 +545,7 @@ def show(options, found):
     os.makedirs(options.keep, exist_ok=True)
     print("| | Family | Request, status | Octets | Seconds | us an octet | MB at most | Octets of memory for each |")
     print("|---|---|---|---|---|---|---|---|")
-    for number, one in enumerate(worst(options, found, options.show)):
+    for number, one in enumerate(worst(found, options.show, options.each)):
         print(f"| {number} | {one.case.family} | {one.what} {one.status} | {one.octets} | {one.seconds:.3f} | {each(one, 'seconds') * 1e6:.1f} | {one.most / 1e6:.1f} | {each(one, 'most'):.0f} |")
         with open(os.path.join(options.keep, f"{number}.case"), "w") as file:
             file.write(f"{shown(one.case)}\n\nput {one.case.copies} times:\n{one.case.text}\nasked by {one.case.method}:\n{one.case.body}\n")
