@@ -1,13 +1,11 @@
 -- The stored periods of components, one component after another.
-use Rattle.std.proofs.Common.{◌≡◌, List, ◌∷◌, ◌++◌, ap, ◌∙◌, sym, append_assoc}
-use Rattle.std.specs.Prelude.{All, flat_map}
-use Rattle.std.proofs.lemmas.Grind.{flat_map-append}
+use Rattle.std.specs.Prelude.{All}
 use Rattle.std.proofs.lemmas.List.Elements.{All-nil}
 use Rattle.cal_model.specs.declared.object.Component.{Component}
 use Rattle.cal_model.specs.declared.object.Kind.{Kind}
 use Rattle.cal_model.specs.declared.object.Kind.TheVariants.{Event, Todo, Journal, FreeBusy}
-use Rattle.cal_model.specs.Busy.BusyTimes.{BusyTime, stored_periods, times_of_stored}
-use Rattle.dav_reports.specs.ObjectTimes.{IsNearStored, stored_times}
+use Rattle.cal_model.specs.Busy.BusyTimes.{stored_periods}
+use Rattle.dav_reports.specs.ObjectTimes.{IsNearStored}
 
 pub kept_near : (kind : Kind) (c : Component) → All IsNearStored c.stored_busy → All IsNearStored (stored_periods kind c)
 kept_near FreeBusy c near = near

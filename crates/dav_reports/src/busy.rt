@@ -35,12 +35,7 @@ fn class_of(object: &Object, row: &Row) -> Option<Class>
 }
 
 /// Puts the time of a row behind others, where it makes busy. Floating times are read in the zone.
-fn put_row(
-    object: &Object,
-    row: &Row,
-    zone: &ZoneTable,
-    out: &mut Gathered,
-) -> Result<(), NoMemory>
+fn put_row(object: &Object, row: &Row, zone: &ZoneTable, out: &mut Gathered) -> Result<(), NoMemory>
     requires zone { IsTable zone.now }
     requires near { IsNearRow row.now }
     ensures { OnOk result (Gathers out.old out.new (spec.times_of_row zone.now object.now row.now)) }

@@ -1,4 +1,4 @@
-use Rattle.std.proofs.Common.{◌≡◌, Bool, List, true, false, ◌∷◌, [], sym, ◌∙◌, subst, rules, FitsSigned, w32, to_z-of_z}
+use Rattle.std.proofs.Common.{◌≡◌, List, true, false, ◌∷◌, [], sym, ◌∙◌, subst, rules, FitsSigned, w32, to_z-of_z}
 use Rattle.std.specs.Prelude.{◌&&◌}
 use Rattle.std.proofs.lemmas.Result.{on_ok_weaker}
 use Rattle.cal_model.specs.Busy.BusyTimes.{BusyTime}

@@ -1,4 +1,4 @@
-use Rattle.std.proofs.Common.{ℕ, List, refl, sym, ap, ◌∙◌, arith, map, subst}
+use Rattle.std.proofs.Common.{ℕ, List, sym, ap, ◌∙◌, arith, map, subst}
 use Rattle.std.proofs.lemmas.Result.{IfOk-weaker}
 use Rattle.cal_model.specs.Busy.BusyRuns.{runs}
 use Rattle.cal_model.specs.declared.report.ReportRequest.TheVariants.{FreeBusy}
