@@ -23,7 +23,7 @@ import argparse, concurrent.futures, os, resource, socket, subprocess, sys, temp
 
 sys.path.insert(0, os.path.dirname(os.path.abspath(__file__)))
 sys.dont_write_bytecode = True
-from worst import CALENDAR, HOURLY, KEY, SPACES, TOP, USERS, event, multiget, put, query, request, span, zone
+from worst import CALENDAR, HOURLY, SPACES, TOP, USERS, event, multiget, put, query, request, span, zone
 
 ORDINARY = event("DTSTART:20250310T090000Z", "DURATION:PT1H")
 MONTH = request("REPORT", CALENDAR, query(span("20250301T000000Z", "20250401T000000Z")).encode())
