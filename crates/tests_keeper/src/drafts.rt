@@ -8,7 +8,7 @@ ghost use Rattle.cal_keeper.specs.Principals.{counts_of};
 use crate::cases::{
     Ending, ONE_DELETION, deletion, found_of_stop, is_same, memory_disk, read_octets, three_users,
 };
-use cal_base::{Arc, List, NoMemory, Octets};
+use cal_base::{Arc, NoMemory, Octets};
 use cal_journal::Entry;
 use cal_keeper::{Created, Draft, Drafted, Finished, Keeper, MemoryDisk, begin_draft, create};
 use cal_model::Change;
@@ -16,23 +16,23 @@ use privileges::Users;
 use std::alloc::Global;
 use std::test::Fail;
 
-/// The entry of a MKCALENDAR without settings, by the second of some users.
-fn making(alloc: Global, users: &Users) -> Result<Entry, NoMemory>
+/// The entry of a deletion, by the first of some users.
+fn first_deletion(alloc: Global, users: &Users) -> Result<Entry, NoMemory>
     requires { 1 < length users.now.people }
     ensures { IfOk result (λ entry. HasForm (counts_of users.now) (kept_entry entry)) }
 {
     let name = Octets::of(alloc, b"work".as_slice())?;
     Ok(Entry {
         session: 7,
-        who: 1,
+        who: 0,
         moment: 1_741_500_000,
-        change: Change::Make(1, Arc::new(alloc, name)?, List::new(alloc), 300),
-        status: 201,
+        change: Change::DeleteCalendar(0, Arc::new(alloc, name)?),
+        status: 204,
     })
 }
 
-/// The entry of an ACL without grants, by the second of some users.
-fn granting(alloc: Global, users: &Users) -> Result<Entry, NoMemory>
+/// The entry of a deletion in the home of another user.
+fn second_deletion(alloc: Global, users: &Users) -> Result<Entry, NoMemory>
     requires { 1 < length users.now.people }
     ensures { IfOk result (λ entry. HasForm (counts_of users.now) (kept_entry entry)) }
 {
@@ -41,8 +41,8 @@ fn granting(alloc: Global, users: &Users) -> Result<Entry, NoMemory>
         session: 8,
         who: 1,
         moment: 1_741_550_000,
-        change: Change::Acl(1, Arc::new(alloc, name)?, List::new(alloc), 10),
-        status: 200,
+        change: Change::DeleteCalendar(0, Arc::new(alloc, name)?),
+        status: 204,
     })
 }
 
@@ -74,11 +74,11 @@ fn add_three(
     requires unbroken { draft.broken ≡ false }
 {
     let mut draft = draft;
-    let made = making(alloc, users)?;
-    let granted = granting(alloc, users)?;
-    let deleted = deletion(alloc, users)?;
-    let all = add_all(&mut draft, &made, &granted, &deleted);
-    drop((made, granted, deleted));
+    let first = first_deletion(alloc, users)?;
+    let second = second_deletion(alloc, users)?;
+    let third = deletion(alloc, users)?;
+    let all = add_all(&mut draft, &first, &second, &third);
+    drop((first, second, third));
     if !all {
         return Ok((draft.into_disk(), false));
     }
@@ -134,11 +134,11 @@ fn append_three(
     requires unbroken { keeper.broken ≡ false }
 {
     let mut keeper = keeper;
-    let made = making(alloc, users)?;
-    let granted = granting(alloc, users)?;
-    let deleted = deletion(alloc, users)?;
-    let all = append_all(&mut keeper, &made, &granted, &deleted);
-    drop((made, granted, deleted));
+    let first = first_deletion(alloc, users)?;
+    let second = second_deletion(alloc, users)?;
+    let third = deletion(alloc, users)?;
+    let all = append_all(&mut keeper, &first, &second, &third);
+    drop((first, second, third));
     Ok((keeper.into_disk(), all))
 }
 
