@@ -1,4 +1,4 @@
-use Rattle.std.proofs.Common.{◌∙◌, ap, inl, inr, arith, Err}
+use Rattle.std.proofs.Common.{◌∙◌, ap, inl, inr, arith, subst, Err}
 use Rattle.cal_script.specs.ScriptEnds.{run_told}
 use Rattle.cal_script.specs.UsersTaken.{AreUsersAt, IfTold, IsRefusedAt}
 use Rattle.command_words.specs.JournalWords.{kept_users_path}

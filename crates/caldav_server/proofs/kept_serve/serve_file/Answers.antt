@@ -1,4 +1,4 @@
-use Rattle.std.proofs.Common.{inl, inr}
+use Rattle.std.proofs.Common.{◌∙◌, inl, inr, ap, Err}
 use Rattle.caldav_server.proofs.KeptServing.{known_in_all}
 use Rattle.caldav_server.proofs.kept_serve.serve_file.Goals as goal
 
@@ -24,3 +24,7 @@ returns-in-Ok-clause-door_behind_journal g c = elim c.serve_at_journal.ensures.d
 
 pub returns-in-Ok-clause-served : goal.returns-in-Ok-clause-served
 returns-in-Ok-clause-served g c = λ is. (c.in-Ok.users, c.in-Ok.ensures.taken, c.serve_at_journal.ensures.served is)
+
+pub returns-in-Err-Line-clause-users_refused : goal.returns-in-Err-Line-clause-users_refused
+returns-in-Err-Line-clause-users_refused g c = λ status.
+    rw c.in-Err-Line.field-0-is (c.take_users.ensures.refused c.in-Err-Line.place (c.in-Err-Line.is ∙ ap (λ why. Err why) c.in-Err-Line.field-0-is))

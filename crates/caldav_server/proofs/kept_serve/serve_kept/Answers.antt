@@ -1,4 +1,4 @@
-use Rattle.std.proofs.Common.{ℕ, ◌<◌, tt, subst}
+use Rattle.std.proofs.Common.{ℕ, ◌<◌, subst}
 use Rattle.std.specs.Prelude.{Err}
 use denote.Param.Send.{sendable}
 use Rattle.cal_session.proofs.KeptMoves.{kept_send}

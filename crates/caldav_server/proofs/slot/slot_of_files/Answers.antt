@@ -1,4 +1,4 @@
-use Rattle.std.proofs.Common.{refl, inl, inr, arith}
+use Rattle.std.proofs.Common.{◌∙◌, refl, inl, inr, arith, ap, Err}
 use Rattle.std.specs.Prelude.{◌⊎◌}
 use Rattle.caldav_server.proofs.SlotFiles.{known_in_all, not_early, only_read}
 use Rattle.caldav_server.proofs.slot.slot_of_files.Goals as goal
@@ -32,3 +32,7 @@ returns-in-Err-Files-clause-only_read g c = inr (only_read _ _ (inl refl))
 
 pub returns-in-Err-NoMemory-clause-only_read : goal.returns-in-Err-NoMemory-clause-only_read
 returns-in-Err-NoMemory-clause-only_read g c = inr (only_read _ _ (inl refl))
+
+pub returns-in-Err-Line-clause-users_refused : goal.returns-in-Err-Line-clause-users_refused
+returns-in-Err-Line-clause-users_refused g c = λ status.
+    rw c.in-Err-Line.field-0-is (c.take_users.ensures.refused c.in-Err-Line.place (c.in-Err-Line.is ∙ ap (λ why. Err why) c.in-Err-Line.field-0-is))
