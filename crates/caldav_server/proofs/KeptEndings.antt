@@ -1,6 +1,6 @@
 -- What the status of a script at a journal file says, by the end of its run.
-use Rattle.std.proofs.Common.{◌≡◌, ℕ, ◌<◌, ◌≤◌, List, refl, subst, arith, inl, inr}
-use Rattle.std.specs.Prelude.{Option, Some, IfSome, ◌⊎◌}
+use Rattle.std.proofs.Common.{◌≡◌, ℕ, ◌<◌, ◌≤◌, refl, arith, inl, inr}
+use Rattle.std.specs.Prelude.{Option, ◌⊎◌}
 use Rattle.cal_model.specs.Users.UsersFile.{Users}
 use Rattle.cal_keeper.specs.Disks.CrashModel.{Past}
 use Rattle.cal_script.specs.ScriptEnds.{EndsInPart, HasPlace, MetBadFrame, RanToEnd, RefusesStart, RunTold, StoppedReading, WroteFront}

@@ -7,7 +7,6 @@ use Rattle.std.proofs.lemmas.List.Elements.{recursion_from_All}
 use Rattle.std.proofs.lemmas.List.Sums.{sum_by-cons}
 use Rattle.cal_base.specs.World.Outside.{Takes, Adds}
 use Rattle.cal_base.specs.World.Memory.{LinkState}
-use Rattle.turn_lock.specs.Passes.{PassState}
 use Rattle.cal_model.specs.declared.reply.Reply.{Reply}
 use Rattle.cal_model.specs.declared.request.Request.{Request}
 use Rattle.cal_model.specs.History.Journal.{Entry, IsLegal}

@@ -10,9 +10,8 @@ use Rattle.cal_keeper.specs.Files.Opening.{IsUnwritten}
 use Rattle.cal_keeper.specs.Files.Standing.{StandsFor}
 use Rattle.cal_book.specs.EventSteps.{state_behind}
 use Rattle.cal_session.specs.KeptBooks.{KeptState}
-use Rattle.cal_session.specs.Loading.{Differs, HasTaken, IsMismatched, IsNoHistory, IsReady, IsRefused, IsRefusedAt}
+use Rattle.cal_session.specs.Loading.{Differs, HasTaken, IsNoHistory, IsReady, IsRefusedAt}
 use Rattle.command_ends.specs.declared.ScriptEnd.{ScriptEnd}
-use Rattle.caldav_server.specs.KeptRuns.{IsFileRefused}
 use Rattle.caldav_server.specs.SlotEnds.{HasJournal, IsEnd, IsNotTaken, IsOnlyRead, IsSeenEnd, IsSeenStatus, IsStatusBehindUsers, IsSlotStatus}
 use Rattle.slot_times.specs.SlotTimes.{Asked}
 

@@ -1,6 +1,6 @@
 -- How the command `slot` ends, by its status.
 -- Given: the words; what the files, the disk and the output told before and after.
-use Rattle.std.specs.Prelude.{◌≡◌, ◌⊎◌, ◌≤◌, ℕ, List, [], take, length, Result, Ok, Err, Option, Some, None, IfSome}
+use Rattle.std.specs.Prelude.{◌≡◌, ◌⊎◌, ◌≤◌, ℕ, List, [], take, length, Option, Some, None, IfSome}
 use Rattle.cal_base.specs.World.Outside.{Adds}
 use Rattle.cal_model.specs.History.Journal.{Entry, IsLegal}
 use Rattle.cal_model.specs.State.ServerState.{Directory, ServerState, directory_of}

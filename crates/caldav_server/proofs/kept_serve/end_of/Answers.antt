@@ -1,4 +1,4 @@
-use Rattle.std.proofs.Common.{◌≡◌, ◌∙◌, refl, sym, ap, subst}
+use Rattle.std.proofs.Common.{◌∙◌, refl, sym, ap, subst}
 use Rattle.caldav_server.specs.KeptServers.{LeavesJournal, served_status}
 use Rattle.caldav_server.proofs.KeptJournals.{leaves}
 use Rattle.caldav_server.proofs.KeptServing.{broken_at_eight}

@@ -1,5 +1,4 @@
 use Rattle.std.proofs.Common.{◌∙◌, refl, inl, inr, arith, ap, Err}
-use Rattle.std.specs.Prelude.{◌⊎◌}
 use Rattle.caldav_server.proofs.SlotFiles.{known_in_all, not_early, only_read}
 use Rattle.caldav_server.proofs.slot.slot_of_files.Goals as goal
 

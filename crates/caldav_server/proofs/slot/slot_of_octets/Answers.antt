@@ -1,4 +1,4 @@
-use Rattle.std.proofs.Common.{inl, inr, subst, sym}
+use Rattle.std.proofs.Common.{inl, inr, subst}
 use Rattle.cal_book.specs.Cores.{Core, directory_in, state_in}
 use Rattle.caldav_server.specs.SlotEnds.{IsSeenEnd, asked_in}
 use Rattle.caldav_server.proofs.SlotFiles.{fault_end, kept_end, loaded_read, not_taken_end, only_read, seen_not_eight, without_memory}
