@@ -1,0 +1,4 @@
+mod NameLaws
+mod HomeLaws
+mod EntryLaws
+mod StateLaws
