@@ -134,7 +134,7 @@ module _ (law : AcceptedHasItsEffect) (users : Users) (told : AreToldApart (dire
 
 -- Whole journals
 
-moved_home_of : (old new : Users) (change : Change) → home_of (moved_change old new change) ≡ moved_user old new (home_of change)
+pub moved_home_of : (old new : Users) (change : Change) → home_of (moved_change old new change) ≡ moved_user old new (home_of change)
 moved_home_of old new (put home calendar object octets) = refl
 moved_home_of old new (delete_object home calendar object) = refl
 moved_home_of old new (delete_calendar home calendar) = refl
