@@ -60,11 +60,11 @@ IsCarried old new event kept before after (carried.Declined made) =
 IsCarried old new event kept before after carried.NoMemory = Unit {0}
 
 -- what is asked of the second book alone
-abbrev pub IsMovedOn : Users → Users → Event → ℕ → Core → Core → Carried → Type 0
-IsMovedOn old new event kept before after carried.Same = IsRemade before (moved_event old new event) kept after remade.Same
-IsMovedOn old new event kept before after (carried.Declined made) = IsRemade before (moved_event old new event) kept after (remade.Other made)
-IsMovedOn old new event kept before after carried.NoMemory = Unit {0}
-IsMovedOn old new event kept before after other = ⊥
+abbrev pub IsAskedOn : Event → ℕ → Core → Core → Carried → Type 0
+IsAskedOn event kept before after carried.Same = IsRemade before event kept after remade.Same
+IsAskedOn event kept before after (carried.Declined made) = IsRemade before event kept after (remade.Other made)
+IsAskedOn event kept before after carried.NoMemory = Unit {0}
+IsAskedOn event kept before after other = ⊥
 
 -- Reading
 

@@ -2,7 +2,7 @@
 ghost use Rattle.std.specs.Prelude.{◌≡◌, ◌≤◌, [], IfOk};
 ghost use Rattle.cal_keeper.specs.Files.NextEntries.{IsEventOf};
 ghost use Rattle.cal_model.specs.History.Journal.{Entry};
-ghost use Rattle.journal_migration.specs.Carrying.{AreBooksOf, AreNewBooks, IsCarried, IsMovedOn, IsReadInto, IsReadAs, IsReadOn, disk_after, IsReadFrom};
+ghost use Rattle.journal_migration.specs.Carrying.{AreBooksOf, AreNewBooks, IsCarried, IsAskedOn, IsReadInto, IsReadAs, IsReadOn, disk_after, IsReadFrom};
 ghost use Rattle.cal_keeper.specs.Files.Opening.{IsUnwritten};
 ghost use Rattle.journal_migration.specs.Renumbering.{AreAllIn, moved_event};
 
@@ -181,7 +181,7 @@ fn carry<G: Ledger>(
     }
 }
 
-/// Asks the second book for it.
+/// Asks the second book for it, with the numbers of the new users.
 fn carry_moved<G: Ledger>(
     alloc: Global,
     old_users: &Users,
@@ -195,15 +195,33 @@ fn carry_moved<G: Ledger>(
     requires users { target.old.users ≡ new_users.now }
     requires recorded { (entry : Entry) × IsEventOf old_users.now event status entry }
     ensures users { target.new.users ≡ target.old.users }
-    ensures carried { IsMovedOn old_users.now new_users.now event status target.old target.new result }
+    ensures carried { IsAskedOn (moved_event old_users.now new_users.now event) status target.old target.new result }
 {
     file_laws();
     let _old = old_users.len();
+    match moved_event(alloc, old_users, new_users, event) {
+        Ok(moved) => ask_moved(alloc, new_users, &moved, status, target, steps),
+        Err(NoMemory) => Carried::NoMemory,
+    }
+}
+
+/// Asks the second book for an event of its users.
+fn ask_moved<G: Ledger>(
+    alloc: Global,
+    new_users: &Users,
+    moved: &Event,
+    status: u16,
+    target: &mut Book,
+    steps: &mut Steps<G>,
+) -> Carried
+    requires users { target.old.users ≡ new_users.now }
+    requires recorded { (entry : Entry) × IsEventOf new_users.now moved.now status entry }
+    ensures users { target.new.users ≡ target.old.users }
+    ensures carried { IsAskedOn moved.now status target.old target.new result }
+{
+    file_laws();
     let _new = new_users.len();
-    let Ok(moved) = moved_event(alloc, old_users, new_users, event) else {
-        return Carried::NoMemory;
-    };
-    match ask_again(alloc, &moved, status, target, steps) {
+    match ask_again(alloc, moved, status, target, steps) {
         Remade::Same => Carried::Same,
         Remade::Other(made) => Carried::Declined(made),
         Remade::NoMemory => Carried::NoMemory,

@@ -14,4 +14,5 @@ mod migrating;
 mod renumbering;
 mod writing;
 
+pub use gone::Principal;
 pub use migrating::{Migrated, migrate};
