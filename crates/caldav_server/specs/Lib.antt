@@ -8,6 +8,7 @@ pub mod LoadSeats
 pub mod LoadSessions
 pub mod LoadSums
 pub mod LoadTallies
+pub mod MigrateEnds
 pub mod ServeEnds
 pub mod Shares
 pub mod SlotEnds
