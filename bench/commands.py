@@ -26,18 +26,23 @@ TEN_EACH = "sessions 3\nrequests 36\naccepted 36\noctets 22483\nsha256 7d0ed65fc
 
 USAGE_OF_SERVE, USAGE_OF_LOAD = "usage: caldav_server serve\n", "usage: caldav_server load\n"
 USAGE_OF_EXPAND, USAGE_OF_CHECK = "usage: caldav_server expand\n", "usage: caldav_server check\n"
-USAGE_OF_SLOT = "usage: caldav_server slot\n"
+USAGE_OF_SLOT, USAGE_OF_SCRIPT = "usage: caldav_server slot\n", "usage: caldav_server script --users FILE\n"
+# What is told of a bad line behind the good one; and what a server says besides of that, and of a file that is not there.
+BAD_LINE = f"users file: bad line at octet {len(USERS)}\n"
+SECOND_LINE = "bad: line 2\n"
+NO_FILE = "none: No such file or directory (os error 2)\n"
 AT = "--users users --listen 127.0.0.1:1 --connections 1"
 HEADER = journals.header(["alice"], [])
-# Journal files that are refused, each with the place: no journal; of other users; one that ends in a gate's place; one with
+# Journal files that are refused, each with the place and the cause that is told: no journal; of other users; one that ends in a gate's place; one with
 # a record of no octets; one with a change that is not accepted (a deletion of what is not there).
+DAMAGED = "damaged or cut at a record, or of another program"
 GONE = journals.Record(journals.DELETE, 0, 1741600000, 204, 0, "calendar", "gone.ics")
 REFUSED = {
-    "no-journal": (b"caldavjournal 2\n" + HEADER[16:], 0),
-    "of-others": (journals.header(["alice", "bob"], []) + b"\0", 11),
-    "cut": (HEADER, len(HEADER)),
-    "empty-record": (HEADER + b"\1\0\0\0\0\0", len(HEADER)),
-    "other-status": (journals.journal(["alice"], [], [journals.payload(GONE)]), len(HEADER)),
+    "no-journal": (b"caldavjournal 2\n" + HEADER[16:], 0, "no journal"),
+    "of-others": (journals.header(["alice", "bob"], []) + b"\0", 11, "its users and groups are not those of users"),
+    "cut": (HEADER, len(HEADER), DAMAGED),
+    "empty-record": (HEADER + b"\1\0\0\0\0\0", len(HEADER), DAMAGED),
+    "other-status": (journals.journal(["alice"], [], [journals.payload(GONE)]), len(HEADER), DAMAGED),
 }
 
 # What `slot` is asked, and where alice is busy from 9 to 10.
@@ -105,22 +110,22 @@ ENDS = [
     (f"serve {AT} more", 2, "", USAGE_OF_SERVE),
     ("serve --users users --listen 127.0.0.1:1 --connections=+1", 2, "", USAGE_OF_SERVE),
     ("serve --users users --listen 127.0.0.1:1 --connections=01", 2, "", USAGE_OF_SERVE),
-    ("serve --users none --listen 127.0.0.1:1 --connections 1", 4, "", "input fault\n"),
-    ("serve --users bad --listen 127.0.0.1:1 --connections 1", 3, "", f"users file: bad line at octet {len(USERS)}\n"),
-    ("serve --users users --listen nowhere --connections 1", 4, "", "input fault\n"),
+    ("serve --users none --listen 127.0.0.1:1 --connections 1", 4, "", f"input fault\n{NO_FILE}"),
+    ("serve --users bad --listen 127.0.0.1:1 --connections 1", 3, "", BAD_LINE + SECOND_LINE),
+    ("serve --users users --listen nowhere --connections 1", 4, "", "input fault\nnowhere: invalid socket address\n"),
     (f"serve {AT} --journal", 2, "", USAGE_OF_SERVE),
     (f"serve {AT} --journal never --journal=never", 2, "", USAGE_OF_SERVE),
     (f"serve {AT} --journal never --sessions 0", 2, "", USAGE_OF_SERVE),
-    ("serve --users none --journal never --listen 127.0.0.1:1 --connections 1", 4, "", "input fault\n"),
-    ("serve --users bad --journal=never --listen 127.0.0.1:1 --connections 1", 3, "", f"users file: bad line at octet {len(USERS)}\n"),
-    (f"serve {AT} --journal none/journal", 8, "", "journal fault\n"),
-    (f"serve {AT} --journal .", 8, "", "journal fault\n"),
-    *[(f"serve {AT} --journal={name}", 9, "", f"journal: refused at octet {place}\n") for name, (_, place) in REFUSED.items()],
-    *[(f"script --users users --journal {name}", 9, "", f"journal: refused at octet {place}\n") for name, (_, place) in REFUSED.items()],
+    ("serve --users none --journal never --listen 127.0.0.1:1 --connections 1", 4, "", f"input fault\n{NO_FILE}"),
+    ("serve --users bad --journal=never --listen 127.0.0.1:1 --connections 1", 3, "", BAD_LINE + SECOND_LINE),
+    (f"serve {AT} --journal none/journal", 8, "", f"journal fault\n{NO_FILE}"),
+    (f"serve {AT} --journal .", 8, "", "journal fault\n.: is a directory\n"),
+    *[(f"serve {AT} --journal={name}", 9, "", f"journal: refused at octet {place}\n{name}: {cause}\n") for name, (_, place, cause) in REFUSED.items()],
+    *[(f"script --users users --journal {name}", 9, "", f"journal: refused at octet {place}\n") for name, (_, place, _) in REFUSED.items()],
     ("script --users users --journal none/journal", 8, "", "journal fault\n"),
     ("script --users none --journal never", 4, "", "input fault\n"),
-    ("script --users users --journal", 2, "", "usage: caldav_server script --users FILE\n"),
-    ("script --users users --journal=never", 2, "", "usage: caldav_server script --users FILE\n"),
+    ("script --users users --journal", 2, "", USAGE_OF_SCRIPT),
+    ("script --users users --journal=never", 2, "", USAGE_OF_SCRIPT),
     ("load --number 1", 0, ONE_EACH, ""),
     ("load --number=10 --sessions=3 --workers=0", 0, TEN_EACH, ""),
     ("load --sessions 3 --workers 4 --number 10", 0, TEN_EACH, ""),
@@ -164,10 +169,10 @@ ENDS = [
     (f"slot {LOOKS} / {OWN}", 10, "", "slot: refused word 1\n"),
     (f"slot {LOOKS.replace('as alice', 'as nobody')} {OWN}", 10, "", "slot: refused word 0\n"),
     (f"slot {LOOKS.replace('users users', 'users none')} {OWN}", 4, "", "input fault\n"),
-    (f"slot {LOOKS.replace('users users', 'users bad')} {OWN}", 3, "", f"users file: bad line at octet {len(USERS)}\n"),
+    (f"slot {LOOKS.replace('users users', 'users bad')} {OWN}", 3, "", BAD_LINE),
     (f"slot {LOOKS.replace('busy', 'none/journal')} {OWN}", 9, "", "journal: refused at octet 0\n"),
     (f"slot {LOOKS.replace('busy', 'never')} {OWN}", 9, "", "journal: refused at octet 0\n"),
-    *[(f"slot {LOOKS.replace('busy', name)} {OWN}", 9, "", f"journal: refused at octet {place}\n") for name, (_, place) in REFUSED.items()],
+    *[(f"slot {LOOKS.replace('busy', name)} {OWN}", 9, "", f"journal: refused at octet {place}\n") for name, (_, place, _) in REFUSED.items()],
     (f"slot {LOOKS}", 2, "", USAGE_OF_SLOT),
     (f"slot {LOOKS.replace('60', '0')} {OWN}", 2, "", USAGE_OF_SLOT),
     (f"slot {LOOKS.replace('60', '100001')} {OWN}", 2, "", USAGE_OF_SLOT),
@@ -175,10 +180,10 @@ ENDS = [
     (f"slot {LOOKS.replace('130000', '080000')} {OWN}", 2, "", USAGE_OF_SLOT),
     (f"slot {LOOKS}{33 * (' ' + OWN)}", 2, "", USAGE_OF_SLOT),
     ("script --users none", 4, "", "input fault\n"),
-    ("script --users bad", 3, "", f"users file: bad line at octet {len(USERS)}\n"),
-    ("script", 2, "", "usage: caldav_server script --users FILE\n"),
-    ("", 2, "", "usage: caldav_server script --users FILE\n"),
-    ("other", 2, "", "usage: caldav_server script --users FILE\n"),
+    ("script --users bad", 3, "", BAD_LINE),
+    ("script", 2, "", USAGE_OF_SCRIPT),
+    ("", 2, "", USAGE_OF_SCRIPT),
+    ("other", 2, "", USAGE_OF_SCRIPT),
 ]
 # Words that ask for help or the version, and words that have to stand in what is printed.
 ASKS = [
@@ -364,7 +369,7 @@ def taken_port(program):
         other.bind(("127.0.0.1", 0))
         other.listen()
         words = f"serve --users users --listen 127.0.0.1:{other.getsockname()[1]} --sessions 1 --connections 1".split()
-        program.has_to_end(words, 4, "", "input fault\n")
+        program.has_to_end(words, 4, "", f"input fault\n127.0.0.1:{other.getsockname()[1]}: Address already in use (os error 98)\n")
 
 
 KEPT = ["--sessions", "2", "--workers", "1", "--journal"]
@@ -391,7 +396,8 @@ def keeps(program):
     begun = time.time()
     with Server(program, 2, *KEPT, "kept") as server:
         FIRST.look(asked(server, FIRST.asked), begun)
-        program.has_to_end(f"serve {AT} --journal kept".split(), 8, "", "journal fault\n")
+        locked = "journal fault\nkept: another program has locked it\n"
+        program.has_to_end(f"serve {AT} --journal kept".split(), 8, "", locked)
         program.has_to_end("script --users users --journal kept".split(), 8, "", "journal fault\n")
         FIRST.look(asked(server, FIRST.query), begun, FIRST.found)
     shown_again(program, "kept", FIRST)
@@ -470,7 +476,7 @@ def look(program):
         status, wrote, told = program.ended(words.split())
         if status != 0 or told or not all(it in wrote for it in wanted):
             raise Wrong(f"{words}: ended with {(status, wrote, told)}")
-    for name, (octets, _) in REFUSED.items():
+    for name, (octets, _, _) in REFUSED.items():
         if journals.contents(os.path.join(program.folder, name)) != octets:
             raise Wrong(f"the file {name} was refused, and written to")
     if journals.contents(os.path.join(program.folder, "busy")) != BUSY:
@@ -491,7 +497,7 @@ def look(program):
 def fault(path, more=None):
     """What is wrong with a built program, if anything is; it runs with this more in its environment."""
     with tempfile.TemporaryDirectory() as folder:
-        files = {"users": USERS, "bad": USERS + b"user bob abc\n", **{name: octets for name, (octets, _) in REFUSED.items()}, "busy": BUSY, **CALENDARS}
+        files = {"users": USERS, "bad": USERS + b"user bob abc\n", **{name: octets for name, (octets, _, _) in REFUSED.items()}, "busy": BUSY, **CALENDARS}
         for name, octets in files.items():
             with open(os.path.join(folder, name), "wb") as file:
                 file.write(octets)

@@ -1,5 +1,5 @@
 #!/usr/bin/env python3
-"""Runs the built program at each limit of docs/LIMITS.md, and at one more, and says where it answers otherwise.
+"""Runs the built program at the limits of docs/LIMITS.md that a script of requests can meet, and at one more, and says where it answers otherwise.
 
     bench/limits.py [PROGRAM]
 
@@ -205,7 +205,7 @@ def users():
 
     def starts(what, octets, place=None):
         status, told, _ = run(b"", octets)
-        fine = (status, told) == ((0, b"") if place is None else (3, b"users file: bad line at octet %d\n" % place))
+        fine = (status, told.partition(b"\n")[0]) == ((0, b"") if place is None else (3, b"users file: bad line at octet %d" % place))
         print(f"{'fine' if fine else 'WRONG':6} {what}: {status} {told!r}")
         FAULTS.extend([] if fine else [what])
 

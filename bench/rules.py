@@ -1,8 +1,10 @@
 #!/usr/bin/env python3
 """Looks whether what docs/RULES.md names is there: each definition, body, page and heading.
 
-A line for each that is not, and status 1; else how many rows there are. The page says at its top how
-its columns are written. Needs Python 3 and nothing else; it is run from anywhere.
+It looks also at what docs/LIMITS.md names as fixing a limit, and whether each number of the index's
+limits stands on that page. A line for each that is not, and status 1; else how many rows there are.
+Both pages say at their top how they are written. Needs Python 3 and nothing else; it is run from
+anywhere.
 """
 
 import pathlib
@@ -11,7 +13,9 @@ import sys
 
 TOP = pathlib.Path(__file__).resolve().parent.parent
 INDEX = TOP / "docs" / "RULES.md"
+LIMITS = TOP / "docs" / "LIMITS.md"
 HEAD = ["Rule", "Definition", "Body", "Page"]
+FIXED = "Fixed by"
 WITHOUT = "–"
 
 
@@ -94,9 +98,35 @@ def missing(cells):
     return gone + ([] if heading_is_there(page) else [page])
 
 
+def fixing(text):
+    """What fixes the limits of a page, each with the number of its line, from the tables that tell it."""
+    tells = False
+    for number, line in enumerate(text.splitlines(), 1):
+        last = line.strip().strip("|").split("|")[-1].strip()
+        if not line.startswith("|"):
+            tells = False
+        elif last == FIXED:
+            tells = True
+        elif tells and set(last) != {"-"}:
+            yield number, last
+
+
+def gone_from_limits(text):
+    """What a page of limits names and is not there, and numbers of the index that the page does not have."""
+    for number, cell in fixing(text):
+        for name in names_in(cell):
+            if not definition_is_there(name) and not body_is_there(name):
+                yield f"docs/LIMITS.md:{number}: {name} is not there"
+    for number, cells in rows(INDEX.read_text()):
+        if f"({LIMITS.name}#" in cells[-1] and "." not in cells[0]:
+            for figure in re.findall(r"\d[\d,]*\d|\d", cells[0]):
+                if not re.search(rf"(?<![\d,]){figure}(?![\d,]*\d)", text):
+                    yield f"docs/RULES.md:{number}: docs/LIMITS.md has no {figure}"
+
+
 def main():
     found = list(rows(INDEX.read_text()))
-    lines = []
+    lines = list(gone_from_limits(LIMITS.read_text()))
     for number, cells in found:
         try:
             lines += [f"docs/RULES.md:{number}: {name} is not there" for name in missing(cells)]

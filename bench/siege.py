@@ -11,13 +11,15 @@ The server is started on the loopback address with 500 events. Then N clients (1
 - ask for it, and read an octet now and then;
 - send garbage, a head without end, a body that is not what was said, or 200 requests at once and go;
 - connect and say nothing; or wait idle behind a reply;
-- ask with a wrong password, as fast as they can.
+- ask with a wrong password, as fast as they can;
+- ask for what takes about a second of a processor (the families of bench/worst.py, each in a calendar of its own), and
+  wait for the answer or go at once.
 
 Beside them a client that behaves asks, each time on a new connection, for an object, for a month, and for the members of
 the calendar. What has to hold:
 
 - each of its answers is the one that it had before the siege, but for the date;
-- none takes longer than the times of a connection allow (docs/OUTSIDE.md);
+- none takes longer than the times of a connection allow (docs/LIMITS.md);
 - at the end the server has as many threads and open files as before, and its memory has not grown by more than a quarter.
 
 It prints how often each kind of client was there, how long the well-behaved one waited, and memory, threads and files
@@ -26,13 +28,18 @@ in crates/caldav_server.
 """
 import argparse, base64, os, random, re, socket, struct, subprocess, sys, tempfile, threading, time
 
+sys.path.insert(0, os.path.dirname(os.path.abspath(__file__)))
+sys.dont_write_bytecode = True
+from worst import alarms, busy, expanded_often, named_days, repeated_days, texts, zone_of_put, zone_of_query
+
 TOP = os.path.dirname(os.path.dirname(os.path.abspath(__file__)))
 HASH = "ba7816bf8f01cfea414140de5dae2223b00361a396177a9cb410ff61f20015ad"
 CALENDAR = "/calendars/alice/calendar/"
 KEY = base64.b64encode(b"alice:abc").decode()
 WRONG_KEY = base64.b64encode(b"alice:abd").decode()
-# a request may wait for every session to be let go by a reply that goes slowly: its longest time, one write, and one read
-LONGEST_WAIT = 120 + 10 + 30
+# a request may wait for every session to be let go by a reply that goes slowly: its longest time, one write, and one read;
+# and then for one request of each of sixteen sessions that takes a second, or two on a slow machine
+LONGEST_WAIT = 120 + 10 + 30 + 32
 
 EVENT = (
     "BEGIN:VCALENDAR\r\nVERSION:2.0\r\nPRODID:-//siege//EN\r\nBEGIN:VEVENT\r\nUID:siege-{n}\r\n"
@@ -62,6 +69,25 @@ ASKED = [
     request("REPORT", CALENDAR, MONTH, ["Content-Type: application/xml"]),
     request("PROPFIND", CALENDAR, MEMBERS, ["Content-Type: application/xml", "Depth: 1"]),
 ]
+
+
+# What takes about a second: the object that is stored before, how often, and the request.
+DEAR = [alarms(40), zone_of_query(35), zone_of_put(35), repeated_days(500), named_days(50), texts(500), busy(8), expanded_often(1500)]
+
+
+def dear_requests():
+    """The requests that make the calendars of the dear cases, and of each case the one that takes about a second."""
+    made, asked = [], []
+    for number, case in enumerate(DEAR):
+        path = f"/calendars/alice/dear{number}/"
+        objects = [case.text.replace("UID:u", f"UID:u{copy}") for copy in range(case.copies)]
+        puts = [request("PUT", f"{path}o{copy}.ics", text, ["Content-Type: text/calendar"]) for copy, text in enumerate(objects)]
+        made += [request("MKCALENDAR", path), *puts]
+        asked.append(request(case.method, path, case.body.replace(CALENDAR, path), ["Content-Type: application/xml"]) if case.body else puts[-1])
+    return made, asked
+
+
+DEAR_MADE, DEAR_ASKED = dear_requests()
 
 
 def connect(port, seconds):
@@ -168,7 +194,14 @@ def guess(link, chance, end):
             return
 
 
-KINDS = [cut, drip, deaf, sip, garbage, silent, guess]
+def dear(link, chance, end):
+    link.settimeout(LONGEST_WAIT)
+    link.sendall(chance.choice(DEAR_ASKED))
+    if chance.random() < 0.5:
+        read_reply(link)
+
+
+KINDS = [cut, drip, deaf, sip, garbage, silent, guess, dear]
 
 
 def besiege(port, number, seed, end, counts, strange):
@@ -201,14 +234,21 @@ def settled(process):
 
 
 def fill(port):
-    with connect(port, 30) as link:
+    with connect(port, LONGEST_WAIT) as link:
         for n in range(500):
             rule = "RRULE:FREQ=WEEKLY;COUNT=50\r\n" if n % 3 == 0 else ""
             body = EVENT.format(n=n, month=n % 12 + 1, day=n % 28 + 1, rule=rule, text=("word " * 12).strip())
             link.sendall(request("PUT", f"{CALENDAR}e{n}.ics", body, ["Content-Type: text/calendar"]))
-            reply = read_reply(link)
-            if not reply.startswith(b"HTTP/1.1 201"):
-                sys.exit(f"a PUT was answered {reply[:60]!r}")
+            stored(link)
+        for octets in DEAR_MADE:
+            link.sendall(octets)
+            stored(link)
+
+
+def stored(link):
+    reply = read_reply(link)
+    if not reply.startswith(b"HTTP/1.1 201"):
+        sys.exit(f"a PUT was answered {reply[:60]!r}")
 
 
 def started(options, users):
@@ -246,7 +286,9 @@ def main():
 
 
 def warmed(port, sessions):
-    """All sessions have served the largest answer once, a few times over."""
+    """All sessions have served the largest answer once, a few times over, and some of them what is dear."""
+    for octets in DEAR_ASKED:
+        ask(port, octets)
     for _ in range(3):
         crowd = [threading.Thread(target=ask, args=(port, WHOLE)) for _ in range(sessions)]
         for one in crowd:

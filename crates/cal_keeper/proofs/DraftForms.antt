@@ -1,16 +1,16 @@
 -- A journal file that is written whole, whatever its header and its payloads are.
-use Rattle.std.proofs.Common.{◌≡◌, ◌⊎◌, inl, inr, ⊎_elim, ℕ, ◌+◌, ◌-◌, ◌<◌, ◌≤◌, Bool, true, false, IsTrue, List, [], ◌∷◌, ◌++◌, length, get_or, slice_get, take, drop, flat_map, Option, Some, None, option_map, refl, sym, ◌∙◌, ap, subst, arith, length-append, length-take, append_assoc, take-append-drop}
+use Rattle.std.proofs.Common.{◌≡◌, ◌⊎◌, inl, inr, ⊎_elim, ℕ, ◌+◌, ◌-◌, ◌<◌, ◌≤◌, Bool, true, false, List, [], ◌∷◌, ◌++◌, length, get_or, take, drop, flat_map, Option, Some, None, option_map, refl, sym, ◌∙◌, ap, subst, arith, length-append, length-take, append_assoc, take-append-drop}
 use Rattle.std.specs.Int.{w32, to_be_bytes}
 use Rattle.std.proofs.lemmas.Bool.{false≢true, cases_eq}
 use Rattle.std.proofs.lemmas.List.{append-nil, get_or-take, get_or-append-add}
 use Rattle.std.proofs.lemmas.List.Prefix.{front_from_reads, at_from_reads}
-use Rattle.cal_keeper.specs.Disks.CrashModel.{Past, synced, reading, IsTorn, MayLeave, moment, LeftSince, LeavesOnly, with_piece}
+use Rattle.cal_keeper.specs.Disks.CrashModel.{Past, synced, reading, IsTorn, moment, LeftSince, LeavesOnly, with_piece}
 use Rattle.cal_keeper.specs.Files.Drafts.{blank, StaysBlank, IsDraft}
 use Rattle.cal_keeper.specs.Files.Headers.{mark}
 use Rattle.cal_keeper.specs.Files.Opening.{IsNoJournal}
 use Rattle.cal_keeper.specs.Files.Payloads.{long_text}
 use Rattle.cal_keeper.specs.Files.RecordForm.{counted_payload, open_record, front_of, IsFile, IsKept}
-use Rattle.cal_keeper.specs.Steps.Drafting.{LaysBlank, IsNoneOrFile, SealsDraft, Seals}
+use Rattle.cal_keeper.specs.Steps.Drafting.{LaysBlank, IsNoneOrFile, Seals}
 use Rattle.cal_keeper.specs.Steps.WriteRuns.{IsSpared, Spares, PutsText, Puts, ReplacesPiece, Replaces}
 use Rattle.cal_keeper.proofs.Commits.{only_now, front_longer}
 use Rattle.cal_keeper.proofs.Gates.{get_same}
@@ -54,9 +54,9 @@ leaves_no_journal old new spares stays = record {
 
 -- A draft that is begun
 
-pub draft_begun : (text : List ℕ) (place : ℕ) (ok : Bool) (old laid settled new : Option Past) → place ≡ 16 → Puts 0 blank true old laid → settled ≡ option_map synced laid → Puts place (long_text text) ok settled new → LaysBlank text ok old new
-draft_begun text place ok None laid settled new place_is first is second = subst (λ (told : Option Past). Puts place (long_text text) ok told new) (is ∙ ap (option_map synced) first) second
-draft_begun text place ok (Some old) laid settled new place_is first is second =
+pub draft_begun : (text : List ℕ) (place : ℕ) (ok : Bool) (old laid settled new : Option Past) → place ≡ 16 → Puts 0 blank true old laid → Puts place (long_text text) ok settled new → settled ≡ option_map synced laid → LaysBlank text ok old new
+draft_begun text place ok None laid settled new place_is first second is = subst (λ (told : Option Past). Puts place (long_text text) ok told new) (is ∙ ap (option_map synced) first) second
+draft_begun text place ok (Some old) laid settled new place_is first second is =
     let second = subst (λ (told : Option Past). Puts 16 (long_text text) ok told new) (is ∙ ap (option_map synced) first.1) (subst (λ (at : ℕ). Puts at (long_text text) ok settled new) place_is second) in (
       second.0,
       second.1,
@@ -129,10 +129,6 @@ torn_front front body image count count_is some torn =
     sym (take-append-drop count image) ∙ ap (λ (xs : List ℕ). take count image ++ xs) back
 
 module _ (text : List ℕ) (payloads : List (List ℕ)) (place : ℕ) (old mid : Past) (draft : IsDraft (blank ++ text) payloads place old) (puts : PutsText place (0 ∷ []) true old mid) where
-  -- what stands behind the mark, up to the closed gate
-  abbrev body : List ℕ
-  body = text ++ flat_map open_record payloads
-
   gate_there : reading mid ≡ blank ++ ((text ++ flat_map open_record payloads) ++ 0 ∷ [])
   gate_there =
       let here : place ≡ length (reading old) = draft.place_is ∙ sym (ap length draft.reads) in
@@ -172,9 +168,9 @@ module _ (text : List ℕ) (payloads : List (List ℕ)) (place : ℕ) (old mid :
   sealed_kept new replaces = record {
     place_is = draft.place_is;
     file = marked_file [] (reading new) (
-      replaces.stands refl
-          ∙ ap (λ (xs : List ℕ). with_piece 0 mark xs) gate_there
-          ∙ ap (λ (xs : List ℕ). mark ++ xs) (sym (append-nil ((text ++ flat_map open_record payloads) ++ 0 ∷ []))));
+        replaces.stands refl
+        ∙ ap (λ (xs : List ℕ). with_piece 0 mark xs) gate_there
+        ∙ ap (λ (xs : List ℕ). mark ++ xs) (sym (append-nil ((text ++ flat_map open_record payloads) ++ 0 ∷ []))));
     settled = replaces.settled refl;
   }
 

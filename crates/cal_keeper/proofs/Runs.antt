@@ -1,11 +1,9 @@
 -- Runs of calls, one behind the other.
-use Rattle.std.proofs.Common.{◌≡◌, ◌⊎◌, inl, inr, ⊎_elim, ℕ, ◌+◌, ◌<◌, ◌≤◌, Bool, true, false, List, ◌++◌, length, get_or, slice_get, Option, Some, None, option_map, Result, Ok, Err, is_ok, OnOk, OnErr, refl, sym, ◌∙◌, ap, subst, arith}
+use Rattle.std.proofs.Common.{◌≡◌, inl, inr, ⊎_elim, ℕ, ◌+◌, ◌<◌, ◌≤◌, Bool, true, false, List, ◌++◌, length, get_or, slice_get, Option, Some, None, refl, sym, ◌∙◌, ap, subst, arith}
 use Rattle.std.proofs.lemmas.Bool.{false≢true}
 use Rattle.std.proofs.lemmas.Option.{slice_get_within, slice_get-get_or}
-use Rattle.cal_keeper.specs.Disks.CrashModel.{Past, synced, reading, IsTorn, LeftSince, with_piece}
-use Rattle.cal_keeper.specs.Disks.DiskCalls.{after_write}
-use Rattle.cal_keeper.specs.Disks.PossibleImages.{piece_is_torn}
-use Rattle.cal_keeper.specs.Steps.WriteRuns.{IsSpared, Spares, Puts, Replaces}
+use Rattle.cal_keeper.specs.Disks.CrashModel.{Past, reading, with_piece}
+use Rattle.cal_keeper.specs.Steps.WriteRuns.{IsSpared, Spares, Puts}
 use Rattle.cal_keeper.proofs.Pieces.{pieces_join, length_within}
 
 -- where there is the octet that another list has, there is one
@@ -74,41 +72,3 @@ puts_cut place next a b all ok then_ok (Some past) mid new behind first second =
         stands = λ ok. absurd (false≢true ok);
       },
     )
-
--- A piece between two syncs
-
-module _ (place : ℕ) (piece : List ℕ) (old : Past) where
-  -- the piece was written, and is not synced yet
-  piece_left : (start : ℕ) (image : List ℕ) → LeftSince start (after_write place piece (synced old)) image → LeftSince start old image ⊎ IsTorn place (length piece) (reading old) image
-  piece_left start image (inl now) = inr (subst (λ (xs : List ℕ). IsTorn place (length piece) xs image) now.1 now.2)
-  piece_left start image (inr (early, inl is)) = inr (record { stays = λ at within side. ap (λ (xs : List ℕ). slice_get xs at) is })
-  piece_left start image (inr (early, inr was)) = inl was.1
-
-  piece_settled : (start : ℕ) (image : List ℕ) → LeftSince start (synced (after_write place piece (synced old))) image → LeftSince start old image ⊎ IsTorn place (length piece) (reading old) image
-  piece_settled start image (inl is) = inr (subst (IsTorn place (length piece) (reading old)) (sym is) (piece_is_torn place piece (reading old)))
-  piece_settled start image (inr was) = piece_left start image was.1
-
-pub replaced : {E : Type 0} (place : ℕ) (piece : List ℕ) (result : Result (Unit {0}) E) (old first mid last : Option Past) → first ≡ option_map synced old → mid ≡ option_map (after_write place piece) first
-    → OnOk result (last ≡ option_map synced mid) → OnErr result (last ≡ mid) → Replaces place piece (is_ok result) old last
-replaced place piece (Ok done) None first mid last is then finally other = finally ∙ ap (option_map synced) (then ∙ ap (option_map (after_write place piece)) is)
-replaced place piece (Err failed) None first mid last is then finally other = other ∙ then ∙ ap (option_map (after_write place piece)) is
-replaced place piece (Ok done) (Some old) first mid last is then finally other = (
-  synced (after_write place piece (synced old)),
-  finally ∙ ap (option_map synced) (then ∙ ap (option_map (after_write place piece)) is),
-  record {
-    later = omega arith;
-    since = λ start image early left. piece_settled place piece old start image left;
-    settled = λ went image may. may;
-    stands = λ went. refl;
-  },
-)
-replaced place piece (Err failed) (Some old) first mid last is then finally other = (
-  after_write place piece (synced old),
-  other ∙ then ∙ ap (option_map (after_write place piece)) is,
-  record {
-    later = omega arith;
-    since = λ start image early left. piece_left place piece old start image left;
-    settled = λ went. absurd (false≢true went);
-    stands = λ went. absurd (false≢true went);
-  },
-)

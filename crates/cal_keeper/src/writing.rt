@@ -63,6 +63,7 @@ pub(crate) fn put_long<D: Disk>(disk: &mut D, place: u64, octets: &[u8]) -> Resu
 
 /// Brings what was written before to the disk, writes a piece over the octets at a place by a write of
 /// its own, and brings that to the disk.
+#[tactic(auto, using(crate::specs::Disks::PossibleImages::piece_is_torn))]
 pub(crate) fn replace<D: Disk>(disk: &mut D, place: u64, piece: &[u8]) -> Result<(), Failed>
     ensures never_falls { D.faults disk.old ≤ D.faults disk.new }
     ensures failed { OnErr result (Rose (D.faults disk.old) (D.faults disk.new)) }

@@ -81,7 +81,7 @@ pub record IsCutAtBlank (line word numbers : List ℕ) : Type 0 where
 parts_of : (line word numbers : List ℕ) (head : Head) → IsCutAtBlank line word numbers → IsHead line head → (word ≡ word_of head) × (numbers ≡ numbers_of head)
 parts_of line word numbers head c h = first_place 32 word (word_of head) numbers (numbers_of head) c.cut.0 (word_lacks head) (sym c.cut.1 ∙ h.spelled)
 
--- a line is none of a frame: without a blank, by its word, by its numbers
+-- a line is none of a frame: without a blank, or by its word
 pub no_head_without_blank : (line : List ℕ) → Lacks 32 line → IsNoHead line
 no_head_without_blank line lacks head h = no_place 32 (word_of head) (numbers_of head) (subst (Lacks 32) h.spelled lacks)
 
@@ -91,27 +91,9 @@ bytes_is_no_action Expand e = omega (arith, ap (λ octets. slice_index octets 0)
 bytes_is_no_action Publish e = omega (arith, ap (λ octets. slice_index octets 0) e)
 bytes_is_no_action Abandon e = omega (arith, ap (λ octets. slice_index octets 0) e)
 
-pub no_head_by_coming : (line word numbers : List ℕ) → IsCutAtBlank line word numbers → word ≡ codes "bytes" → ((coming : Coming) → ¬ AreNumbersOf numbers coming) → IsNoHead line
-no_head_by_coming line word numbers c e none (Bytes coming) h =
-    none coming (record { spelled = (parts_of line word numbers (Bytes coming) c h).1; bounds = h.bounds })
-no_head_by_coming line word numbers c e none (Worker action slot) h =
-    bytes_is_no_action action (sym e ∙ (parts_of line word numbers (Worker action slot) c h).0)
-
 pub no_head_by_word : (line word numbers : List ℕ) → IsCutAtBlank line word numbers → word ≢ codes "bytes" → ((action : Action) → word ≢ action_word action) → IsNoHead line
 no_head_by_word line word numbers c other none (Bytes coming) h = other (parts_of line word numbers (Bytes coming) c h).0
 no_head_by_word line word numbers c other none (Worker action slot) h = none action (parts_of line word numbers (Worker action slot) c h).0
-
-pub no_head_by_slot : (line word numbers : List ℕ) → IsCutAtBlank line word numbers → word ≢ codes "bytes" → ((slot : ℕ) → ¬ IsSlotNumber numbers slot) → IsNoHead line
-no_head_by_slot line word numbers c other none (Bytes coming) h = other (parts_of line word numbers (Bytes coming) c h).0
-no_head_by_slot line word numbers c other none (Worker action slot) h =
-    none slot (record { spelled = (parts_of line word numbers (Worker action slot) c h).1; bounds = h.bounds })
-
--- and one is that of a frame
-pub head_of_coming : (line word numbers : List ℕ) (coming : Coming) → IsCutAtBlank line word numbers → word ≡ codes "bytes" → AreNumbersOf numbers coming → IsHead line (Bytes coming)
-head_of_coming line word numbers coming c e a = record { spelled = c.cut.1 ∙ ap₂ (λ x y. x ++ (32 ∷ y)) e a.spelled; bounds = a.bounds }
-
-pub head_of_slot : (line word numbers : List ℕ) (action : Action) (slot : ℕ) → IsCutAtBlank line word numbers → word ≡ action_word action → IsSlotNumber numbers slot → IsHead line (Worker action slot)
-head_of_slot line word numbers action slot c e a = record { spelled = c.cut.1 ∙ ap₂ (λ x y. x ++ (32 ∷ y)) e a.spelled; bounds = a.bounds }
 
 -- The numbers of octets that come
 
@@ -175,9 +157,6 @@ coming_of numbers connection rest moment size coming c p q r bounds = record {
 }
 
 -- The number of a slot
-
-pub no_slot_by_number : (text : List ℕ) → SpellsNoNumber text → (slot : ℕ) → ¬ IsSlotNumber text slot
-no_slot_by_number text none slot a = none slot (omega (arith, a.bounds)) a.spelled
 
 pub no_slot_by_bound : (text : List ℕ) (n : ℕ) → text ≡ decimal n → n < 2 ^ 64 → last_slot < n → (slot : ℕ) → ¬ IsSlotNumber text slot
 no_slot_by_bound text n e h past slot a =

@@ -39,11 +39,6 @@ closed_case stream given connection e (inr reading) = reading
 
 -- Octets come
 
-pub fed_closed : (stream piece : List ℕ) (given : List Completed) (connection : Connection) → connection.closed ≡ true → IsReading stream given connection → IsReading (stream ++ piece) given connection
-fed_closed stream piece given connection e reading =
-    let closed = closed_case stream given connection e reading in
-    inr (record { closed = closed.closed; all = λ more. subst (λ octets. Completes octets given) (sym (append_assoc stream piece more)) (closed.all (piece ++ more)) })
-
 pub fed_open : (stream piece : List ℕ) (given : List Completed) (before after : Connection) → before.closed ≡ false → after.closed ≡ before.closed → after.answered ≡ before.answered
     → ((octets : List ℕ) → Stands octets before.wire → Stands (octets ++ piece) after.wire) → IsReading stream given before → IsReading (stream ++ piece) given after
 fed_open stream piece given before after e same count fed reading =
@@ -164,21 +159,6 @@ due_fault stream given before after why e closed next reading =
         reading = record { spelled = spells_more stream more open_.requests open_.rest open_.spelled; ended = faults_stay open_.rest more why found.0 };
         are_done = ap (λ xs. xs ++ faulty why ∷ []) open_.given_is ∙ sym (answered_open open_.requests (ends_at why) open_.none_closes);
       };
-    })
-
-pub due_no_memory : (stream : List ℕ) (given : List Completed) (before after : Connection) → before.closed ≡ false → after.closed ≡ before.closed → after.answered ≡ before.answered
-    → ((octets : List ℕ) → Stands octets before.wire → Stands octets after.wire) → IsReading stream given before → IsReading stream given after
-due_no_memory stream given before after e same count next reading =
-    let open_ = open_case stream given before e reading in
-    inl (record {
-      still = same ∙ e;
-      requests = open_.requests;
-      rest = open_.rest;
-      given_is = open_.given_is;
-      none_closes = open_.none_closes;
-      spelled = open_.spelled;
-      stands = next open_.rest open_.stands;
-      counted = count ∙ open_.counted;
     })
 
 -- A connection on which nothing came

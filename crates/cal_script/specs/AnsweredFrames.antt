@@ -1,14 +1,14 @@
 -- How far the frames of some octets were answered, and what was written of their replies.
 -- Given: the users, and where the script stood.
-use Rattle.std.specs.Prelude.{◌≡◌, ℕ, ◌≤◌, Bool, true, false, List, [], ◌∷◌, ◌++◌, length, take, drop, All, Option}
-use Rattle.cal_base.specs.World.Outside.{Rose, Adds}
+use Rattle.std.specs.Prelude.{◌≡◌, ℕ, ◌≤◌, Bool, List, [], ◌∷◌, ◌++◌, length, take, drop, All, Option}
+use Rattle.cal_base.specs.World.Outside.{Adds}
 use Rattle.cal_model.specs.declared.request.Event.{Event}
 use Rattle.cal_model.specs.History.Journal.{Entry}
 use Rattle.cal_model.specs.Transcripts.ScriptFrames.{Frame, bytes, frame_text, frames_text, IsFrame}
 use Rattle.cal_model.specs.Transcripts.Transcript.{Standing, Turn, stream_of}
 use Rattle.cal_model.specs.Transcripts.TranscriptLaws.{Leads}
 use Rattle.cal_model.specs.Users.UsersFile.{Users}
-use Rattle.cal_script.specs.Answering.{PrintsBefore}
+use Rattle.cal_script.specs.Answering.{Breaks, PrintsBefore}
 use Rattle.cal_script.specs.EnteredRequests.{EntersSome, FramesAsk, FrontEnters, streams_after}
 use Rattle.cal_script.specs.FirstFrames.{NeverBeginsFrame}
 use Rattle.cal_script.specs.FrameHeads.{IsFrameStart}
@@ -121,5 +121,5 @@ HasEntered users other octets streams journal script = FrontEnters users streams
 
 -- whether the desk is broken, as `IsBrokenBy` says it of one turn
 abbrev pub IsLeftBy : {X : Type 0} → Answering X → Bool → ℕ → Bool → ℕ → Type 0
-IsLeftBy (Broken fault) before count after counted = (after ≡ true) × (before ≡ false → Rose count counted)
+IsLeftBy (Broken fault) before count after counted = Breaks before count after counted
 IsLeftBy other before count after counted = after ≡ before

@@ -108,10 +108,14 @@ abbrev pub StopsSo : {T X : Type 0} → Result T (Stop X) → Type 0 → Type 0 
 StopsSo (Ok value) short broken = Unit {0}
 StopsSo (Err stop) short broken = StopsBy stop short broken
 
--- Whether the desk is broken does not change, unless it told its fault: then it is, and it was so before or a fault was counted.
+-- A desk that told its fault is broken, and it was so before or a fault was counted.
+abbrev pub Breaks : Bool → ℕ → Bool → ℕ → Type 0
+Breaks before count after counted = (after ≡ true) × (before ≡ false → Rose count counted)
+
+-- Whether the desk is broken does not change, unless it told its fault.
 abbrev pub IsStoppedBy : {X : Type 0} → Stop X → Bool → ℕ → Bool → ℕ → Type 0
 IsStoppedBy (Unwritten why) before count after counted = after ≡ before
-IsStoppedBy (Broken fault) before count after counted = (after ≡ true) × (before ≡ false → Rose count counted)
+IsStoppedBy (Broken fault) before count after counted = Breaks before count after counted
 
 abbrev pub IsBrokenBy : {T X : Type 0} → Result T (Stop X) → Bool → ℕ → Bool → ℕ → Type 0
 IsBrokenBy (Ok value) before count after counted = after ≡ before
@@ -119,4 +123,4 @@ IsBrokenBy (Err stop) before count after counted = IsStoppedBy stop before count
 
 abbrev pub IsToldBy : {X : Type 0} → Told X → Bool → ℕ → Bool → ℕ → Type 0
 IsToldBy (Reply reply) before count after counted = after ≡ before
-IsToldBy (ToldBroken fault) before count after counted = (after ≡ true) × (before ≡ false → Rose count counted)
+IsToldBy (ToldBroken fault) before count after counted = Breaks before count after counted

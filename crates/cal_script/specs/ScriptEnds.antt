@@ -1,16 +1,18 @@
 -- How a run of a script ends.
 -- Given: what the input told before and after the run, and what the output did.
-use Rattle.std.specs.Prelude.{◌≡◌, ◌≢◌, ◌⊎◌, ℕ, ◌+◌, List, [], ◌∷◌, length, bytes_eq, not, ◌&&◌, Bool, true, false, All, ◌++◌, if◌then◌else◌, Option, Some, None, IfSome, codes}
-use Rattle.cal_base.specs.World.Outside.{Rose, Takes, Adds}
+use Rattle.std.specs.Prelude.{◌≡◌, ◌≢◌, ◌⊎◌, ℕ, ◌+◌, List, [], ◌∷◌, length, bytes_eq, not, ◌&&◌, Bool, All, ◌++◌, if◌then◌else◌, Option, Some, None, IfSome, codes}
+use Rattle.cal_base.specs.declared.stream.Sink.{Ghosts as SinkMembers}
+use Rattle.cal_base.specs.declared.stream.Source.{Ghosts as SourceMembers}
+use Rattle.cal_base.specs.World.Outside.{Takes, Adds}
 use Rattle.cal_model.specs.State.ServerState.{ServerState}
 use Rattle.cal_model.specs.Transcripts.ScriptFrames.{Frame as ScriptFrame, frames_text, IsFrame, IsCutInto}
 use Rattle.cal_model.specs.Transcripts.Transcript.{Standing, Follows}
 use Rattle.cal_model.specs.Transcripts.TranscriptLaws.{Leads}
 use Rattle.cal_model.specs.Users.UsersFile.{Users}
 use Rattle.cal_script.specs.AnsweredFrames.{BrokeAmong}
+use Rattle.cal_script.specs.Answering.{Breaks}
 use Rattle.cal_script.specs.FrameHeads.{IsFrameStart}
 use Rattle.cal_script.specs.Standings.{standing_in}
-use Rattle.cal_script.specs.UsersTaken.{AreUsersOf}
 use Rattle.cal_script.specs.declared.running.FrameEnd.{FrameEnd}
 use Rattle.cal_script.specs.declared.running.FrameEnd.TheVariants.{Done, Frame, Input, Output, NoMemory}
 use Rattle.cal_script.specs.declared.running.FramesOn.{FramesOn}
@@ -23,14 +25,6 @@ abbrev pub users_path : List (List ℕ) → Option (List ℕ)
 users_path (command ∷ option ∷ path ∷ []) =
     if bytes_eq command (codes "script") && (bytes_eq option (codes "--users") && not (bytes_eq path [])) then Some path else None
 users_path _ = None
-
--- what the users file has, where that is told, by the words
-abbrev pub IfTold : List (List ℕ) → (List ℕ → Option (List ℕ)) → (List ℕ → Type 0) → Type 0
-IfTold words content P = IfSome (users_path words) (λ path. IfSome (content path) P)
-
--- the users are those of the file
-abbrev pub AreServed : List (List ℕ) → (List ℕ → Option (List ℕ)) → Users → Type 0
-AreServed words content users = IfTold words content (λ octets. AreUsersOf octets users)
 
 -- Statuses
 
@@ -69,71 +63,83 @@ pub record IsPrintedInPartFrom (users : Users) (before : Standing) (input output
   pub missing : List ℕ
   pub follows : Follows users before frames (output ++ missing)
 
+-- What is told of a run
+
+-- what the input has left to read and what the output has written, before the run and after it, where that is told
+pub record RunTold : Type 0 where
+  pub left : Option (List ℕ)
+  pub left_after : Option (List ℕ)
+  pub written : Option (List ℕ)
+  pub written_after : Option (List ℕ)
+
+abbrev pub run_told : {I O : Type 0} → SourceMembers I → SinkMembers O → I → I → O → O → RunTold
+run_told source sink input input_after output output_after =
+    record { left = source.left input; left_after = source.left input_after; written = sink.written output; written_after = sink.written output_after }
+
 -- Ends of a run, by what may be printed for some octets and a rest (`prints`), and as a beginning (`front_prints`)
 
 module _ (prints : List ℕ → List ℕ → List ℕ → Type 0) where
   -- the input was read to its end, and the output is what may be printed for all of it, whose length is the place
-  pub record RanToEnd (left left_after written written_after : Option (List ℕ)) (place : ℕ) : Type 0 where
+  pub record RanToEnd (told : RunTold) (place : ℕ) : Type 0 where
     pub all : List ℕ
-    pub told : IfSome left (λ octets. octets ≡ all)
-    pub ended : left_after ≡ Some []
+    pub input_is : IfSome told.left (λ octets. octets ≡ all)
+    pub ended : told.left_after ≡ Some []
     pub printed : List ℕ
     pub follows : prints all [] printed
-    pub added : Adds written printed written_after
+    pub added : Adds told.written printed told.written_after
     pub place_is : place ≡ length all
 
   -- the output is what may be printed for the frames of the input that stand before the place, where no frame begins
-  pub record MetBadFrame (left written written_after : Option (List ℕ)) (place : ℕ) : Type 0 where
+  pub record MetBadFrame (told : RunTold) (place : ℕ) : Type 0 where
     pub all : List ℕ
-    pub told : IfSome left (λ octets. octets ≡ all)
+    pub input_is : IfSome told.left (λ octets. octets ≡ all)
     pub rest : List ℕ
     pub some : rest ≢ []
     pub printed : List ℕ
     pub follows : prints all rest printed
-    pub added : Adds written printed written_after
+    pub added : Adds told.written printed told.written_after
     pub place_is : place + length rest ≡ length all
 
   -- the output is what may be printed for what was taken from the input, and what stands behind the whole frames of it is the start of a frame
-  pub record StoppedReading (left left_after written written_after : Option (List ℕ)) : Type 0 where
+  pub record StoppedReading (told : RunTold) : Type 0 where
     pub taken : List ℕ
-    pub took : Takes left taken left_after
+    pub took : Takes told.left taken told.left_after
     pub rest : List ℕ
     pub start : IsFrameStart rest
     pub printed : List ℕ
     pub follows : prints taken rest printed
-    pub added : Adds written printed written_after
+    pub added : Adds told.written printed told.written_after
 
 -- the output is a beginning of what may be printed for whole frames at the start of the input
-pub record WroteFront (front_prints : List ℕ → List ℕ → Type 0) (left written written_after : Option (List ℕ)) : Type 0 where
+pub record WroteFront (front_prints : List ℕ → List ℕ → Type 0) (told : RunTold) : Type 0 where
   pub input : List ℕ
-  pub told : IfSome left (λ octets. octets ≡ input)
+  pub input_is : IfSome told.left (λ octets. octets ≡ input)
   pub printed : List ℕ
   pub follows : front_prints input printed
-  pub added : Adds written printed written_after
+  pub added : Adds told.written printed told.written_after
 
 -- what is said of the end of a run is so
-abbrev pub HasEnded : (List ℕ → List ℕ → List ℕ → Type 0) → (List ℕ → List ℕ → Type 0) → FrameEnd → Option (List ℕ) → Option (List ℕ) → Option (List ℕ) → Option (List ℕ) → Type 0
-HasEnded prints front_prints (Done place) left left_after written written_after = RanToEnd prints left left_after written written_after place
-HasEnded prints front_prints (Frame place) left left_after written written_after = MetBadFrame prints left written written_after place
-HasEnded prints front_prints Input left left_after written written_after = StoppedReading prints left left_after written written_after
-HasEnded prints front_prints Output left left_after written written_after = WroteFront front_prints left written written_after
-HasEnded prints front_prints NoMemory left left_after written written_after = WroteFront front_prints left written written_after
+abbrev pub HasEnded : (List ℕ → List ℕ → List ℕ → Type 0) → (List ℕ → List ℕ → Type 0) → FrameEnd → RunTold → Type 0
+HasEnded prints front_prints (Done place) told = RanToEnd prints told place
+HasEnded prints front_prints (Frame place) told = MetBadFrame prints told place
+HasEnded prints front_prints Input told = StoppedReading prints told
+HasEnded prints front_prints Output told = WroteFront front_prints told
+HasEnded prints front_prints NoMemory told = WroteFront front_prints told
 
 -- Runs at a desk
 
 -- the desk told its fault when a request was asked that a frame of the input completes: the output is what is printed for the frames before that one, and for its requests before that request
-pub record BrokeOff (users : Users) (before : Standing) (left written written_after : Option (List ℕ)) : Type 0 where
+pub record BrokeOff (users : Users) (before : Standing) (told : RunTold) : Type 0 where
   pub input : List ℕ
-  pub told : IfSome left (λ octets. octets ≡ input)
-  pub broke : BrokeAmong users input before written written_after
+  pub input_is : IfSome told.left (λ octets. octets ≡ input)
+  pub broke : BrokeAmong users input before told.written told.written_after
 
 -- what is said of a run is so, from the desk's state before it to that after it
-abbrev pub HasEndedOn : {X : Type 0} → Users → ServerState → ServerState → FramesOn X → Option (List ℕ) → Option (List ℕ) → Option (List ℕ) → Option (List ℕ) → Type 0
-HasEndedOn users before after (End ended) left left_after written written_after =
-    HasEnded (IsPrintedFrom users (standing_in before) after) (IsPrintedInPartFrom users (standing_in before)) ended left left_after written written_after
-HasEndedOn users before after (Broken fault) left left_after written written_after = BrokeOff users (standing_in before) left written written_after
+abbrev pub HasEndedOn : {X : Type 0} → Users → ServerState → ServerState → FramesOn X → RunTold → Type 0
+HasEndedOn users before after (End ended) told = HasEnded (IsPrintedFrom users (standing_in before) after) (IsPrintedInPartFrom users (standing_in before)) ended told
+HasEndedOn users before after (Broken fault) told = BrokeOff users (standing_in before) told
 
--- whether the desk is broken does not change, unless it told its fault: then it is, and it was so before or a fault was counted
+-- whether the desk is broken does not change, unless it told its fault
 abbrev pub IsLeft : {X : Type 0} → FramesOn X → Bool → ℕ → Bool → ℕ → Type 0
 IsLeft (End ended) before count after counted = after ≡ before
-IsLeft (Broken fault) before count after counted = (after ≡ true) × (before ≡ false → Rose count counted)
+IsLeft (Broken fault) before count after counted = Breaks before count after counted

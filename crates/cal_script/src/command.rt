@@ -4,8 +4,8 @@ ghost use Rattle.cal_base.specs.World.Outside.{Rose};
 ghost use Rattle.cal_model.specs.Transcripts.Transcript.{IsPrinted, IsPrintedInPart};
 ghost use Rattle.cal_model.specs.Users.UsersFile.{Users};
 ghost use Rattle.cal_script.specs.ReadersSight.{ReadersSeeAlike};
-ghost use Rattle.cal_script.specs.ScriptEnds.{users_path, IfTold, AreServed, RefusesStart, RunsFrames, EndsInPart, HasPlace, RanToEnd, MetBadFrame, StoppedReading, WroteFront};
-ghost use Rattle.cal_script.specs.UsersTaken.{IsRefusedAt};
+ghost use Rattle.cal_script.specs.ScriptEnds.{users_path, RefusesStart, RunsFrames, EndsInPart, HasPlace, run_told, RanToEnd, MetBadFrame, StoppedReading, WroteFront};
+ghost use Rattle.cal_script.specs.UsersTaken.{AreUsersAt, IfTold, IsRefusedAt};
 
 use crate::laws::readers_see_alike;
 use crate::running::{FrameEnd, run_frames};
@@ -41,21 +41,21 @@ pub fn run_script<F: Files, I: Source, O: Sink>(
 
     // The words and the users file.
     ensures words { (result.status ≡ 2) ↔ (users_path words.now ≡ None) }
-    ensures users_refused { result.status ≡ 3 → IfTold words.now (F.content files.old) (λ octets. IsRefusedAt octets result.place) }
-    ensures users_taken { RunsFrames result.status → (users : Users) × AreServed words.now (F.content files.old) users }
+    ensures users_refused { result.status ≡ 3 → IfTold (users_path words.now) (F.content files.old) (λ octets. IsRefusedAt octets result.place) }
+    ensures users_taken { RunsFrames result.status → (users : Users) × AreUsersAt (users_path words.now) (F.content files.old) users }
     ensures refused { RefusesStart result.status → (input.new ≡ input.old) × (output.new ≡ output.old) }
 
     // The words come first, then the users file, and the input and the output only once it is taken.
     ensures words_first { result.status ≡ 2 → files.new ≡ files.old }
-    ensures served { ((input.new ≡ input.old) × (output.new ≡ output.old)) ⊎ ((users : Users) × AreServed words.now (F.content files.old) users) }
+    ensures served { ((input.new ≡ input.old) × (output.new ≡ output.old)) ⊎ ((users : Users) × AreUsersAt (users_path words.now) (F.content files.old) users) }
 
     // The frames.
-    ensures done { result.status ≡ 0 → (users : Users) × AreServed words.now (F.content files.old) users × RanToEnd (IsPrinted users) (I.left input.old) (I.left input.new) (O.written output.old) (O.written output.new) result.place }
-    ensures bad_frame { result.status ≡ 6 → (users : Users) × AreServed words.now (F.content files.old) users × MetBadFrame (IsPrinted users) (I.left input.old) (O.written output.old) (O.written output.new) result.place }
+    ensures done { result.status ≡ 0 → (users : Users) × AreUsersAt (users_path words.now) (F.content files.old) users × RanToEnd (IsPrinted users) (run_told I.Source O.Sink input.old input.new output.old output.new) result.place }
+    ensures bad_frame { result.status ≡ 6 → (users : Users) × AreUsersAt (users_path words.now) (F.content files.old) users × MetBadFrame (IsPrinted users) (run_told I.Source O.Sink input.old input.new output.old output.new) result.place }
     ensures input_fault { result.status ≡ 4 → Rose (F.faults files.old) (F.faults files.new) ⊎ Rose (I.faults input.old) (I.faults input.new) }
-    ensures stopped { result.status ≡ 4 → ((input.new ≡ input.old) × (output.new ≡ output.old)) ⊎ ((users : Users) × AreServed words.now (F.content files.old) users × StoppedReading (IsPrinted users) (I.left input.old) (I.left input.new) (O.written output.old) (O.written output.new)) }
+    ensures stopped { result.status ≡ 4 → ((input.new ≡ input.old) × (output.new ≡ output.old)) ⊎ ((users : Users) × AreUsersAt (users_path words.now) (F.content files.old) users × StoppedReading (IsPrinted users) (run_told I.Source O.Sink input.old input.new output.old output.new)) }
     ensures output_fault { result.status ≡ 5 → Rose (O.faults output.old) (O.faults output.new) }
-    ensures in_part { EndsInPart result.status → ((input.new ≡ input.old) × (output.new ≡ output.old)) ⊎ ((users : Users) × AreServed words.now (F.content files.old) users × WroteFront (IsPrintedInPart users) (I.left input.old) (O.written output.old) (O.written output.new)) }
+    ensures in_part { EndsInPart result.status → ((input.new ≡ input.old) × (output.new ≡ output.old)) ⊎ ((users : Users) × AreUsersAt (users_path words.now) (F.content files.old) users × WroteFront (IsPrintedInPart users) (run_told I.Source O.Sink input.old input.new output.old output.new)) }
     ensures placed { HasPlace result.status ⊎ (result.place ≡ 0) }
 
     // No reply to a request that only reads tells more than its user sees.

@@ -8,7 +8,7 @@ ghost use Rattle.cal_model.specs.History.Journal.{IsLegal};
 ghost use Rattle.cal_model.specs.State.ServerState.{directory_of};
 ghost use Rattle.cal_model.specs.Transcripts.Transcript.{IsPrinted, IsPrintedInPart};
 ghost use Rattle.cal_script.specs.EnteredRequests.{IsEnteredBy};
-ghost use Rattle.cal_script.specs.ScriptEnds.{HasEnded, HasEndedOn, IsLeft};
+ghost use Rattle.cal_script.specs.ScriptEnds.{HasEnded, HasEndedOn, IsLeft, run_told};
 ghost use Rattle.cal_script.specs.Standings.{IsSound, StandsAt, running, standing_in};
 
 use crate::frames::{Answering, answer_frames};
@@ -69,7 +69,7 @@ pub fn run_frames<I: Source, O: Sink>(
     input: &mut I,
     output: &mut O,
 ) -> FrameEnd
-    ensures ended { HasEnded (IsPrinted users) (IsPrintedInPart users) result (I.left input.old) (I.left input.new) (O.written output.old) (O.written output.new) }
+    ensures ended { HasEnded (IsPrinted users) (IsPrintedInPart users) result (run_told I.Source O.Sink input.old input.new output.old output.new) }
     ensures input_fault { result ≡ FrameEnd.Input → Rose (I.faults input.old) (I.faults input.new) }
     ensures output_fault { result ≡ FrameEnd.Output → Rose (O.faults output.old) (O.faults output.new) }
     ensures input_never_falls { I.faults input.old ≤ I.faults input.new }
@@ -104,7 +104,7 @@ pub fn frames_on<B: Desk, I: Source, O: Sink>(
     output: &mut O,
 ) -> FramesOn<B::Fault>
     requires users { (B.book desk.old).users ≡ users.now }
-    ensures ended { HasEndedOn users.now (state_in (B.book desk.old)) (state_in (B.book desk.new)) result (I.left input.old) (I.left input.new) (O.written output.old) (O.written output.new) }
+    ensures ended { HasEndedOn users.now (state_in (B.book desk.old)) (state_in (B.book desk.new)) result (run_told I.Source O.Sink input.old input.new output.old output.new) }
     ensures entered { IsEnteredBy users.now (I.left input.old) (B.book desk.old).work.journal (B.book desk.new).work.journal }
     ensures input_fault { result ≡ FramesOn.End FrameEnd.Input → Rose (I.faults input.old) (I.faults input.new) }
     ensures output_fault { result ≡ FramesOn.End FrameEnd.Output → Rose (O.faults output.old) (O.faults output.new) }
@@ -150,7 +150,7 @@ fn run_under<B: Desk, I: Source, O: Sink, L: Ledger>(
     requires some { 0 < blank.parts }
     requires sound { (kept : List Pair) × IsSound users.now kept (running (B.book desk.old) script.old) }
     requires stands { StandsAt (standing_in (state_in (B.book desk.old))) (running (B.book desk.old) script.old) }
-    ensures ended { HasEndedOn users.now (state_in (B.book desk.old)) (state_in (B.book desk.new)) result (I.left input.old) (I.left input.new) (O.written output.old) (O.written output.new) }
+    ensures ended { HasEndedOn users.now (state_in (B.book desk.old)) (state_in (B.book desk.new)) result (run_told I.Source O.Sink input.old input.new output.old output.new) }
     ensures entered { IsEnteredBy users.now (I.left input.old) (B.book desk.old).work.journal (B.book desk.new).work.journal }
     ensures sound { (kept : List Pair) → IsSound users.now kept (running (B.book desk.old) script.old) → IsSound users.now kept (running (B.book desk.new) script.new) }
     ensures input_fault { result ≡ FramesOn.End FrameEnd.Input → Rose (I.faults input.old) (I.faults input.new) }
@@ -176,7 +176,7 @@ fn run_counted<B: Desk, I: Source, O: Sink, L: Ledger>(
 ) -> FramesOn<B::Fault>
     requires sound { (kept : List Pair) × IsSound users.now kept (running (B.book desk.old) script.old) }
     requires stands { StandsAt (standing_in (state_in (B.book desk.old))) (running (B.book desk.old) script.old) }
-    ensures ended { HasEndedOn users.now (state_in (B.book desk.old)) (state_in (B.book desk.new)) result (I.left input.old) (I.left input.new) (O.written output.old) (O.written output.new) }
+    ensures ended { HasEndedOn users.now (state_in (B.book desk.old)) (state_in (B.book desk.new)) result (run_told I.Source O.Sink input.old input.new output.old output.new) }
     ensures entered { IsEnteredBy users.now (I.left input.old) (B.book desk.old).work.journal (B.book desk.new).work.journal }
     ensures sound { (kept : List Pair) → IsSound users.now kept (running (B.book desk.old) script.old) → IsSound users.now kept (running (B.book desk.new) script.new) }
     ensures input_fault { result ≡ FramesOn.End FrameEnd.Input → Rose (I.faults input.old) (I.faults input.new) }

@@ -1,7 +1,7 @@
 //! The users file.
-ghost use Rattle.std.specs.Prelude.{◌≡◌, ◌≤◌, ℕ, IfOk, IfSome, IsErrOf, length};
+ghost use Rattle.std.specs.Prelude.{◌≡◌, ◌≤◌, ℕ, IfOk, Some, IsErrOf, length};
 ghost use Rattle.cal_base.specs.World.Outside.{Rose};
-ghost use Rattle.cal_script.specs.UsersTaken.{AreUsersOf, IsRefusedAt, file_limit};
+ghost use Rattle.cal_script.specs.UsersTaken.{AreUsersAt, AreUsersOf, IfTold, IsRefusedAt, file_limit};
 
 use cal_base::{Arc, FileFault, Files};
 use privileges::{Users, UsersFault, read_users};
@@ -22,8 +22,8 @@ pub enum NoUsers {
 
 /// The users of the users file, of at most 65,536 octets.
 pub fn take_users<F: Files>(alloc: Global, files: &mut F, path: &str) -> Result<Arc<Users>, NoUsers>
-    ensures taken { IfOk result (λ users. IfSome (F.content files.old path.now) (λ octets. AreUsersOf octets users)) }
-    ensures refused { (place : ℕ) → IsErrOf result (NoUsers.Line place) → IfSome (F.content files.old path.now) (λ octets. IsRefusedAt octets place) }
+    ensures taken { IfOk result (AreUsersAt (Some path.now) (F.content files.old)) }
+    ensures refused { (place : ℕ) → IsErrOf result (NoUsers.Line place) → IfTold (Some path.now) (F.content files.old) (λ octets. IsRefusedAt octets place) }
     ensures fault { IsErrOf result NoUsers.Files → Rose (F.faults files.old) (F.faults files.new) }
     ensures never_falls { F.faults files.old ≤ F.faults files.new }
 {

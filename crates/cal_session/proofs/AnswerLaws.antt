@@ -1,5 +1,5 @@
 -- A session goes on by an answer, or stops at one: its reply was written, or a front of it; or the desk broke.
-use Rattle.std.proofs.Common.{◌≡◌, ℕ, ◌+◌, ◌<◌, ◌≤◌, ◌⊎◌, inl, inr, List, [], ◌∷◌, ◌++◌, length, take, arith, refl, sym, ap, subst, ◌∙◌, true, false, Option, Some}
+use Rattle.std.proofs.Common.{◌≡◌, ℕ, ◌+◌, ◌<◌, ◌≤◌, ◌⊎◌, inl, inr, List, [], ◌∷◌, ◌++◌, length, take, arith, refl, sym, ap, subst, ◌∙◌, true, false, Some}
 use Rattle.std.specs.Prelude.{ℤ, Result, Ok, Err}
 use Rattle.std.proofs.lemmas.List.{append-nil, append_assoc, length-append, length-take-le}
 use Rattle.cal_base.specs.World.Outside.{Takes, Adds}
@@ -21,21 +21,22 @@ use Rattle.http_wire.specs.declared.wire.Next.TheVariants.{Need}
 use Rattle.http_wire.specs.declared.wire.Wire.{Wire}
 use Rattle.cal_session.specs.AskedTurns.{AnsweredAt, BrokeAt}
 use Rattle.cal_session.specs.Connections.{requests_of, replies_of, AnsweredAll, AnsweredSome}
-use Rattle.cal_session.specs.Sessions.{LinkTold, HasRun, HasServed, HasBroken, IsCutShort, RefusesInPart}
+use Rattle.cal_session.specs.SessionStates.{Environment, LinkTold, SessionState, HasSeenMore}
+use Rattle.cal_session.specs.Sessions.{Exchange, whole_exchange, HasRun, HasBroken, IsCutShort, RefusesInPart}
 use Rattle.cal_session.specs.Turns.{Answer, IsToldMoment, LooksUp, entries_in}
-use Rattle.cal_session.specs.UnderWay.{IsReached, IsUnderWay, IsWaiting, StopsSo, GoesOnOrStops}
+use Rattle.cal_session.specs.UnderWay.{IsReached, IsUnderWay, IsWaiting, EndsIn, StopsSo, GoesOnOrStops}
 use Rattle.cal_session.specs.WrittenReplies.{IsSent, GoesOnBehind}
 use Rattle.cal_session.specs.declared.answering.Stop.{Stop}
 use Rattle.cal_session.specs.declared.answering.Stop.TheVariants.{Ended, Broken}
 use Rattle.cal_session.specs.declared.served.Served.{Served}
 use Rattle.cal_session.specs.declared.served.How.{How}
 use Rattle.cal_session.specs.declared.served.How.TheVariants.{Closed, CutInRequest, Limit, WireRefused, ReadFault, WriteFault, NoMemory}
-use Rattle.cal_session.proofs.SessionLaws.{IsOn, session_more, run_more, all_front, answered_some, answered_before, answered_all, rose_since}
-use Rattle.cal_session.proofs.StepLemmas.{adds_on, replies_further, map_further, map_len, looks_on}
+use Rattle.cal_session.proofs.SessionLaws.{seen_further, session_more, run_more, run_refused, all_front, answered_some, answered_before, answered_all, rose_since}
+use Rattle.cal_session.proofs.StepLemmas.{replies_further, map_further, map_len, looks_on}
 use Rattle.cal_session.proofs.StreamLemmas.{open_parts, served_closed, spells_more, spells_on, still_open}
 use Rattle.cal_session.proofs.TurnLaws.{session_later}
 
-module _ (users : Users) (told : Option ℤ) (start now next : PassState Entry Users) (before link after : LinkTold) (turns : List Served) (stream rest behind : List ℕ) where
+module _ (environment : Environment) (before now after : SessionState) (turns : List Served) (stream rest behind : List ℕ) where
   -- the requests with one more
   requests_more : (answers : List Answer) (a : Answer) → requests_of (answers ++ a ∷ []) ≡ requests_of answers ++ a.wire ∷ []
   requests_more answers a = map_further (λ (answer : Answer). answer.wire) answers a
@@ -45,22 +46,23 @@ module _ (users : Users) (told : Option ℤ) (start now next : PassState Entry U
 
   -- The reply was written, and the request does not close the connection
 
-  pub reached_more : (r : IsReached users told start now before link turns stream rest) (a : Answer) → IsOn start now → Begins rest a.wire behind → AnsweredAt users now next a → IsToldMoment told a.turn.moment
-      → after.left ≡ link.left → Adds link.written (answer_octets (length r.answers) a.wire a.reply a.turn.moment) after.written → link.faults ≤ after.faults → a.wire.close ≡ false → length r.answers + 1 < request_limit
-      → IsReached users told start next before after (turns ++ a.turn ∷ []) stream behind
-  reached_more r a on begins x dated left added falls stays few = record {
+  pub reached_more : (r : IsReached environment before now turns stream rest) (a : Answer) → HasSeenMore now.pass after.pass → Begins rest a.wire behind → AnsweredAt environment.users now.pass after.pass a → IsToldMoment environment.clock a.turn.moment
+      → after.link.left ≡ now.link.left → Adds now.link.written (answer_octets (length r.answers) a.wire a.reply a.turn.moment) after.link.written → now.link.faults ≤ after.link.faults → a.wire.close ≡ false → length r.answers + 1 < request_limit
+      → IsReached environment before after (turns ++ a.turn ∷ []) stream behind
+  reached_more r a more begins x dated left added falls stays few = record {
+    pass = seen_further before.pass now.pass after.pass r.pass more;
     answers = r.answers ++ a ∷ [];
-    run = subst (λ printed. HasRun users told start next before after (turns ++ a.turn ∷ []) stream (r.answers ++ a ∷ []) printed) (sym (replies_further r.answers a))
-        (run_more users told start now next before link after turns stream r.answers a (answer_octets (length r.answers) a.wire a.reply a.turn.moment) on r.run r.seen x dated left added);
+    run = subst (λ printed. HasRun environment before after (turns ++ a.turn ∷ []) (record { stream = stream; answers = r.answers ++ a ∷ []; printed = printed })) (sym (replies_further r.answers a))
+        (run_more environment before now after turns stream r.answers a (answer_octets (length r.answers) a.wire a.reply a.turn.moment) r.pass r.run r.seen x dated left added);
     still_open = subst (λ requests. is_open requests ≡ true) (sym (requests_more r.answers a))
         (still_open (requests_of r.answers) a.wire r.still_open stays (let n = map_len (λ (answer : Answer). answer.wire) r.answers in omega (arith, n, few)));
     spelled = spelled_more r.answers a r.spelled begins;
     faults = (let h = r.faults in omega (arith, h, falls));
-    seen = (session_more users told start now next r.answers a on (r.run.session, r.seen) x).1;
+    seen = (session_more environment.users before.pass now.pass after.pass r.answers a r.pass (r.run.session, r.seen) x).1;
   }
 
   -- all that is served was answered, where the request closes the connection
-  all_answered : (r : IsReached users told start now before link turns stream rest) (a : Answer) → Begins rest a.wire behind → (a.wire.close ≡ true) ⊎ (length r.answers + 1 ≡ request_limit)
+  all_answered : (r : IsReached environment before now turns stream rest) (a : Answer) → Begins rest a.wire behind → (a.wire.close ≡ true) ⊎ (length r.answers + 1 ≡ request_limit)
       → (ending : Ending) × AnsweredAll stream (r.answers ++ a ∷ []) ending
   all_answered r a begins why =
       let read = streams_are_read behind in
@@ -77,37 +79,38 @@ module _ (users : Users) (told : Option ℤ) (start now next : PassState Entry U
 
   -- The desk broke
 
-  pub broke : (r : IsReached users told start now before link turns stream rest) (wire : WireRequest) (moment : ℤ) → IsOn start now → Begins rest wire behind → BrokeAt users now next wire moment → IsToldMoment told moment
-      → after.left ≡ link.left → after.written ≡ link.written → HasBroken users told start next before after turns
-  broke r wire moment on begins x dated left written =
-      let number : now.number ≡ start.number = ap (λ (p : PassState Entry Users). p.number) on in
+  pub broke : (r : IsReached environment before now turns stream rest) (wire : WireRequest) (moment : ℤ) → Begins rest wire behind → BrokeAt environment.users now.pass after.pass wire moment → IsToldMoment environment.clock moment
+      → after.link.left ≡ now.link.left → after.link.written ≡ now.link.written → HasBroken environment before after turns
+  broke r wire moment begins x dated left written =
+      let users = environment.users in
+      let number : now.pass.number ≡ before.pass.number = ap (λ (p : PassState Entry Users). p.number) r.pass in
       let some = answered_before stream rest behind r.answers wire r.spelled r.still_open begins in
       record {
         stream = stream;
         answers = r.answers;
         seen = x.journal;
         run = record {
-          taken = subst (λ l. Takes before.left stream l) (sym left) r.run.taken;
+          taken = subst (λ l. Takes before.link.left stream l) (sym left) r.run.taken;
           turns_are = r.run.turns_are;
-          session = session_later users start.number now.gone start.seen r.answers now.seen x.journal r.run.session (subst (λ n. IsFollowedByOthers (λ (entry : Entry). entry.session) (n ∷ now.gone) now.seen x.journal) number x.later);
-          looks = subst (λ l. LooksUp users start.looks l next.looks) (append-nil r.answers) (looks_on users start.looks now.looks next.looks r.answers [] r.run.looks x.looks);
+          session = session_later users before.pass.number now.pass.gone before.pass.seen r.answers now.pass.seen x.journal r.run.session (subst (λ n. IsFollowedByOthers (λ (entry : Entry). entry.session) (n ∷ now.pass.gone) now.pass.seen x.journal) number x.later);
+          looks = subst (λ l. LooksUp users before.pass.looks l after.pass.looks) (append-nil r.answers) (looks_on users before.pass.looks now.pass.looks after.pass.looks r.answers [] r.run.looks x.looks);
           moments = r.run.moments;
-          written = subst (λ w. Adds before.written (replies_of r.answers) w) (sym written) r.run.written;
+          written = subst (λ w. Adds before.link.written (replies_of r.answers) w) (sym written) r.run.written;
         };
         wire = wire;
         missing = some.0;
         next = some.1;
         moment = moment;
         moment_is = dated;
-        kept = subst (λ n. (next.seen ≡ x.journal) ⊎ (next.seen ≡ x.journal ++ entries_in users n (state_behind users x.journal) moment (asked_of users wire))) number x.kept;
+        kept = subst (λ n. (after.pass.seen ≡ x.journal) ⊎ (after.pass.seen ≡ x.journal ++ entries_in users n (state_behind users x.journal) moment (asked_of users wire))) number x.kept;
       }
 
   -- A front of the reply was written
 
-  pub cut_short : (r : IsReached users told start now before link turns stream rest) (a : Answer) (how : How) → IsOn start now → Begins rest a.wire behind → AnsweredAt users now next a → IsToldMoment told a.turn.moment
-      → after.left ≡ link.left → IsSent (answer_octets (length r.answers) a.wire a.reply a.turn.moment) link.written after.written link.faults after.faults (Some how) → link.faults ≤ after.faults
-      → HasServed users told start next before after (turns ++ a.turn ∷ []) how
-  cut_short r a how on begins x dated left sent falls = by_how how sent
+  pub cut_short : (r : IsReached environment before now turns stream rest) (a : Answer) (how : How) → Begins rest a.wire behind → AnsweredAt environment.users now.pass after.pass a → IsToldMoment environment.clock a.turn.moment
+      → after.link.left ≡ now.link.left → IsSent (answer_octets (length r.answers) a.wire a.reply a.turn.moment) now.link after.link (Some how) → now.link.faults ≤ after.link.faults
+      → EndsIn environment before after (turns ++ a.turn ∷ []) how
+  cut_short r a how begins x dated left sent falls = by_how how sent
     where
       octets : List ℕ
       octets = answer_octets (length r.answers) a.wire a.reply a.turn.moment
@@ -125,10 +128,13 @@ module _ (users : Users) (told : Option ℤ) (start now next : PassState Entry U
             },
           )
 
-      part : (many : ℕ) → Adds link.written (take many octets) after.written → HasRun users told start next before after (turns ++ a.turn ∷ []) stream (r.answers ++ a ∷ []) (replies_of r.answers ++ take many octets)
-      part many added = run_more users told start now next before link after turns stream r.answers a (take many octets) on r.run r.seen x dated left added
+      exchange : ℕ → Exchange
+      exchange many = record { stream = stream; answers = r.answers ++ a ∷ []; printed = replies_of r.answers ++ take many octets }
 
-      cut_at : (many : ℕ) → IsCutShort told stream (r.answers ++ a ∷ []) (replies_of r.answers ++ take many octets)
+      part : (many : ℕ) → Adds now.link.written (take many octets) after.link.written → HasRun environment before after (turns ++ a.turn ∷ []) (exchange many)
+      part many added = run_more environment before now after turns stream r.answers a (take many octets) r.pass r.run r.seen x dated left added
+
+      cut_at : (many : ℕ) → IsCutShort environment.clock (exchange many)
       cut_at many = record {
         missing = some.0;
         answered = some.1;
@@ -150,9 +156,9 @@ module _ (users : Users) (told : Option ℤ) (start now next : PassState Entry U
           let front = length-take-le many octets (omega (arith, few)) in
           omega (arith, few, all, whole, written, front)
 
-      by_how : (how : How) → IsSent octets link.written after.written link.faults after.faults (Some how) → HasServed users told start next before after (turns ++ a.turn ∷ []) how
-      by_how WriteFault s = record { stream = stream; answers = r.answers ++ a ∷ []; printed = replies_of r.answers ++ take s.0.0 octets; run = part s.0.0 s.0.2; ended = (cut_at s.0.0, inl (shorter s.0.0 s.0.1), rose_since before.faults link.faults after.faults r.faults falls s.1) }
-      by_how NoMemory s = record { stream = stream; answers = r.answers ++ a ∷ []; printed = replies_of r.answers ++ take s.0 octets; run = part s.0 s.1; ended = cut_at s.0 }
+      by_how : (how : How) → IsSent octets now.link after.link (Some how) → EndsIn environment before after (turns ++ a.turn ∷ []) how
+      by_how WriteFault s = record { exchange = exchange s.0.0; run = part s.0.0 s.0.2; ended = (cut_at s.0.0, inl (shorter s.0.0 s.0.1), rose_since before.link.faults now.link.faults after.link.faults r.faults falls s.1) }
+      by_how NoMemory s = record { exchange = exchange s.0; run = part s.0 s.1; ended = cut_at s.0 }
       by_how Closed s = absurd s
       by_how CutInRequest s = absurd s
       by_how Limit s = absurd s
@@ -161,16 +167,14 @@ module _ (users : Users) (told : Option ℤ) (start now next : PassState Entry U
 
   -- The reply was written, and the request closes the connection
 
-  pub closes : (r : IsReached users told start now before link turns stream rest) (a : Answer) → IsOn start now → Begins rest a.wire behind → AnsweredAt users now next a → IsToldMoment told a.turn.moment
-      → after.left ≡ link.left → Adds link.written (answer_octets (length r.answers) a.wire a.reply a.turn.moment) after.written → a.wire.close ≡ true → length r.answers + 1 < request_limit
-      → HasServed users told start next before after (turns ++ a.turn ∷ []) Closed
-  closes r a on begins x dated left added asks few =
+  pub closes : (r : IsReached environment before now turns stream rest) (a : Answer) → Begins rest a.wire behind → AnsweredAt environment.users now.pass after.pass a → IsToldMoment environment.clock a.turn.moment
+      → after.link.left ≡ now.link.left → Adds now.link.written (answer_octets (length r.answers) a.wire a.reply a.turn.moment) after.link.written → a.wire.close ≡ true → length r.answers + 1 < request_limit
+      → EndsIn environment before after (turns ++ a.turn ∷ []) Closed
+  closes r a begins x dated left added asks few =
       let all = all_answered r a begins (inl asks) in
       record {
-        stream = stream;
-        answers = r.answers ++ a ∷ [];
-        printed = replies_of r.answers ++ answer_octets (length r.answers) a.wire a.reply a.turn.moment;
-        run = run_more users told start now next before link after turns stream r.answers a (answer_octets (length r.answers) a.wire a.reply a.turn.moment) on r.run r.seen x dated left added;
+        exchange = record { stream = stream; answers = r.answers ++ a ∷ []; printed = replies_of r.answers ++ answer_octets (length r.answers) a.wire a.reply a.turn.moment };
+        run = run_more environment before now after turns stream r.answers a (answer_octets (length r.answers) a.wire a.reply a.turn.moment) r.pass r.run r.seen x dated left added;
         ended = (
           sym (replies_further r.answers a),
           inr (record {
@@ -181,44 +185,42 @@ module _ (users : Users) (told : Option ℤ) (start now next : PassState Entry U
         );
       }
 
-  pub meets_limit : (r : IsReached users told start now before link turns stream rest) (a : Answer) → IsOn start now → Begins rest a.wire behind → AnsweredAt users now next a → IsToldMoment told a.turn.moment
-      → after.left ≡ link.left → Adds link.written (answer_octets (length r.answers) a.wire a.reply a.turn.moment) after.written → length r.answers + 1 ≡ request_limit
-      → HasServed users told start next before after (turns ++ a.turn ∷ []) Limit
-  meets_limit r a on begins x dated left added last =
+  pub meets_limit : (r : IsReached environment before now turns stream rest) (a : Answer) → Begins rest a.wire behind → AnsweredAt environment.users now.pass after.pass a → IsToldMoment environment.clock a.turn.moment
+      → after.link.left ≡ now.link.left → Adds now.link.written (answer_octets (length r.answers) a.wire a.reply a.turn.moment) after.link.written → length r.answers + 1 ≡ request_limit
+      → EndsIn environment before after (turns ++ a.turn ∷ []) Limit
+  meets_limit r a begins x dated left added last =
       let all = all_answered r a begins (inr last) in
       record {
-        stream = stream;
-        answers = r.answers ++ a ∷ [];
-        printed = replies_of r.answers ++ answer_octets (length r.answers) a.wire a.reply a.turn.moment;
-        run = run_more users told start now next before link after turns stream r.answers a (answer_octets (length r.answers) a.wire a.reply a.turn.moment) on r.run r.seen x dated left added;
+        exchange = record { stream = stream; answers = r.answers ++ a ∷ []; printed = replies_of r.answers ++ answer_octets (length r.answers) a.wire a.reply a.turn.moment };
+        run = run_more environment before now after turns stream r.answers a (answer_octets (length r.answers) a.wire a.reply a.turn.moment) r.pass r.run r.seen x dated left added;
         ended = (sym (replies_further r.answers a), record { ending = all.0; answered = all.1; full = (let n = length-append r.answers (a ∷ []) in omega (arith, n, last)) });
       }
 
   -- Both, where so many turns were noted before
 
-  count : (r : IsReached users told start now before link turns stream rest) → length turns ≡ length r.answers
+  count : (r : IsReached environment before now turns stream rest) → length turns ≡ length r.answers
   count r = ap length r.run.turns_are ∙ map_len (λ (answer : Answer). answer.turn) r.answers
 
-  pub stops_short : (r : IsReached users told start now before link turns stream rest) (a : Answer) (how : How) → IsOn start now → Begins rest a.wire behind → AnsweredAt users now next a → IsToldMoment told a.turn.moment
-      → after.left ≡ link.left → IsSent (answer_octets (length turns) a.wire a.reply a.turn.moment) link.written after.written link.faults after.faults (Some how) → link.faults ≤ after.faults
-      → HasServed users told start next before after (turns ++ a.turn ∷ []) how
-  stops_short r a how on begins x dated left sent falls =
-      cut_short r a how on begins x dated left (subst (λ n. IsSent (answer_octets n a.wire a.reply a.turn.moment) link.written after.written link.faults after.faults (Some how)) (count r) sent) falls
+  pub stops_short : (r : IsReached environment before now turns stream rest) (a : Answer) (how : How) → Begins rest a.wire behind → AnsweredAt environment.users now.pass after.pass a → IsToldMoment environment.clock a.turn.moment
+      → after.link.left ≡ now.link.left → IsSent (answer_octets (length turns) a.wire a.reply a.turn.moment) now.link after.link (Some how) → now.link.faults ≤ after.link.faults
+      → EndsIn environment before after (turns ++ a.turn ∷ []) how
+  stops_short r a how begins x dated left sent falls =
+      cut_short r a how begins x dated left (subst (λ n. IsSent (answer_octets n a.wire a.reply a.turn.moment) now.link after.link (Some how)) (count r) sent) falls
 
   -- the reply was written, and the session goes on behind it, or stops there
-  pub goes_behind : {X : Type 0} → (r : IsReached users told start now before link turns stream rest) (a : Answer) (result : Result (Unit {0}) (Stop X)) → IsOn start now → Begins rest a.wire behind → AnsweredAt users now next a → IsToldMoment told a.turn.moment
-      → after.left ≡ link.left → Adds link.written (answer_octets (length turns) a.wire a.reply a.turn.moment) after.written → link.faults ≤ after.faults → GoesOnBehind (length turns) a.wire result
-      → GoesOnOrStops (IsReached users told start next before after (turns ++ a.turn ∷ []) stream behind) (StopsSo users told start next before after (turns ++ a.turn ∷ [])) result
-  goes_behind r a result on begins x dated left added falls g = by_result result (subst (λ n. GoesOnBehind n a.wire result) (count r) g)
+  pub goes_behind : {X : Type 0} → (r : IsReached environment before now turns stream rest) (a : Answer) (result : Result (Unit {0}) (Stop X)) → HasSeenMore now.pass after.pass → Begins rest a.wire behind → AnsweredAt environment.users now.pass after.pass a → IsToldMoment environment.clock a.turn.moment
+      → after.link.left ≡ now.link.left → Adds now.link.written (answer_octets (length turns) a.wire a.reply a.turn.moment) after.link.written → now.link.faults ≤ after.link.faults → GoesOnBehind (length turns) a.wire result
+      → GoesOnOrStops (IsReached environment before after (turns ++ a.turn ∷ []) stream behind) (StopsSo environment before after (turns ++ a.turn ∷ [])) result
+  goes_behind r a result more begins x dated left added falls g = by_result result (subst (λ n. GoesOnBehind n a.wire result) (count r) g)
     where
-      all : Adds link.written (answer_octets (length r.answers) a.wire a.reply a.turn.moment) after.written
-      all = subst (λ n. Adds link.written (answer_octets n a.wire a.reply a.turn.moment) after.written) (count r) added
+      all : Adds now.link.written (answer_octets (length r.answers) a.wire a.reply a.turn.moment) after.link.written
+      all = subst (λ n. Adds now.link.written (answer_octets n a.wire a.reply a.turn.moment) after.link.written) (count r) added
 
       by_result : {Y : Type 0} → (result : Result (Unit {0}) (Stop Y)) → GoesOnBehind (length r.answers) a.wire result
-          → GoesOnOrStops (IsReached users told start next before after (turns ++ a.turn ∷ []) stream behind) (StopsSo users told start next before after (turns ++ a.turn ∷ [])) result
-      by_result (Ok nothing) h = reached_more r a on begins x dated left all falls h.0 h.1
-      by_result (Err (Ended Limit)) h = meets_limit r a on begins x dated left all h
-      by_result (Err (Ended Closed)) h = closes r a on begins x dated left all h.0 h.1
+          → GoesOnOrStops (IsReached environment before after (turns ++ a.turn ∷ []) stream behind) (StopsSo environment before after (turns ++ a.turn ∷ [])) result
+      by_result (Ok nothing) h = reached_more r a more begins x dated left all falls h.0 h.1
+      by_result (Err (Ended Limit)) h = meets_limit r a begins x dated left all h
+      by_result (Err (Ended Closed)) h = closes r a begins x dated left all h.0 h.1
       by_result (Err (Ended CutInRequest)) h = absurd h
       by_result (Err (Ended (WireRefused why))) h = absurd h
       by_result (Err (Ended ReadFault)) h = absurd h
@@ -228,25 +230,21 @@ module _ (users : Users) (told : Option ℤ) (start now next : PassState Entry U
 
 -- A front of the reply to a fault was written
 
-pub refused_in_part : (users : Users) (told : Option ℤ) (start now : PassState Entry Users) (before link after : LinkTold) (turns : List Served) (stream rest : List ℕ) (why : WireFault) (moment : ℤ) (how : How)
-    → IsReached users told start now before link turns stream rest → front rest ≡ fault why → IsToldMoment told moment → after.left ≡ link.left
-    → IsSent (fault_octets why moment) link.written after.written link.faults after.faults (Some how) → link.faults ≤ after.faults → HasServed users told start now before after turns how
-refused_in_part users told start now before link after turns stream rest why moment how r is dated left sent falls = by_how how sent
+pub refused_in_part : (environment : Environment) (before now : SessionState) (link : LinkTold) (turns : List Served) (stream rest : List ℕ) (why : WireFault) (moment : ℤ) (how : How)
+    → IsReached environment before now turns stream rest → front rest ≡ fault why → IsToldMoment environment.clock moment → link.left ≡ now.link.left
+    → IsSent (fault_octets why moment) now.link link (Some how) → now.link.faults ≤ link.faults → EndsIn environment before (record { pass = now.pass; link = link }) turns how
+refused_in_part environment before now link turns stream rest why moment how r is dated left sent falls = by_how how sent
   where
     some : (missing : List WireRequest) × AnsweredSome stream r.answers missing
     some = answered_some stream rest r.answers r.spelled r.still_open
 
-    part : (many : ℕ) → Adds link.written (take many (fault_octets why moment)) after.written → HasRun users told start now before after turns stream r.answers (replies_of r.answers ++ take many (fault_octets why moment))
-    part many added = record {
-      taken = subst (λ l. Takes before.left stream l) (sym left) r.run.taken;
-      turns_are = r.run.turns_are;
-      session = r.run.session;
-      looks = r.run.looks;
-      moments = r.run.moments;
-      written = adds_on before.written link.written after.written (replies_of r.answers) (take many (fault_octets why moment)) r.run.written added;
-    }
+    exchange : ℕ → Exchange
+    exchange many = record { stream = stream; answers = r.answers; printed = replies_of r.answers ++ take many (fault_octets why moment) }
 
-    in_part : (many : ℕ) → RefusesInPart told stream r.answers (replies_of r.answers ++ take many (fault_octets why moment))
+    part : (many : ℕ) → Adds now.link.written (take many (fault_octets why moment)) link.written → HasRun environment before (record { pass = now.pass; link = link }) turns (exchange many)
+    part many added = run_refused environment before now link turns stream r.answers (take many (fault_octets why moment)) r.run left added
+
+    in_part : (many : ℕ) → RefusesInPart environment.clock (exchange many)
     in_part many = record {
       why = why;
       answered = answered_all stream rest r.answers (ends_at why) r.spelled is r.still_open;
@@ -257,12 +255,12 @@ refused_in_part users told start now before link after turns stream rest why mom
       printed_is = refl;
     }
 
-    cut_at : (many : ℕ) → IsCutShort told stream r.answers (replies_of r.answers ++ take many (fault_octets why moment))
+    cut_at : (many : ℕ) → IsCutShort environment.clock (exchange many)
     cut_at many = record { missing = some.0; answered = some.1; front = inr (in_part many) }
 
-    by_how : (how : How) → IsSent (fault_octets why moment) link.written after.written link.faults after.faults (Some how) → HasServed users told start now before after turns how
-    by_how WriteFault s = record { stream = stream; answers = r.answers; printed = replies_of r.answers ++ take s.0.0 (fault_octets why moment); run = part s.0.0 s.0.2; ended = (cut_at s.0.0, inr (in_part s.0.0, s.0.1), rose_since before.faults link.faults after.faults r.faults falls s.1) }
-    by_how NoMemory s = record { stream = stream; answers = r.answers; printed = replies_of r.answers ++ take s.0 (fault_octets why moment); run = part s.0 s.1; ended = cut_at s.0 }
+    by_how : (how : How) → IsSent (fault_octets why moment) now.link link (Some how) → EndsIn environment before (record { pass = now.pass; link = link }) turns how
+    by_how WriteFault s = record { exchange = exchange s.0.0; run = part s.0.0 s.0.2; ended = (cut_at s.0.0, inr (in_part s.0.0, s.0.1), rose_since before.link.faults now.link.faults link.faults r.faults falls s.1) }
+    by_how NoMemory s = record { exchange = exchange s.0; run = part s.0 s.1; ended = cut_at s.0 }
     by_how Closed s = absurd s
     by_how CutInRequest s = absurd s
     by_how Limit s = absurd s
@@ -271,25 +269,23 @@ refused_in_part users told start now before link after turns stream rest why mom
 
 -- What is due
 
-module _ (users : Users) (told : Option ℤ) (start now : PassState Entry Users) (before link : LinkTold) (turns : List Served) where
+module _ (environment : Environment) (before now : SessionState) (turns : List Served) where
   -- an open connection has room for a further request
-  pub few_yet : (stream rest : List ℕ) → IsReached users told start now before link turns stream rest → length turns < request_limit
+  pub few_yet : (stream rest : List ℕ) → IsReached environment before now turns stream rest → length turns < request_limit
   few_yet stream rest r =
       let parts = open_parts (requests_of r.answers) r.still_open in
       let noted = ap length r.run.turns_are ∙ map_len (λ (answer : Answer). answer.turn) r.answers in
       let asked = map_len (λ (answer : Answer). answer.wire) r.answers in
       omega (arith, parts.1, noted, asked)
 
-  pub waits : (old new : Wire) (w : IsUnderWay users told start now before link turns old) → NextIs Need w.rest new → IsWaiting users told start now before link turns new
+  pub waits : (old new : Wire) (w : IsUnderWay environment before now turns old) → NextIs Need w.rest new → IsWaiting environment before now turns new
   waits old new w is = record { stream = w.stream; rest = w.rest; reached = w.reached; stands = is.1; waits = is.0 }
 
-  pub wants_memory : (wire : Wire) → IsUnderWay users told start now before link turns wire → HasServed users told start now before link turns NoMemory
+  pub wants_memory : (wire : Wire) → IsUnderWay environment before now turns wire → EndsIn environment before now turns NoMemory
   wants_memory wire w =
       let some = answered_some w.stream w.rest w.reached.answers w.reached.spelled w.reached.still_open in
       record {
-        stream = w.stream;
-        answers = w.reached.answers;
-        printed = replies_of w.reached.answers;
+        exchange = whole_exchange w.stream w.reached.answers;
         run = w.reached.run;
         ended = record { missing = some.0; answered = some.1; front = inl (all_front w.reached.answers) };
       }

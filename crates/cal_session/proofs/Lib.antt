@@ -11,3 +11,4 @@ pub mod KeptLaws
 pub mod RemadeLaws
 pub mod LoadLaws
 pub mod KeptMoves
+pub mod WritingLaws

@@ -1,5 +1,5 @@
 -- A session under way goes on, or ends, by each thing that can happen.
-use Rattle.std.proofs.Common.{◌≡◌, ℕ, suc, ◌-◌, ◌<◌, ◌≤◌, Bool, ◌⊎◌, inl, inr, List, [], ◌∷◌, ◌++◌, length, take, arith, refl, sym, ap, subst, ◌∙◌, true, false, Option, Some}
+use Rattle.std.proofs.Common.{◌≡◌, ℕ, suc, ◌-◌, ◌<◌, ◌≤◌, Bool, ◌⊎◌, inl, inr, List, [], ◌∷◌, ◌++◌, length, take, arith, refl, sym, ap, subst, ◌∙◌, true, false, Some}
 use Rattle.std.specs.Prelude.{ℤ, if◌then◌else◌}
 use Rattle.std.specs.Prelude.{leb}
 use Rattle.std.proofs.lemmas.Bool.{leb-true, leb-false}
@@ -20,8 +20,9 @@ use Rattle.cal_model.specs.Transcripts.ConnectionAnswers.{is_open}
 use Rattle.cal_model.specs.Users.UsersFile.{Users}
 use Rattle.cal_session.specs.AskedTurns.{AnsweredAt}
 use Rattle.cal_session.specs.Connections.{requests_of, replies_of, AnsweredAll, AnsweredSome, IsFrontOfReplies}
-use Rattle.cal_session.specs.Sessions.{LinkTold, HasRun, HasServed, MetEnd}
-use Rattle.cal_session.specs.UnderWay.{IsReached, IsUnderWay, IsWaiting, EndsAtEnd}
+use Rattle.cal_session.specs.SessionStates.{Environment, LinkTold, SessionState, HasSeenMore}
+use Rattle.cal_session.specs.Sessions.{Exchange, whole_exchange, HasRun, MetEnd}
+use Rattle.cal_session.specs.UnderWay.{IsReached, IsUnderWay, IsWaiting, EndsIn, EndsAtEnd}
 use Rattle.cal_session.specs.declared.served.How.{How}
 use Rattle.cal_session.specs.declared.served.How.TheVariants.{Closed, CutInRequest, Limit, WireRefused, ReadFault, WriteFault, NoMemory}
 use Rattle.cal_session.specs.Turns.{Answer, IsToldMoment, seen_behind}
@@ -30,13 +31,13 @@ use Rattle.cal_session.proofs.StepLemmas.{adds_on, takes_on, map_further, looks_
 use Rattle.cal_session.proofs.StreamLemmas.{open_parts, served_front, served_open, spells_on}
 use Rattle.cal_session.proofs.TurnLaws.{HasSeenAll, session_later, stands_later, one_here}
 
--- the pass is that of the start, with more seen
-abbrev pub IsOn : PassState Entry Users → PassState Entry Users → Type 0
-IsOn start now = now ≡ record start { seen = now.seen; looks = now.looks }
+-- what a pass knows goes on in two steps as in one
+pub seen_further : (start now next : PassState Entry Users) → HasSeenMore start now → HasSeenMore now next → HasSeenMore start next
+seen_further start now next h g = g ∙ ap (λ (p : PassState Entry Users). record p { seen = next.seen; looks = next.looks }) h
 
-module _ (users : Users) (told : Option ℤ) (start now next : PassState Entry Users) where
+module _ (users : Users) (start now next : PassState Entry Users) where
   -- one answer more in the session
-  pub session_more : (answers : List Answer) (a : Answer) → IsOn start now → HasSeenAll users start.number start.seen answers now.seen → AnsweredAt users now next a → HasSeenAll users start.number start.seen (answers ++ a ∷ []) next.seen
+  pub session_more : (answers : List Answer) (a : Answer) → HasSeenMore start now → HasSeenAll users start.number start.seen answers now.seen → AnsweredAt users now next a → HasSeenAll users start.number start.seen (answers ++ a ∷ []) next.seen
   session_more answers a on s x =
       let number : now.number ≡ start.number = ap (λ (p : PassState Entry Users). p.number) on in
       let own = subst (λ n. HasSeenAll users n start.seen answers now.seen) (sym number) s in
@@ -47,17 +48,19 @@ module _ (users : Users) (told : Option ℤ) (start now next : PassState Entry U
       x.place (stands_later users now.number now.gone start.seen answers now.seen x.journal a own.0 own.1 x.later x.place x.refused_at) x.status x.reply x.alike) in
       subst (λ n. HasSeenAll users n start.seen (answers ++ a ∷ []) next.seen) number at
 
+module _ (environment : Environment) (before now after : SessionState) where
   -- one answer more in all that is told of a session, whose reply, or a front of it, was written
-  pub run_more : (before link after : LinkTold) (turns : List Served) (stream : List ℕ) (answers : List Answer) (a : Answer) (piece : List ℕ) → IsOn start now → HasRun users told start now before link turns stream answers (replies_of answers)
-      → seen_behind users start.number now.seen (length start.seen) answers ≡ length now.seen → AnsweredAt users now next a → IsToldMoment told a.turn.moment → after.left ≡ link.left → Adds link.written piece after.written
-      → HasRun users told start next before after (turns ++ a.turn ∷ []) stream (answers ++ a ∷ []) (replies_of answers ++ piece)
-  run_more before link after turns stream answers a piece on run seen x moment left added = record {
-    taken = subst (λ l. Takes before.left stream l) (sym left) run.taken;
+  pub run_more : (turns : List Served) (stream : List ℕ) (answers : List Answer) (a : Answer) (piece : List ℕ) → HasSeenMore before.pass now.pass → HasRun environment before now turns (whole_exchange stream answers)
+      → seen_behind environment.users before.pass.number now.pass.seen (length before.pass.seen) answers ≡ length now.pass.seen → AnsweredAt environment.users now.pass after.pass a → IsToldMoment environment.clock a.turn.moment
+      → after.link.left ≡ now.link.left → Adds now.link.written piece after.link.written
+      → HasRun environment before after (turns ++ a.turn ∷ []) (record { stream = stream; answers = answers ++ a ∷ []; printed = replies_of answers ++ piece })
+  run_more turns stream answers a piece more run seen x moment left added = record {
+    taken = subst (λ l. Takes before.link.left stream l) (sym left) run.taken;
     turns_are = ap (λ l. l ++ a.turn ∷ []) run.turns_are ∙ sym (map_further (λ (answer : Answer). answer.turn) answers a);
-    session = (session_more answers a on (run.session, seen) x).0;
-    looks = looks_on users start.looks now.looks next.looks answers (a ∷ []) run.looks x.looks;
-    moments = all_both (λ (answer : Answer). IsToldMoment told answer.turn.moment) answers (a ∷ []) run.moments (moment, tt);
-    written = adds_on before.written link.written after.written (replies_of answers) piece run.written added;
+    session = (session_more environment.users before.pass now.pass after.pass answers a more (run.session, seen) x).0;
+    looks = looks_on environment.users before.pass.looks now.pass.looks after.pass.looks answers (a ∷ []) run.looks x.looks;
+    moments = all_both (λ (answer : Answer). IsToldMoment environment.clock answer.turn.moment) answers (a ∷ []) run.moments (moment, tt);
+    written = adds_on before.link.written now.link.written after.link.written (replies_of answers) piece run.written added;
   }
 
 -- all that a stream has was answered, where the connection is open and what is left begins no further request
@@ -135,62 +138,64 @@ rose_since first second third h g (inr full) = by_order (order second first)
 
 -- Reading
 
-module _ (users : Users) (told : Option ℤ) (start now : PassState Entry Users) (before link after : LinkTold) (turns : List Served) where
+module _ (environment : Environment) (before now : SessionState) (link : LinkTold) (turns : List Served) where
+  -- the session, where nothing but the link went on
+  abbrev after : SessionState
+  after = record { pass = now.pass; link = link }
+
   -- more was taken, and nothing written
-  run_taken : (stream piece : List ℕ) (answers : List Answer) (printed : List ℕ) → HasRun users told start now before link turns stream answers printed → Takes link.left piece after.left → after.written ≡ link.written
-      → HasRun users told start now before after turns (stream ++ piece) answers printed
-  run_taken stream piece answers printed run taken written = record {
-    taken = takes_on before.left link.left after.left stream piece run.taken taken;
+  run_taken : (exchange : Exchange) (piece : List ℕ) → HasRun environment before now turns exchange → Takes now.link.left piece link.left → link.written ≡ now.link.written
+      → HasRun environment before after turns (record exchange { stream = exchange.stream ++ piece })
+  run_taken exchange piece run taken written = record {
+    taken = takes_on before.link.left now.link.left link.left exchange.stream piece run.taken taken;
     turns_are = run.turns_are;
     session = run.session;
     looks = run.looks;
     moments = run.moments;
-    written = subst (λ w. Adds before.written printed w) (sym written) run.written;
+    written = subst (λ w. Adds before.link.written exchange.printed w) (sym written) run.written;
   }
 
-  run_same : (stream : List ℕ) (answers : List Answer) (printed : List ℕ) → HasRun users told start now before link turns stream answers printed → after.left ≡ link.left → after.written ≡ link.written
-      → HasRun users told start now before after turns stream answers printed
-  run_same stream answers printed run left written = record {
-    taken = subst (λ l. Takes before.left stream l) (sym left) run.taken;
+  run_same : (exchange : Exchange) → HasRun environment before now turns exchange → link.left ≡ now.link.left → link.written ≡ now.link.written → HasRun environment before after turns exchange
+  run_same exchange run left written = record {
+    taken = subst (λ l. Takes before.link.left exchange.stream l) (sym left) run.taken;
     turns_are = run.turns_are;
     session = run.session;
     looks = run.looks;
     moments = run.moments;
-    written = subst (λ w. Adds before.written printed w) (sym written) run.written;
+    written = subst (λ w. Adds before.link.written exchange.printed w) (sym written) run.written;
   }
 
   waits_at : (rest : List ℕ) → (front rest ≡ idle) ⊎ (front rest ≡ cut) → (ending : Ending) × Ends rest ending
   waits_at rest (inl is) = (ends_idle, is)
   waits_at rest (inr is) = (ends_cut, is)
 
-  pub read_failed : (wire : Wire) → IsWaiting users told start now before link turns wire → after.left ≡ link.left → after.written ≡ link.written → link.faults ≤ after.faults → Rose link.faults after.faults
-      → HasServed users told start now before after turns ReadFault
+  pub read_failed : (wire : Wire) → IsWaiting environment before now turns wire → link.left ≡ now.link.left → link.written ≡ now.link.written → now.link.faults ≤ link.faults → Rose now.link.faults link.faults
+      → EndsIn environment before after turns ReadFault
   read_failed wire w left written falls rose =
       let waits = waits_at w.rest w.waits in
       record {
-        stream = w.stream;
-        answers = w.reached.answers;
-        printed = replies_of w.reached.answers;
-        run = run_same w.stream w.reached.answers (replies_of w.reached.answers) w.reached.run left written;
+        exchange = whole_exchange w.stream w.reached.answers;
+        run = run_same (whole_exchange w.stream w.reached.answers) w.reached.run left written;
         ended = (
           refl,
           record {
             ending = waits.0;
             answered = answered_all w.stream w.rest w.reached.answers waits.0 w.reached.spelled waits.1 w.reached.still_open;
             still_open = w.reached.still_open;
-            fault = rose_since before.faults link.faults after.faults w.reached.faults falls rose;
+            fault = rose_since before.link.faults now.link.faults link.faults w.reached.faults falls rose;
           },
         );
       }
 
-  pub read_fed : (wire fed : Wire) (piece : List ℕ) → IsWaiting users told start now before link turns wire → Takes link.left piece after.left → after.written ≡ link.written → link.faults ≤ after.faults
-      → ((octets : List ℕ) → Stands octets wire → Stands (octets ++ piece) fed) → IsUnderWay users told start now before after turns fed
+  pub read_fed : (wire fed : Wire) (piece : List ℕ) → IsWaiting environment before now turns wire → Takes now.link.left piece link.left → link.written ≡ now.link.written → now.link.faults ≤ link.faults
+      → ((octets : List ℕ) → Stands octets wire → Stands (octets ++ piece) fed) → IsUnderWay environment before after turns fed
   read_fed wire fed piece w taken written falls feeds = record {
     stream = w.stream ++ piece;
     rest = w.rest ++ piece;
     reached = record {
+      pass = w.reached.pass;
       answers = w.reached.answers;
-      run = run_taken w.stream piece w.reached.answers (replies_of w.reached.answers) w.reached.run taken written;
+      run = run_taken (whole_exchange w.stream w.reached.answers) piece w.reached.run taken written;
       still_open = w.reached.still_open;
       spelled = subst (λ requests. Spells (w.stream ++ piece) requests (w.rest ++ piece)) (append-nil (requests_of w.reached.answers)) (streams_grow w.stream piece (requests_of w.reached.answers) [] w.rest (w.rest ++ piece) w.reached.spelled refl);
       faults = (let h = w.reached.faults in omega (arith, h, falls));
@@ -199,36 +204,37 @@ module _ (users : Users) (told : Option ℤ) (start now : PassState Entry Users)
     stands = feeds w.rest w.stands;
   }
 
-  pub read_wanting : (wire : Wire) (piece : List ℕ) → IsWaiting users told start now before link turns wire → Takes link.left piece after.left → after.written ≡ link.written → HasServed users told start now before after turns NoMemory
+  pub read_wanting : (wire : Wire) (piece : List ℕ) → IsWaiting environment before now turns wire → Takes now.link.left piece link.left → link.written ≡ now.link.written → EndsIn environment before after turns NoMemory
   read_wanting wire piece w taken written =
       let spelled = subst (λ requests. Spells (w.stream ++ piece) requests (w.rest ++ piece)) (append-nil (requests_of w.reached.answers)) (streams_grow w.stream piece (requests_of w.reached.answers) [] w.rest (w.rest ++ piece) w.reached.spelled refl) in
       let some = answered_some (w.stream ++ piece) (w.rest ++ piece) w.reached.answers spelled w.reached.still_open in
       record {
-        stream = w.stream ++ piece;
-        answers = w.reached.answers;
-        printed = replies_of w.reached.answers;
-        run = run_taken w.stream piece w.reached.answers (replies_of w.reached.answers) w.reached.run taken written;
+        exchange = whole_exchange (w.stream ++ piece) w.reached.answers;
+        run = run_taken (whole_exchange w.stream w.reached.answers) piece w.reached.run taken written;
         ended = record { missing = some.0; answered = some.1; front = inl (all_front w.reached.answers) };
       }
 
-  pub read_ended : (wire : Wire) (how : How) → IsWaiting users told start now before link turns wire → Takes link.left [] after.left → after.written ≡ link.written → after.left ≡ Some []
-      → ((octets : List ℕ) → Stands octets wire → EndsAtEnd (front octets) how) → HasServed users told start now before after turns how
+  pub read_ended : (wire : Wire) (how : How) → IsWaiting environment before now turns wire → Takes now.link.left [] link.left → link.written ≡ now.link.written → link.left ≡ Some []
+      → ((octets : List ℕ) → Stands octets wire → EndsAtEnd (front octets) how) → EndsIn environment before after turns how
   read_ended wire how w taken written at_end ends = by_how how (ends w.rest w.stands) w.waits
     where
-      run : HasRun users told start now before after turns w.stream w.reached.answers (replies_of w.reached.answers)
-      run = subst (λ s. HasRun users told start now before after turns s w.reached.answers (replies_of w.reached.answers)) (append-nil w.stream) (run_taken w.stream [] w.reached.answers (replies_of w.reached.answers) w.reached.run taken written)
+      exchange : Exchange
+      exchange = whole_exchange w.stream w.reached.answers
 
-      met : (ending : Ending) → Ends w.rest ending → MetEnd w.stream w.reached.answers ending after
+      run : HasRun environment before after turns exchange
+      run = subst (λ s. HasRun environment before after turns (whole_exchange s w.reached.answers)) (append-nil w.stream) (run_taken exchange [] w.reached.run taken written)
+
+      met : (ending : Ending) → Ends w.rest ending → MetEnd exchange ending link
       met ending is = record {
         answered = answered_all w.stream w.rest w.reached.answers ending w.reached.spelled is w.reached.still_open;
         still_open = w.reached.still_open;
         at_end = at_end;
       }
 
-      by_how : (how : How) → EndsAtEnd (front w.rest) how → (front w.rest ≡ idle) ⊎ (front w.rest ≡ cut) → HasServed users told start now before after turns how
-      by_how Closed is waits = record { stream = w.stream; answers = w.reached.answers; printed = replies_of w.reached.answers; run = run; ended = (refl, inl (met ends_idle is)) }
+      by_how : (how : How) → EndsAtEnd (front w.rest) how → (front w.rest ≡ idle) ⊎ (front w.rest ≡ cut) → EndsIn environment before after turns how
+      by_how Closed is waits = record { exchange = exchange; run = run; ended = (refl, inl (met ends_idle is)) }
       by_how CutInRequest is (inl closed) = absurd (is closed)
-      by_how CutInRequest is (inr cuts) = record { stream = w.stream; answers = w.reached.answers; printed = replies_of w.reached.answers; run = run; ended = (refl, met ends_cut cuts) }
+      by_how CutInRequest is (inr cuts) = record { exchange = exchange; run = run; ended = (refl, met ends_cut cuts) }
       by_how Limit is waits = absurd is
       by_how (WireRefused why) is waits = absurd is
       by_how ReadFault is waits = absurd is
@@ -237,13 +243,23 @@ module _ (users : Users) (told : Option ℤ) (start now : PassState Entry Users)
 
   -- Refusing
 
-  pub refused_whole : (stream rest : List ℕ) (why : WireFault) (moment : ℤ) → IsReached users told start now before link turns stream rest → front rest ≡ fault why → IsToldMoment told moment
-      → after.left ≡ link.left → Adds link.written (fault_octets why moment) after.written → HasServed users told start now before after turns (WireRefused why)
+  -- a front of the reply to a fault was written
+  pub run_refused : (stream : List ℕ) (answers : List Answer) (piece : List ℕ) → HasRun environment before now turns (whole_exchange stream answers) → link.left ≡ now.link.left → Adds now.link.written piece link.written
+      → HasRun environment before after turns (record { stream = stream; answers = answers; printed = replies_of answers ++ piece })
+  run_refused stream answers piece run left added = record {
+    taken = subst (λ l. Takes before.link.left stream l) (sym left) run.taken;
+    turns_are = run.turns_are;
+    session = run.session;
+    looks = run.looks;
+    moments = run.moments;
+    written = adds_on before.link.written now.link.written link.written (replies_of answers) piece run.written added;
+  }
+
+  pub refused_whole : (stream rest : List ℕ) (why : WireFault) (moment : ℤ) → IsReached environment before now turns stream rest → front rest ≡ fault why → IsToldMoment environment.clock moment
+      → link.left ≡ now.link.left → Adds now.link.written (fault_octets why moment) link.written → EndsIn environment before after turns (WireRefused why)
   refused_whole stream rest why moment r is dated left added = record {
-    stream = stream;
-    answers = r.answers;
-    printed = replies_of r.answers ++ fault_octets why moment;
-    run = run_written stream r.answers (fault_octets why moment) r.run left added;
+    exchange = record { stream = stream; answers = r.answers; printed = replies_of r.answers ++ fault_octets why moment };
+    run = run_refused stream r.answers (fault_octets why moment) r.run left added;
     ended = record {
       answered = answered_all stream rest r.answers (ends_at why) r.spelled is r.still_open;
       still_open = r.still_open;
@@ -252,14 +268,3 @@ module _ (users : Users) (told : Option ℤ) (start now : PassState Entry Users)
       printed_is = refl;
     };
   }
-    where
-      run_written : (stream : List ℕ) (answers : List Answer) (piece : List ℕ) → HasRun users told start now before link turns stream answers (replies_of answers) → after.left ≡ link.left → Adds link.written piece after.written
-          → HasRun users told start now before after turns stream answers (replies_of answers ++ piece)
-      run_written stream answers piece run left added = record {
-        taken = subst (λ l. Takes before.left stream l) (sym left) run.taken;
-        turns_are = run.turns_are;
-        session = run.session;
-        looks = run.looks;
-        moments = run.moments;
-        written = adds_on before.written link.written after.written (replies_of answers) piece run.written added;
-      }

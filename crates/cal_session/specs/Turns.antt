@@ -53,11 +53,6 @@ pub record Answer : Type 0 where
 abbrev pub is_busy : Reply → Bool
 is_busy reply = reply.status == 503
 
--- a request that is answered by the book
-abbrev pub IsOfBook : Asked → Type 0
-IsOfBook (refused reply) = ⊥
-IsOfBook (asked who request) = Unit {0}
-
 -- a fact, where a request is refused before any state is looked at
 abbrev pub WhereRefused : Asked → Type 0 → Type 0
 WhereRefused (refused reply) fact = fact
@@ -132,7 +127,7 @@ pub record LooksUp (users : Users) (before : List ℕ) (answers : List Answer) (
 
 -- the moments are the clock's, where it tells one
 abbrev pub IsToldMoment : Option ℤ → ℤ → Type 0
-IsToldMoment told moment = IfSome told (λ m. moment ≡ m)
+IsToldMoment clock moment = IfSome clock (λ m. moment ≡ m)
 
 abbrev pub AreToldMoments : Option ℤ → List Answer → Type 0
-AreToldMoments told answers = AllByRecursion (λ (answer : Answer). IsToldMoment told answer.turn.moment) answers
+AreToldMoments clock answers = AllByRecursion (λ (answer : Answer). IsToldMoment clock answer.turn.moment) answers

@@ -1,15 +1,13 @@
 -- A session under way: all that the octets so far complete in front of a place was answered.
 -- Given: as in Sessions; and the wire, or what is left of the octets behind the requests that were answered.
-use Rattle.std.specs.Prelude.{◌≡◌, ◌⊎◌, ℕ, ◌≤◌, true, List, length, Result, Ok, Err, Option, Some, None, ℤ}
+use Rattle.std.specs.Prelude.{◌≡◌, ◌⊎◌, ℕ, ◌≤◌, true, List, length, Result, Ok, Err, Option, Some, None}
 use Rattle.http_wire.specs.Wires.{Stands}
 use Rattle.http_wire.specs.declared.wire.Wire.{Wire}
-use Rattle.turn_lock.specs.Passes.{PassState}
-use Rattle.cal_model.specs.History.Journal.{Entry}
 use Rattle.cal_model.specs.Streams.StreamRequests.{Spells, Front, front, idle, cut}
 use Rattle.cal_model.specs.Transcripts.ConnectionAnswers.{is_open}
-use Rattle.cal_model.specs.Users.UsersFile.{Users}
-use Rattle.cal_session.specs.Connections.{requests_of, replies_of}
-use Rattle.cal_session.specs.Sessions.{LinkTold, HasRun, HasServed, HasBroken}
+use Rattle.cal_session.specs.Connections.{requests_of}
+use Rattle.cal_session.specs.SessionStates.{Environment, SessionState, HasSeenMore}
+use Rattle.cal_session.specs.Sessions.{whole_exchange, HasRun, HasServed, HasBroken}
 use Rattle.cal_session.specs.Turns.{Answer, seen_behind}
 use Rattle.cal_session.specs.declared.served.Served.{Served}
 use Rattle.cal_session.specs.declared.served.How.{How}
@@ -22,32 +20,37 @@ use Rattle.cal_session.specs.declared.answering.Stop.{Stop}
 use Rattle.cal_session.specs.declared.answering.Stop.TheVariants.{Ended, Broken}
 
 -- these requests were answered, all their replies written, what is left stands behind them, and the pass has seen no more than they tell
-pub record IsReached (users : Users) (told : Option ℤ) (pass now : PassState Entry Users) (before after : LinkTold) (turns : List Served) (stream rest : List ℕ) : Type 0 where
+pub record IsReached (environment : Environment) (before now : SessionState) (turns : List Served) (stream rest : List ℕ) : Type 0 where
+  pub pass : HasSeenMore before.pass now.pass
   pub answers : List Answer
-  pub run : HasRun users told pass now before after turns stream answers (replies_of answers)
+  pub run : HasRun environment before now turns (whole_exchange stream answers)
   pub still_open : is_open (requests_of answers) ≡ true
   pub spelled : Spells stream (requests_of answers) rest
-  pub faults : before.faults ≤ after.faults
-  pub seen : seen_behind users pass.number now.seen (length pass.seen) answers ≡ length now.seen
+  pub faults : before.link.faults ≤ now.link.faults
+  pub seen : seen_behind environment.users before.pass.number now.pass.seen (length before.pass.seen) answers ≡ length now.pass.seen
 
-pub record IsUnderWay (users : Users) (told : Option ℤ) (pass now : PassState Entry Users) (before after : LinkTold) (turns : List Served) (wire : Wire) : Type 0 where
+pub record IsUnderWay (environment : Environment) (before now : SessionState) (turns : List Served) (wire : Wire) : Type 0 where
   pub stream : List ℕ
   pub rest : List ℕ
-  pub reached : IsReached users told pass now before after turns stream rest
+  pub reached : IsReached environment before now turns stream rest
   pub stands : Stands rest wire
 
 -- and what is left begins no further request, and shows no fault
-pub record IsWaiting (users : Users) (told : Option ℤ) (pass now : PassState Entry Users) (before after : LinkTold) (turns : List Served) (wire : Wire) : Type 0 where
+pub record IsWaiting (environment : Environment) (before now : SessionState) (turns : List Served) (wire : Wire) : Type 0 where
   pub stream : List ℕ
   pub rest : List ℕ
-  pub reached : IsReached users told pass now before after turns stream rest
+  pub reached : IsReached environment before now turns stream rest
   pub stands : Stands rest wire
   pub waits : (front rest ≡ idle) ⊎ (front rest ≡ cut)
 
+-- it has ended in that way, with the turns that were noted
+abbrev pub EndsIn : Environment → SessionState → SessionState → List Served → How → Type 0
+EndsIn environment before after turns how = HasServed environment before after (record { how = how; turns = turns })
+
 -- a session that stops there has ended so
-abbrev pub StopsSo : {X : Type 0} → Users → Option ℤ → PassState Entry Users → PassState Entry Users → LinkTold → LinkTold → List Served → Stop X → Type 0
-StopsSo users told pass now before after turns (Ended how) = HasServed users told pass now before after turns how
-StopsSo users told pass now before after turns (Broken fault) = HasBroken users told pass now before after turns
+abbrev pub StopsSo : {X : Type 0} → Environment → SessionState → SessionState → List Served → Stop X → Type 0
+StopsSo environment before after turns (Ended how) = EndsIn environment before after turns how
+StopsSo environment before after turns (Broken fault) = HasBroken environment before after turns
 
 -- the end of a session that stopped so, with the turns that were noted
 abbrev pub IsEndWith : {X : Type 0} → Stop X → List Served → OnEnd X → Type 0

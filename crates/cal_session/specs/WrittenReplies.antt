@@ -3,17 +3,18 @@ use Rattle.std.specs.Prelude.{◌≡◌, ℕ, ◌+◌, ◌<◌, true, false, Lis
 use Rattle.cal_base.specs.World.Outside.{Rose, Adds}
 use Rattle.cal_model.specs.declared.wire.WireRequest.{WireRequest}
 use Rattle.cal_model.specs.Streams.WireLimits.{request_limit}
+use Rattle.cal_session.specs.SessionStates.{LinkTold}
 use Rattle.cal_session.specs.declared.answering.Stop.{Stop}
 use Rattle.cal_session.specs.declared.answering.Stop.TheVariants.{Ended}
 use Rattle.cal_session.specs.declared.served.How.{How}
 use Rattle.cal_session.specs.declared.served.How.TheVariants.{Closed, Limit, WriteFault, NoMemory}
 
 -- all were written; or a write failed, and a front of them was, and not all; or memory was missing, and a front of them was
-abbrev pub IsSent : List ℕ → Option (List ℕ) → Option (List ℕ) → ℕ → ℕ → Option How → Type 0
-IsSent octets before after old new None = Adds before octets after
-IsSent octets before after old new (Some WriteFault) = ((many : ℕ) × (many < length octets) × Adds before (take many octets) after) × Rose old new
-IsSent octets before after old new (Some NoMemory) = (many : ℕ) × Adds before (take many octets) after
-IsSent octets before after old new (Some other) = ⊥
+abbrev pub IsSent : List ℕ → LinkTold → LinkTold → Option How → Type 0
+IsSent octets before after None = Adds before.written octets after.written
+IsSent octets before after (Some WriteFault) = ((many : ℕ) × (many < length octets) × Adds before.written (take many octets) after.written) × Rose before.faults after.faults
+IsSent octets before after (Some NoMemory) = (many : ℕ) × Adds before.written (take many octets) after.written
+IsSent octets before after (Some other) = ⊥
 
 -- Behind the last request that a connection has it is at its limit, and behind another that asks so it is closed.
 abbrev pub GoesOnBehind : {X : Type 0} → ℕ → WireRequest → Result (Unit {0}) (Stop X) → Type 0

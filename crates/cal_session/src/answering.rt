@@ -7,13 +7,13 @@ ghost use Rattle.cal_model.specs.Streams.StreamRequests.{Begins, front, fault};
 ghost use Rattle.cal_model.specs.Streams.WireLimits.{body_limit, request_limit};
 ghost use Rattle.cal_model.specs.Users.UsersFile.{Users};
 ghost use Rattle.cal_session.specs.AskedTurns.{EndsAt};
-ghost use Rattle.cal_session.specs.Sessions.{LinkTold, HasServed};
+ghost use Rattle.cal_session.specs.SessionStates.{SessionState, environment_of, session_state};
 ghost use Rattle.cal_session.specs.WrittenReplies.{GoesOnBehind};
-ghost use Rattle.cal_session.specs.UnderWay.{IsReached, IsUnderWay, IsWaiting, StopsSo, ComesTo, GoesOnOrStops, IfAnswered};
+ghost use Rattle.cal_session.specs.UnderWay.{IsReached, IsUnderWay, IsWaiting, EndsIn, StopsSo, ComesTo, GoesOnOrStops, IfAnswered};
 ghost use Rattle.http_wire.specs.Wires.{Stands};
 ghost use Rattle.turn_lock.specs.Passes.{PassState};
 
-use crate::hall::Hall;
+use crate::context::Context;
 use crate::served::{How, Served};
 use crate::turn::ask_once;
 use crate::writing::{send_fault, send_reply};
@@ -37,7 +37,7 @@ pub(crate) enum Stop<X> {
 /// Answers one after the other the requests that are whole, until one closes the connection, or
 /// nothing more is whole.
 pub(crate) fn answer_due<B: Desk, L: Link, C: Clock, R: Wait, G: Ledger>(
-    hall: &Hall<'_, R, B>,
+    context: &Context<'_, R, B>,
     pass: &mut Pass<B>,
     wire: &mut Wire,
     turns: &mut ReservedList<Served>,
@@ -45,20 +45,20 @@ pub(crate) fn answer_due<B: Desk, L: Link, C: Clock, R: Wait, G: Ledger>(
     clock: &mut C,
     steps: &mut Steps<G>,
 ) -> Result<(), Stop<B::Fault>>
-    requires same { pass.old.lock ≡ hall.now.lock.now }
+    requires same { pass.old.lock ≡ context.now.lock.now }
     requires free { pass.old.holds_turn ≡ false }
-    requires base { pass.old.base ≡ Some hall.now.users.now }
+    requires base { pass.old.base ≡ Some context.now.users.now }
     requires room { request_limit ≤ length turns.old.items + turns.old.room }
-    requires under_way { (start : PassState Entry Users) × (before : LinkTold) × (pass.old ≡ record start { seen = pass.old.seen; looks = pass.old.looks }) × IsUnderWay hall.now.users.now (C.moment clock.old) start pass.old before (record { faults = L.faults link.old; left = L.left link.old; written = L.written link.old }) turns.old.items wire.old }
+    requires under_way { (before : SessionState) × IsUnderWay (environment_of C.Clock context.now.users.now clock.old) before (session_state L.Link pass.old link.old) turns.old.items wire.old }
     ensures pass { pass.new ≡ record pass.old { seen = pass.new.seen; looks = pass.new.looks } }
     ensures room { length turns.new.items + turns.new.room ≡ length turns.old.items + turns.old.room }
-    ensures session { (start : PassState Entry Users) (before : LinkTold) → pass.old ≡ record start { seen = pass.old.seen; looks = pass.old.looks } → IsUnderWay hall.now.users.now (C.moment clock.old) start pass.old before (record { faults = L.faults link.old; left = L.left link.old; written = L.written link.old }) turns.old.items wire.old → GoesOnOrStops (IsWaiting hall.now.users.now (C.moment clock.old) start pass.new before (record { faults = L.faults link.new; left = L.left link.new; written = L.written link.new }) turns.new.items wire.new) (StopsSo hall.now.users.now (C.moment clock.old) start pass.new before (record { faults = L.faults link.new; left = L.left link.new; written = L.written link.new }) turns.new.items) result }
+    ensures session { let environment = environment_of C.Clock context.now.users.now clock.old in let now = session_state L.Link pass.new link.new in (before : SessionState) → IsUnderWay environment before (session_state L.Link pass.old link.old) turns.old.items wire.old → GoesOnOrStops (IsWaiting environment before now turns.new.items wire.new) (StopsSo environment before now turns.new.items) result }
     ensures clock { C.moment clock.new ≡ C.moment clock.old }
     ensures allowance { L.allowance link.new ≡ L.allowance link.old }
     ensures never_falls { L.faults link.old ≤ L.faults link.new }
 {
     'due: loop {
-        match answer_next(hall, pass, wire, turns, link, clock, steps) {
+        match answer_next(context, pass, wire, turns, link, clock, steps) {
             Due::Answered => {}
             Due::Waits => return Ok(()),
             Due::Stops(stop) => return Err(stop),
@@ -77,7 +77,7 @@ enum Due<X> {
 
 /// Answers the next request, if it is whole.
 fn answer_next<B: Desk, L: Link, C: Clock, R: Wait, G: Ledger>(
-    hall: &Hall<'_, R, B>,
+    context: &Context<'_, R, B>,
     pass: &mut Pass<B>,
     wire: &mut Wire,
     turns: &mut ReservedList<Served>,
@@ -85,26 +85,26 @@ fn answer_next<B: Desk, L: Link, C: Clock, R: Wait, G: Ledger>(
     clock: &mut C,
     steps: &mut Steps<G>,
 ) -> Due<B::Fault>
-    requires same { pass.old.lock ≡ hall.now.lock.now }
+    requires same { pass.old.lock ≡ context.now.lock.now }
     requires free { pass.old.holds_turn ≡ false }
-    requires base { pass.old.base ≡ Some hall.now.users.now }
+    requires base { pass.old.base ≡ Some context.now.users.now }
     requires few { length turns.old.items < request_limit }
     requires room { 0 < turns.old.room }
     requires stands { (octets : List ℕ) × Stands octets wire.old }
     ensures pass { pass.new ≡ record pass.old { seen = pass.new.seen; looks = pass.new.looks } }
     ensures room { length turns.new.items + turns.new.room ≡ length turns.old.items + turns.old.room }
-    ensures session { (start : PassState Entry Users) (before : LinkTold) → pass.old ≡ record start { seen = pass.old.seen; looks = pass.old.looks } → IsUnderWay hall.now.users.now (C.moment clock.old) start pass.old before (record { faults = L.faults link.old; left = L.left link.old; written = L.written link.old }) turns.old.items wire.old → ComesTo (IsUnderWay hall.now.users.now (C.moment clock.old) start pass.new before (record { faults = L.faults link.new; left = L.left link.new; written = L.written link.new }) turns.new.items wire.new) (IsWaiting hall.now.users.now (C.moment clock.old) start pass.new before (record { faults = L.faults link.new; left = L.left link.new; written = L.written link.new }) turns.new.items wire.new) (StopsSo hall.now.users.now (C.moment clock.old) start pass.new before (record { faults = L.faults link.new; left = L.left link.new; written = L.written link.new }) turns.new.items) result }
+    ensures session { let environment = environment_of C.Clock context.now.users.now clock.old in let now = session_state L.Link pass.new link.new in (before : SessionState) → IsUnderWay environment before (session_state L.Link pass.old link.old) turns.old.items wire.old → ComesTo (IsUnderWay environment before now turns.new.items wire.new) (IsWaiting environment before now turns.new.items wire.new) (StopsSo environment before now turns.new.items) result }
     ensures longer { IfAnswered result (length turns.new.items ≡ length turns.old.items + 1) }
     ensures clock { C.moment clock.new ≡ C.moment clock.old }
     ensures allowance { L.allowance link.new ≡ L.allowance link.old }
     ensures never_falls { L.faults link.old ≤ L.faults link.new }
 {
-    match wire.next(hall.alloc) {
+    match wire.next(context.alloc) {
         Next::Need => Due::Waits,
         Next::NoMemory => Due::Stops(Stop::Ended(How::NoMemory)),
-        Next::Fault(why) => Due::Stops(Stop::Ended(refuse(hall, why, link, clock))),
+        Next::Fault(why) => Due::Stops(Stop::Ended(refuse(context, why, link, clock))),
         Next::Request(request) => {
-            let answered = answer_request(hall, pass, &request, turns, link, clock, steps);
+            let answered = answer_request(context, pass, &request, turns, link, clock, steps);
             drop(request);
             match answered {
                 Ok(()) => Due::Answered,
@@ -116,18 +116,18 @@ fn answer_next<B: Desk, L: Link, C: Clock, R: Wait, G: Ledger>(
 
 /// Writes the reply to a fault of the octets, behind which nothing is read.
 fn refuse<B: Desk, L: Link, C: Clock, R>(
-    hall: &Hall<'_, R, B>,
+    context: &Context<'_, R, B>,
     why: WireFault,
     link: &mut L,
     clock: &mut C,
 ) -> How
-    ensures session { (start now : PassState Entry Users) (before : LinkTold) (turns : List Served) (stream rest : List ℕ) → IsReached hall.now.users.now (C.moment clock.old) start now before (record { faults = L.faults link.old; left = L.left link.old; written = L.written link.old }) turns stream rest → front rest ≡ fault why → HasServed hall.now.users.now (C.moment clock.old) start now before (record { faults = L.faults link.new; left = L.left link.new; written = L.written link.new }) turns result }
+    ensures session { let environment = environment_of C.Clock context.now.users.now clock.old in (before : SessionState) (pass : PassState Entry Users) (turns : List Served) (stream rest : List ℕ) → IsReached environment before (session_state L.Link pass link.old) turns stream rest → front rest ≡ fault why → EndsIn environment before (session_state L.Link pass link.new) turns result }
     ensures clock { C.moment clock.new ≡ C.moment clock.old }
     ensures allowance { L.allowance link.new ≡ L.allowance link.old }
     ensures never_falls { L.faults link.old ≤ L.faults link.new }
 {
     let moment = clock.now();
-    match send_fault(hall.alloc, why, moment, link) {
+    match send_fault(context.alloc, why, moment, link) {
         Some(how) => how,
         None => How::WireRefused(why),
     }
@@ -135,7 +135,7 @@ fn refuse<B: Desk, L: Link, C: Clock, R>(
 
 /// Answers one request: notes its turn, and writes its reply.
 fn answer_request<B: Desk, L: Link, C: Clock, R: Wait, G: Ledger>(
-    hall: &Hall<'_, R, B>,
+    context: &Context<'_, R, B>,
     pass: &mut Pass<B>,
     wire: &WireRequest,
     turns: &mut ReservedList<Served>,
@@ -143,22 +143,22 @@ fn answer_request<B: Desk, L: Link, C: Clock, R: Wait, G: Ledger>(
     clock: &mut C,
     steps: &mut Steps<G>,
 ) -> Result<(), Stop<B::Fault>>
-    requires same { pass.old.lock ≡ hall.now.lock.now }
+    requires same { pass.old.lock ≡ context.now.lock.now }
     requires free { pass.old.holds_turn ≡ false }
-    requires base { pass.old.base ≡ Some hall.now.users.now }
+    requires base { pass.old.base ≡ Some context.now.users.now }
     requires body { length wire.now.body ≤ body_limit }
     requires few { length turns.old.items < request_limit }
     requires room { 0 < turns.old.room }
     ensures pass { pass.new ≡ record pass.old { seen = pass.new.seen; looks = pass.new.looks } }
     ensures room { length turns.new.items + turns.new.room ≡ length turns.old.items + turns.old.room }
-    ensures session { (start : PassState Entry Users) (before : LinkTold) (stream rest behind : List ℕ) → pass.old ≡ record start { seen = pass.old.seen; looks = pass.old.looks } → IsReached hall.now.users.now (C.moment clock.old) start pass.old before (record { faults = L.faults link.old; left = L.left link.old; written = L.written link.old }) turns.old.items stream rest → Begins rest wire.now behind → GoesOnOrStops (IsReached hall.now.users.now (C.moment clock.old) start pass.new before (record { faults = L.faults link.new; left = L.left link.new; written = L.written link.new }) turns.new.items stream behind) (StopsSo hall.now.users.now (C.moment clock.old) start pass.new before (record { faults = L.faults link.new; left = L.left link.new; written = L.written link.new }) turns.new.items) result }
+    ensures session { let environment = environment_of C.Clock context.now.users.now clock.old in let now = session_state L.Link pass.new link.new in (before : SessionState) (stream rest behind : List ℕ) → IsReached environment before (session_state L.Link pass.old link.old) turns.old.items stream rest → Begins rest wire.now behind → GoesOnOrStops (IsReached environment before now turns.new.items stream behind) (StopsSo environment before now turns.new.items) result }
     ensures longer { OnOk result (length turns.new.items ≡ length turns.old.items + 1) }
     ensures clock { C.moment clock.new ≡ C.moment clock.old }
     ensures allowance { L.allowance link.new ≡ L.allowance link.old }
     ensures never_falls { L.faults link.old ≤ L.faults link.new }
 {
     let moment = clock.now();
-    match reply_to(hall, pass, wire, moment, steps) {
+    match reply_to(context, pass, wire, moment, steps) {
         Err(fault) => Err(Stop::Broken(fault)),
         Ok((at, reply)) => {
             let before = turns.len();
@@ -167,7 +167,7 @@ fn answer_request<B: Desk, L: Link, C: Clock, R: Wait, G: Ledger>(
                 moment,
                 status: reply.status,
             });
-            let sent = send_reply(hall.alloc, before, wire, &reply, moment, link);
+            let sent = send_reply(context.alloc, before, wire, &reply, moment, link);
             drop(reply);
             match sent {
                 Some(how) => Err(Stop::Ended(how)),
@@ -181,23 +181,23 @@ fn answer_request<B: Desk, L: Link, C: Clock, R: Wait, G: Ledger>(
 /// desk that broke. The request is read before the turn. One that is refused as it stands needs no
 /// turn, and is answered at what the pass has seen.
 fn reply_to<B: Desk, R: Wait, G: Ledger>(
-    hall: &Hall<'_, R, B>,
+    context: &Context<'_, R, B>,
     pass: &mut Pass<B>,
     wire: &WireRequest,
     moment: i64,
     steps: &mut Steps<G>,
 ) -> Result<(u64, Reply), B::Fault>
-    requires same { pass.old.lock ≡ hall.now.lock.now }
+    requires same { pass.old.lock ≡ context.now.lock.now }
     requires free { pass.old.holds_turn ≡ false }
-    requires base { pass.old.base ≡ Some hall.now.users.now }
+    requires base { pass.old.base ≡ Some context.now.users.now }
     requires body { length wire.now.body ≤ body_limit }
     requires moment { IsMoment moment }
     ensures pass { pass.new ≡ record pass.old { seen = pass.new.seen; looks = pass.new.looks } }
-    ensures answered { EndsAt hall.now.users.now pass.old pass.new wire.now moment result }
+    ensures answered { EndsAt context.now.users.now pass.old pass.new wire.now moment result }
     ensures known { IfOk result (λ given. 0 < length (reason given.1.status)) }
 {
     replies_have_reasons();
-    match read_request(hall.alloc, wire, hall.users) {
+    match read_request(context.alloc, wire, context.users) {
         Asked::Request { who, request } => {
             let event = Event {
                 session: pass.number(),
@@ -205,7 +205,7 @@ fn reply_to<B: Desk, R: Wait, G: Ledger>(
                 moment,
                 request,
             };
-            let (at, told) = ask_once(hall, pass, &event, steps);
+            let (at, told) = ask_once(context, pass, &event, steps);
             drop(event);
             match told {
                 Told::Reply(reply) => Ok((at, reply)),
@@ -213,7 +213,7 @@ fn reply_to<B: Desk, R: Wait, G: Ledger>(
             }
         }
         Asked::Refused(reply) => Ok((pass.seen_len(), reply)),
-        Asked::NoMemory => Ok((pass.seen_len(), bare_reply(hall.alloc, 503))),
+        Asked::NoMemory => Ok((pass.seen_len(), bare_reply(context.alloc, 503))),
     }
 }
 

@@ -4,6 +4,7 @@ ghost use Rattle.cal_base.specs.World.Outside.{Rose};
 ghost use Rattle.cal_model.specs.State.ServerState.{directory_of};
 ghost use Rattle.cal_book.specs.LegalJournals.{is_legal, beginning_is_legal};
 ghost use Rattle.cal_keeper.specs.Files.Payloads.{HasForm};
+ghost use Rattle.cal_keeper.specs.Keepers.{HasCounted};
 ghost use Rattle.cal_session.specs.KeptBooks.{IsKeptOf};
 ghost use Rattle.cal_session.specs.KeptSteps.{HasKept};
 
@@ -54,6 +55,14 @@ impl<D: Disk> Kept<D> {
         let Kept { book, keeper } = self;
         drop(book);
         keeper.into_disk()
+    }
+
+    /// The fault by which it is broken, if it is: then a call of its disk failed, and was counted.
+    pub fn fault(&self) -> Option<DiskFault>
+        ensures broken { is_some result ≡ self.now.keeper.broken }
+        ensures counted { HasCounted D.faults self.now.keeper }
+    {
+        self.keeper.fault()
     }
 
     /// The book. (That the file has its journal holds of each kept book.)

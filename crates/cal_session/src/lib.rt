@@ -8,7 +8,7 @@
 #![tactic(auto)]
 
 mod answering;
-mod hall;
+mod context;
 mod kept;
 mod loading;
 mod served;

@@ -2,6 +2,7 @@
 ghost use Rattle.std.specs.Prelude.{◌≡◌, ◌≤◌, false, [], Some, IfOk};
 ghost use Rattle.cal_model.specs.History.Journal.{IsLegal};
 ghost use Rattle.cal_model.specs.State.ServerState.{directory_of};
+ghost use Rattle.cal_session.specs.SessionStates.{environment_of, session_state};
 ghost use Rattle.cal_session.specs.Sessions.{HasServed};
 
 use crate::served::{Ended, OnEnd};
@@ -64,7 +65,7 @@ pub fn serve_connection<L: Link, C: Clock, R: Wait>(
     requires free { pass.old.holds_turn ≡ false }
     requires users { pass.old.base ≡ Some users.now }
     ensures pass { pass.new ≡ record pass.old { seen = pass.new.seen; looks = pass.new.looks } }
-    ensures session { HasServed users.now (C.moment clock.old) pass.old pass.new (record { faults = L.faults link.old; left = L.left link.old; written = L.written link.old }) (record { faults = L.faults link.new; left = L.left link.new; written = L.written link.new }) result.turns result.how }
+    ensures session { HasServed (environment_of C.Clock users.now clock.old) (session_state L.Link pass.old link.old) (session_state L.Link pass.new link.new) result }
     ensures legal { IsLegal (directory_of users.now) pass.new.seen }
     ensures clock { C.moment clock.new ≡ C.moment clock.old }
     ensures never_falls { L.faults link.old ≤ L.faults link.new }

@@ -1,17 +1,18 @@
 //! One session, over any desk.
-ghost use Rattle.std.specs.Prelude.{◌≡◌, ◌≤◌, ◌<◌, ℕ, ℤ, List, [], false, length, Option, Some, IfOk, OnOk, IsNone};
+ghost use Rattle.std.specs.Prelude.{◌≡◌, ◌≤◌, ◌<◌, ℕ, List, [], false, length, Some, IfOk, OnOk, IsNone};
 ghost use Rattle.cal_model.specs.History.Journal.{Entry, IsLegal};
 ghost use Rattle.cal_model.specs.State.ServerState.{directory_of};
 ghost use Rattle.cal_model.specs.Streams.StreamRequests.{front};
 ghost use Rattle.cal_model.specs.Streams.WireLimits.{request_limit};
 ghost use Rattle.cal_model.specs.Users.UsersFile.{Users};
-ghost use Rattle.cal_session.specs.Sessions.{LinkTold, HasServed, HasServedOn};
-ghost use Rattle.cal_session.specs.UnderWay.{IsUnderWay, IsWaiting, GoesOnOrEnds, EndsAtEnd, StopsSo, IsEndWith};
+ghost use Rattle.cal_session.specs.SessionStates.{Environment, SessionState, environment_of, session_state};
+ghost use Rattle.cal_session.specs.Sessions.{HasServedOn};
+ghost use Rattle.cal_session.specs.UnderWay.{IsUnderWay, IsWaiting, GoesOnOrEnds, EndsAtEnd, EndsIn, StopsSo, IsEndWith};
 ghost use Rattle.http_wire.specs.Wires.{Stands};
 ghost use Rattle.turn_lock.specs.Passes.{PassState};
 
 use crate::answering::{Stop, answer_due};
-use crate::hall::Hall;
+use crate::context::Context;
 use crate::served::{Ended, How, OnEnd, Served};
 use cal_base::{Clock, Link, NoMemory, ReservedList, Steps};
 use cal_book::{Desk, journals_are_told};
@@ -47,18 +48,18 @@ pub fn serve_on<B: Desk, L: Link, C: Clock, R: Wait>(
     requires free { pass.old.holds_turn ≡ false }
     requires users { pass.old.base ≡ Some users.now }
     ensures pass { pass.new ≡ record pass.old { seen = pass.new.seen; looks = pass.new.looks } }
-    ensures session { HasServedOn users.now (C.moment clock.old) pass.old pass.new (record { faults = L.faults link.old; left = L.left link.old; written = L.written link.old }) (record { faults = L.faults link.new; left = L.left link.new; written = L.written link.new }) result }
+    ensures session { HasServedOn (environment_of C.Clock users.now clock.old) (session_state L.Link pass.old link.old) (session_state L.Link pass.new link.new) result }
     ensures legal { IsLegal (directory_of users.now) pass.new.seen }
     ensures clock { C.moment clock.new ≡ C.moment clock.old }
     ensures never_falls { L.faults link.old ≤ L.faults link.new }
 {
-    let hall = Hall {
+    let context = Context {
         rt,
         alloc,
         lock,
         users,
     };
-    let end = serve_under::<B, L, C, R, Brand>(&hall, pass, link, clock, Blank::new(1));
+    let end = serve_under::<B, L, C, R, Brand>(&context, pass, link, clock, Blank::new(1));
     // A look at what was seen, and the law of the test that it passes, tell a proof that it is legal.
     let _seen = pass.seen_len();
     journals_are_told();
@@ -67,33 +68,35 @@ pub fn serve_on<B: Desk, L: Link, C: Clock, R: Wait>(
 
 /// The same, with a ledger for the steps of expansion, which are not counted here.
 fn serve_under<B: Desk, L: Link, C: Clock, R: Wait, G: Ledger>(
-    hall: &Hall<'_, R, B>,
+    context: &Context<'_, R, B>,
     pass: &mut Pass<B>,
     link: &mut L,
     clock: &mut C,
     blank: Blank,
 ) -> OnEnd<B::Fault>
-    requires same { pass.old.lock ≡ hall.now.lock.now }
+    requires same { pass.old.lock ≡ context.now.lock.now }
     requires free { pass.old.holds_turn ≡ false }
-    requires users { pass.old.base ≡ Some hall.now.users.now }
+    requires users { pass.old.base ≡ Some context.now.users.now }
     requires name { blank.name ≡ G.name }
     requires parts { blank.parts ≡ G.parts }
     requires some { 0 < blank.parts }
     ensures pass { pass.new ≡ record pass.old { seen = pass.new.seen; looks = pass.new.looks } }
-    ensures session { HasServedOn hall.now.users.now (C.moment clock.old) pass.old pass.new (record { faults = L.faults link.old; left = L.left link.old; written = L.written link.old }) (record { faults = L.faults link.new; left = L.left link.new; written = L.written link.new }) result }
+    ensures session { HasServedOn (environment_of C.Clock context.now.users.now clock.old) (session_state L.Link pass.old link.old) (session_state L.Link pass.new link.new) result }
     ensures clock { C.moment clock.new ≡ C.moment clock.old }
     ensures never_falls { L.faults link.old ≤ L.faults link.new }
 {
     let mut steps = Steps::<G>::open(blank);
-    let mut turns = ReservedList::new(hall.alloc);
-    let mut wire = Wire::new(hall.alloc);
-    let stop = serve_new(hall, pass, &mut wire, &mut turns, link, clock, &mut steps);
+    let mut turns = ReservedList::new(context.alloc);
+    let mut wire = Wire::new(context.alloc);
+    let stop = serve_new(
+        context, pass, &mut wire, &mut turns, link, clock, &mut steps,
+    );
     end_with(stop, turns)
 }
 
 /// Serves a connection of which nothing was read yet, where there is memory for its turns and reads.
 fn serve_new<B: Desk, L: Link, C: Clock, R: Wait, G: Ledger>(
-    hall: &Hall<'_, R, B>,
+    context: &Context<'_, R, B>,
     pass: &mut Pass<B>,
     wire: &mut Wire,
     turns: &mut ReservedList<Served>,
@@ -101,20 +104,20 @@ fn serve_new<B: Desk, L: Link, C: Clock, R: Wait, G: Ledger>(
     clock: &mut C,
     steps: &mut Steps<G>,
 ) -> Stop<B::Fault>
-    requires same { pass.old.lock ≡ hall.now.lock.now }
+    requires same { pass.old.lock ≡ context.now.lock.now }
     requires free { pass.old.holds_turn ≡ false }
-    requires base { pass.old.base ≡ Some hall.now.users.now }
+    requires base { pass.old.base ≡ Some context.now.users.now }
     requires new { Stands [] wire.old }
     requires none { turns.old.items ≡ [] }
     ensures pass { pass.new ≡ record pass.old { seen = pass.new.seen; looks = pass.new.looks } }
-    ensures session { StopsSo hall.now.users.now (C.moment clock.old) pass.old pass.new (record { faults = L.faults link.old; left = L.left link.old; written = L.written link.old }) (record { faults = L.faults link.new; left = L.left link.new; written = L.written link.new }) turns.new.items result }
+    ensures session { StopsSo (environment_of C.Clock context.now.users.now clock.old) (session_state L.Link pass.old link.old) (session_state L.Link pass.new link.new) turns.new.items result }
     ensures clock { C.moment clock.new ≡ C.moment clock.old }
     ensures never_falls { L.faults link.old ≤ L.faults link.new }
 {
-    match prepare(hall.alloc, turns) {
+    match prepare(context.alloc, turns) {
         Ok(mut piece) => {
             let piece = piece.as_mut_slice();
-            serve_all(hall, pass, wire, piece, turns, link, clock, steps)
+            serve_all(context, pass, wire, piece, turns, link, clock, steps)
         }
         Err(NoMemory) => Stop::Ended(How::NoMemory),
     }
@@ -122,7 +125,7 @@ fn serve_new<B: Desk, L: Link, C: Clock, R: Wait, G: Ledger>(
 
 /// Reads and answers until the session stops.
 fn serve_all<B: Desk, L: Link, C: Clock, R: Wait, G: Ledger>(
-    hall: &Hall<'_, R, B>,
+    context: &Context<'_, R, B>,
     pass: &mut Pass<B>,
     wire: &mut Wire,
     piece: &mut [u8],
@@ -131,22 +134,22 @@ fn serve_all<B: Desk, L: Link, C: Clock, R: Wait, G: Ledger>(
     clock: &mut C,
     steps: &mut Steps<G>,
 ) -> Stop<B::Fault>
-    requires same { pass.old.lock ≡ hall.now.lock.now }
+    requires same { pass.old.lock ≡ context.now.lock.now }
     requires free { pass.old.holds_turn ≡ false }
-    requires base { pass.old.base ≡ Some hall.now.users.now }
+    requires base { pass.old.base ≡ Some context.now.users.now }
     requires place { 0 < length piece.old }
     requires new { Stands [] wire.old }
     requires none { turns.old.items ≡ [] }
     requires room { request_limit ≤ turns.old.room }
     ensures pass { pass.new ≡ record pass.old { seen = pass.new.seen; looks = pass.new.looks } }
-    ensures session { StopsSo hall.now.users.now (C.moment clock.old) pass.old pass.new (record { faults = L.faults link.old; left = L.left link.old; written = L.written link.old }) (record { faults = L.faults link.new; left = L.left link.new; written = L.written link.new }) turns.new.items result }
+    ensures session { StopsSo (environment_of C.Clock context.now.users.now clock.old) (session_state L.Link pass.old link.old) (session_state L.Link pass.new link.new) turns.new.items result }
     ensures clock { C.moment clock.new ≡ C.moment clock.old }
     ensures never_falls { L.faults link.old ≤ L.faults link.new }
 {
     'reading: loop {
-        match answer_due(hall, pass, wire, turns, link, clock, steps) {
+        match answer_due(context, pass, wire, turns, link, clock, steps) {
             Err(stop) => return stop,
-            Ok(()) => match take_piece(hall.alloc, wire, piece, link) {
+            Ok(()) => match take_piece(context.alloc, wire, piece, link) {
                 Some(how) => return Stop::Ended(how),
                 None => {}
             },
@@ -186,7 +189,7 @@ fn take_piece<L: Link>(
     link: &mut L,
 ) -> Option<How>
     requires { 0 < length piece.old }
-    ensures session { (users : Users) (start now : PassState Entry Users) (told : Option ℤ) (before : LinkTold) (turns : List Served) → IsWaiting users told start now before (record { faults = L.faults link.old; left = L.left link.old; written = L.written link.old }) turns wire.old → GoesOnOrEnds (IsUnderWay users told start now before (record { faults = L.faults link.new; left = L.left link.new; written = L.written link.new }) turns wire.new) (HasServed users told start now before (record { faults = L.faults link.new; left = L.left link.new; written = L.written link.new }) turns) result }
+    ensures session { (environment : Environment) (before : SessionState) (pass : PassState Entry Users) (turns : List Served) → IsWaiting environment before (session_state L.Link pass link.old) turns wire.old → GoesOnOrEnds (IsUnderWay environment before (session_state L.Link pass link.new) turns wire.new) (EndsIn environment before (session_state L.Link pass link.new) turns) result }
     ensures place { length piece.new ≡ length piece.old }
     ensures fewer { IsNone result → L.allowance link.new < L.allowance link.old }
     ensures never_falls { L.faults link.old ≤ L.faults link.new }

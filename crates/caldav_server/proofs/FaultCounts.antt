@@ -12,3 +12,8 @@ rose_since first second third early late (inr full) = by_order (cases_lt first s
     by_order : (first < second) ⊎ (second ≤ first) → Rose first third
     by_order (inl less) = inl (omega arith)
     by_order (inr same) = inr (omega arith)
+
+-- and is not 0
+pub rose_some : (first second : ℕ) → first ≤ second → Rose first second → 0 < second
+rose_some first second early (inl less) = omega (arith, less)
+rose_some first second early (inr full) = omega (arith, early, full)

@@ -3,21 +3,16 @@ use Rattle.std.proofs.Common.{◌≡◌, ℕ, ◌<◌, ◌≤◌, List, refl, su
 use Rattle.std.specs.Prelude.{Option, Some, IfSome, ◌⊎◌}
 use Rattle.cal_model.specs.Users.UsersFile.{Users}
 use Rattle.cal_keeper.specs.Disks.CrashModel.{Past}
-use Rattle.cal_script.specs.ScriptEnds.{EndsInPart, HasPlace, MetBadFrame, RanToEnd, RefusesStart, StoppedReading, WroteFront}
+use Rattle.cal_script.specs.ScriptEnds.{EndsInPart, HasPlace, MetBadFrame, RanToEnd, RefusesStart, RunTold, StoppedReading, WroteFront}
 use Rattle.cal_script.specs.declared.running.FrameEnd.{FrameEnd}
 use Rattle.cal_script.specs.declared.running.FrameEnd.TheVariants as frames
 use Rattle.cal_script.specs.declared.running.FramesOn.TheVariants.{End, Broken}
 use Rattle.cal_script.specs.declared.running.FramesOn.{FramesOn}
 use Rattle.cal_keeper.specs.declared.keeper.DiskFault.{DiskFault}
-use Rattle.command_words.specs.JournalWords.{kept_users_path}
-use Rattle.caldav_server.specs.KeptEnds.{frames_end, script_end, HasRun, IfTold, IsBeforeFrames, IsDiskFault}
+use Rattle.caldav_server.specs.KeptEnds.{frames_end, script_end, HasRun, IsBeforeFrames, IsDiskFault}
 use Rattle.caldav_server.specs.KeptRuns.{BrokeOn, IfBroken, IsFileRefused, PrintsBetween, PrintsInPart, RanOn}
 use Rattle.caldav_server.specs.declared.kept_script.JournalEnd.{JournalEnd}
 use Rattle.caldav_server.specs.declared.kept_script.JournalEnd.TheVariants.{Frames, Failed, Refused, NoMemory}
-
--- what is said of the users file at the path that the words give is said by the words
-pub told_by : (words : List (List ℕ)) (content : List ℕ → Option (List ℕ)) (path : List ℕ) (P : List ℕ → Type 0) → Some path ≡ kept_users_path words → IfSome (content path) P → IfTold words content P
-told_by words content path P given h = subst (λ (o : Option (List ℕ)). IfSome o (λ p. IfSome (content p) P)) given h
 
 -- what a fault that was told says is so where one was
 pub fault_in : (ended : FramesOn DiskFault) (P : Type 0) → IsDiskFault (Frames ended) → IfBroken ended P → P
@@ -111,38 +106,38 @@ is_disk_fault (Frames (Broken fault)) is = tt
 is_disk_fault Failed is = tt
 is_disk_fault other is = absurd (omega (arith, is))
 
-module _ {D : Type 0} (past : D → Option Past) (faults : D → ℕ) (users : Users) (disk left : D) (input input_after written written_after : Option (List ℕ)) where
-  pub done : (end : JournalEnd) → HasRun past faults users disk left end input input_after written written_after → (script_end end).status ≡ 0
-      → RanOn users (past disk) (past left) input (λ before after. RanToEnd (PrintsBetween users before after) input input_after written written_after (script_end end).place)
+module _ {D : Type 0} (past : D → Option Past) (faults : D → ℕ) (users : Users) (disk left : D) (told : RunTold) where
+  pub done : (end : JournalEnd) → HasRun past faults users disk left end told → (script_end end).status ≡ 0
+      → RanOn users (past disk) (past left) told.left (λ before after. RanToEnd (PrintsBetween users before after) told (script_end end).place)
   done (Frames (End (frames.Done place))) (before, stood, (after, goes_on, kept, so)) is = record { before = before; after = after; stood = stood; goes_on = goes_on; kept = kept; so = so }
   done other run is = absurd (omega (arith, is))
 
-  pub bad_frame : (end : JournalEnd) → HasRun past faults users disk left end input input_after written written_after → (script_end end).status ≡ 6
-      → RanOn users (past disk) (past left) input (λ before after. MetBadFrame (PrintsBetween users before after) input written written_after (script_end end).place)
+  pub bad_frame : (end : JournalEnd) → HasRun past faults users disk left end told → (script_end end).status ≡ 6
+      → RanOn users (past disk) (past left) told.left (λ before after. MetBadFrame (PrintsBetween users before after) told (script_end end).place)
   bad_frame (Frames (End (frames.Frame place))) (before, stood, (after, goes_on, kept, so)) is = record { before = before; after = after; stood = stood; goes_on = goes_on; kept = kept; so = so }
   bad_frame other run is = absurd (omega (arith, is))
 
-  pub stopped : (end : JournalEnd) → HasRun past faults users disk left end input input_after written written_after → (script_end end).status ≡ 4
-      → RanOn users (past disk) (past left) input (λ before after. StoppedReading (PrintsBetween users before after) input input_after written written_after)
+  pub stopped : (end : JournalEnd) → HasRun past faults users disk left end told → (script_end end).status ≡ 4
+      → RanOn users (past disk) (past left) told.left (λ before after. StoppedReading (PrintsBetween users before after) told)
   stopped (Frames (End frames.Input)) (before, stood, (after, goes_on, kept, so)) is = record { before = before; after = after; stood = stood; goes_on = goes_on; kept = kept; so = so }
   stopped other run is = absurd (omega (arith, is))
 
-  pub in_part : (end : JournalEnd) → HasRun past faults users disk left end input input_after written written_after → EndsInPart (script_end end).status
-      → IsBeforeFrames end ⊎ RanOn users (past disk) (past left) input (λ before after. WroteFront (PrintsInPart users before) input written written_after)
+  pub in_part : (end : JournalEnd) → HasRun past faults users disk left end told → EndsInPart (script_end end).status
+      → IsBeforeFrames end ⊎ RanOn users (past disk) (past left) told.left (λ before after. WroteFront (PrintsInPart users before) told)
   in_part (Frames (End frames.Output)) (before, stood, (after, goes_on, kept, so)) is = inr (record { before = before; after = after; stood = stood; goes_on = goes_on; kept = kept; so = so })
   in_part (Frames (End frames.NoMemory)) (before, stood, (after, goes_on, kept, so)) is = inr (record { before = before; after = after; stood = stood; goes_on = goes_on; kept = kept; so = so })
   in_part NoMemory run is = inl tt
   in_part other run (inl is) = absurd (omega (arith, is))
   in_part other run (inr is) = absurd (omega (arith, is))
 
-  pub broke : (end : JournalEnd) → HasRun past faults users disk left end input input_after written written_after → (script_end end).status ≡ 8
-      → IsBeforeFrames end ⊎ BrokeOn users (past disk) (past left) input written written_after
+  pub broke : (end : JournalEnd) → HasRun past faults users disk left end told → (script_end end).status ≡ 8
+      → IsBeforeFrames end ⊎ BrokeOn users (past disk) (past left) told
   broke (Frames (Broken fault)) (before, stood, (after, goes_on, crash, so)) is = inr (record { before = before; after = after; stood = stood; goes_on = goes_on; crash = crash; broke = so })
   broke (Frames (End ended)) run is = absurd (not_frames ended 8 (omega arith) is)
   broke Failed run is = inl tt
   broke other run is = absurd (omega (arith, is))
 
-  pub refused : (end : JournalEnd) → HasRun past faults users disk left end input input_after written written_after → (script_end end).status ≡ 9
+  pub refused : (end : JournalEnd) → HasRun past faults users disk left end told → (script_end end).status ≡ 9
       → IsBeforeFrames end × IsFileRefused past faults users disk left (script_end end).place
   refused (Refused place) run is = (tt, run)
   refused (Frames (End ended)) run is = absurd (not_frames ended 9 (omega arith) is)

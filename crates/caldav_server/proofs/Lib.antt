@@ -1,5 +1,3 @@
-mod CrewSessions
-mod Crews
 mod FaultCounts
 mod KeptEndings
 mod KeptJournals
@@ -8,15 +6,17 @@ mod LoadConnections
 mod LoadCounts
 mod LoadDoneLemmas
 mod LoadEndings
+mod LoadJobLemmas
 mod LoadJoins
 mod LoadMoves
 mod LoadPasses
 mod LoadPrinted
 mod LoadReplies
-mod LoadSeatLemmas
 mod LoadSums
 mod LoadWhole
+mod SessionPasses
 mod Sharing
 mod SlotAnswers
 mod SlotBooks
 mod SlotFiles
+mod ThreadPasses

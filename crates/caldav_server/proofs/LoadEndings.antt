@@ -18,15 +18,16 @@ use Rattle.cal_model.specs.Streams.StreamRequests.{Ending, ends_idle}
 use Rattle.cal_model.specs.Streams.WireLimits.{request_limit}
 use Rattle.cal_model.specs.Users.UsersFile.{Users}
 use Rattle.cal_session.specs.Connections.{AnsweredAll}
-use Rattle.cal_session.specs.Sessions.{LinkTold, HasServed, MetEnd, Closes, EndsSo}
+use Rattle.cal_session.specs.SessionStates.{Environment, SessionState}
+use Rattle.cal_session.specs.Sessions.{Exchange, HasServed, MetEnd, Closes, EndsSo}
 use Rattle.cal_session.specs.Turns.{Answer, IsAnswered, AreToldMoments}
-use Rattle.cal_session.specs.declared.served.How.{How}
+use Rattle.cal_session.specs.declared.served.Ended.{Ended}
 use Rattle.cal_session.specs.declared.served.How.TheVariants.{Closed}
 use Rattle.cal_session.specs.declared.served.Served.{Served}
 use Rattle.load_requests.specs.MeantRequests.{Spell}
 use Rattle.caldav_server.specs.LoadSessions.{replies_in, HasAnswered, was_accepted, HadMemory}
 use Rattle.caldav_server.specs.LoadDone.{Did, IsAccountOf}
-use Rattle.caldav_server.specs.declared.load_sessions.Duty.TheVariants.{Serve}
+use Rattle.caldav_server.specs.declared.load_sessions.Role.TheVariants.{Serve}
 use Rattle.caldav_server.specs.declared.load_sessions.Outcome.{Outcome}
 use Rattle.caldav_server.specs.declared.load_sessions.Outcome.TheVariants as came
 use Rattle.caldav_server.proofs.LoadCounts.{few-requests}
@@ -65,21 +66,24 @@ written-all : (before after : Option (List ℕ)) (printed written : List ℕ) �
 unfolding value_or
 written-all before after printed written none some added = ap value_or (sym some ∙ subst (λ b. Adds b printed after) none added)
 
-pub closed-session : (users : Users) (session : ℕ) (requests : List Request) (octets : List ℕ) (told : Option ℤ) (pass now : PassState Entry Users) (before after : LinkTold) (turns : List Served) (how : How) (written : List ℕ)
-    → HasServed users told pass now before after turns how → how ≡ Closed → before.left ≡ Some octets → before.written ≡ Some [] → after.written ≡ Some written
-    → told ≡ Some (pos load_moment) → Spell users session requests octets → length turns ≡ length requests → length requests < request_limit
-    → AllByRecursion HadMemory turns → IsLegal (directory_of users) now.seen
-    → HasAnswered users session requests pass now (length turns) (count_by was_accepted turns) written
-closed-session users session requests octets told pass now before after turns how written served closed left none some moment spell many few had legal =
+pub closed-session : (environment : Environment) (session : ℕ) (requests : List Request) (octets : List ℕ) (before after : SessionState) (end : Ended) (written : List ℕ)
+    → HasServed environment before after end → end.how ≡ Closed → before.link.left ≡ Some octets → before.link.written ≡ Some [] → after.link.written ≡ Some written
+    → environment.clock ≡ Some (pos load_moment) → Spell environment.users session requests octets → length end.turns ≡ length requests → length requests < request_limit
+    → AllByRecursion HadMemory end.turns → IsLegal (directory_of environment.users) after.pass.seen
+    → HasAnswered environment.users session requests before.pass after.pass (length end.turns) (count_by was_accepted end.turns) written
+closed-session environment session requests octets before after end written served closed left none some moment spell many few had legal =
+    let users = environment.users in
+    let turns = end.turns in
     let run = served.run in
-    let answers = served.answers in
-    let ended : EndsSo Closed told served.stream answers served.printed before after = subst (λ h. EndsSo h told served.stream answers served.printed before after) closed served.ended in
-    let front = taken-front before.left after.left octets served.stream left run.taken in
+    let exchange : Exchange = served.exchange in
+    let answers = exchange.answers in
+    let ended : EndsSo Closed environment.clock before.link after.link exchange = subst (λ h. EndsSo h environment.clock before.link after.link exchange) closed served.ended in
+    let front = taken-front before.link.left after.link.left octets exchange.stream left run.taken in
     let counts : length turns ≡ length answers = ap length run.turns_are ∙ length-map answers (λ (answer : Answer). answer.turn) in
     let had_all : AllByRecursion HadMemory (map (λ (answer : Answer). answer.turn) answers) = subst (AllByRecursion HadMemory) run.turns_are had in
-    let done : (ending : Ending) × AnsweredAll served.stream answers ending = by ended.1 in
-    let means = all-answered users session requests octets served.stream front.0 answers done.0 spell front.1 done.1 (sym counts ∙ many) (omega arith) in
-    let each = each-answered users session requests answers means (moments-told told answers moment run.moments) (turns-had users pass.number now.seen answers run.session.answered had_all) in
+    let done : (ending : Ending) × AnsweredAll exchange.stream answers ending = by ended.1 in
+    let means = all-answered users session requests octets exchange.stream front.0 answers done.0 spell front.1 done.1 (sym counts ∙ many) (omega arith) in
+    let each = each-answered users session requests answers means (moments-told environment.clock answers moment run.moments) (turns-had users before.pass.number after.pass.seen answers run.session.answered had_all) in
     let few_answers : 0 + length answers < request_limit = omega arith in
     record {
       answers = answers;
@@ -87,23 +91,27 @@ closed-session users session requests octets told pass now before after turns ho
       session_is = run.session;
       legal = legal;
       count_is = counts ∙ sym (length-map answers (λ (answer : Answer). answer.reply));
-      accepted_is = ap (count_by was_accepted) run.turns_are ∙ turns-accepted users pass.number now.seen answers run.session.answered;
-      written_is = written-all before.written after.written served.printed written none some run.written ∙ ended.0 ∙ replies_from-octets users session 0 requests answers each few_answers;
+      accepted_is = ap (count_by was_accepted) run.turns_are ∙ turns-accepted users before.pass.number after.pass.seen answers run.session.answered;
+      written_is = written-all before.link.written after.link.written exchange.printed written none some run.written ∙ ended.0 ∙ replies_from-octets users session 0 requests answers each few_answers;
     } where
-      by : MetEnd served.stream served.answers ends_idle after ⊎ Closes served.stream served.answers → (ending : Ending) × AnsweredAll served.stream served.answers ending
+      by : MetEnd served.exchange ends_idle after.link ⊎ Closes served.exchange → (ending : Ending) × AnsweredAll served.exchange.stream served.exchange.answers ending
       by (inl met) = (ends_idle, met.answered)
       by (inr closes) = (closes.ending, closes.answered)
 
 -- so the account of a session's turns says that it answered all
-pub done-session : (users : Users) (puts session : ℕ) (octets : List ℕ) (count : ℕ) (pass now : PassState Entry Users) (told : Option ℤ) (before after : LinkTold) (turns : List Served) (how : How) (link : LinkState) (outcome : Outcome)
-    → HasServed users told pass now before after turns how → before.left ≡ Some octets → before.written ≡ Some [] → after.written ≡ Some link.written → told ≡ Some (pos load_moment)
-    → Spell users session (requests_of puts session) octets → count ≡ length (requests_of puts session) → puts ≤ 800 → IsLegal (directory_of users) now.seen
-    → IsAccountOf how turns count link outcome → Did users puts (Serve session) pass now outcome
-done-session users puts session octets count pass now told before after turns how link (came.Served account) served left none some moment spell counted few legal is =
-    let answered = closed-session users session (requests_of puts session) octets told pass now before after turns how link.written served is.0 left none some moment spell (is.1 ∙ counted)
+pub done-session : (environment : Environment) (puts session : ℕ) (octets : List ℕ) (count : ℕ) (before after : SessionState) (end : Ended) (link : LinkState) (outcome : Outcome)
+    → HasServed environment before after end → before.link.left ≡ Some octets → before.link.written ≡ Some [] → after.link.written ≡ Some link.written → environment.clock ≡ Some (pos load_moment)
+    → Spell environment.users session (requests_of puts session) octets → count ≡ length (requests_of puts session) → puts ≤ 800 → IsLegal (directory_of environment.users) after.pass.seen
+    → IsAccountOf end.how end.turns count link outcome → Did environment.users puts (Serve session) before.pass after.pass outcome
+done-session environment puts session octets count before after end link (came.Served account) served left none some moment spell counted few legal is =
+    let users = environment.users in
+    let pass = before.pass in
+    let now = after.pass in
+    let turns = end.turns in
+    let answered = closed-session environment session (requests_of puts session) octets before after end link.written served is.0 left none some moment spell (is.1 ∙ counted)
     (few-requests puts session few) (recursion_from_All HadMemory turns is.2) legal in
     subst (λ n. HasAnswered users session (requests_of puts session) pass now n account.accepted account.link.written) (sym is.3)
     (subst (λ n. HasAnswered users session (requests_of puts session) pass now (length turns) n account.link.written) (sym is.4)
     (subst (λ (l : LinkState). HasAnswered users session (requests_of puts session) pass now (length turns) (count_by was_accepted turns) l.written) (sym is.5) answered))
-done-session users puts session octets count pass now told before after turns how link came.Worked served left none some moment spell counted few legal is = absurd is
-done-session users puts session octets count pass now told before after turns how link came.Failed served left none some moment spell counted few legal is = tt
+done-session environment puts session octets count before after end link came.Worked served left none some moment spell counted few legal is = absurd is
+done-session environment puts session octets count before after end link came.Failed served left none some moment spell counted few legal is = tt

@@ -9,16 +9,16 @@ use Rattle.privileges.proofs.users.Users.TheSendSync as users
 use Rattle.turn_lock.proofs.lock.TurnLock.TheSendSync as lock
 use Rattle.turn_lock.proofs.pass.Pass.TheSendSync as pass
 use Rattle.cal_book.proofs.Moves.{book_send}
-use Rattle.caldav_server.proofs.load_sessions.Duty.TheSendSync as duty
+use Rattle.caldav_server.proofs.load_sessions.Role.TheSendSync as role
 use Rattle.caldav_server.proofs.load_sessions.Outcome.TheSendSync as outcome
 use Rattle.caldav_server.specs.contracts.load_sessions.Done as Done
-use Rattle.caldav_server.specs.contracts.load_sessions.Ground as Ground
-use Rattle.caldav_server.specs.contracts.load_sessions.Seat as Seat
+use Rattle.caldav_server.specs.contracts.load_sessions.Context as Context
+use Rattle.caldav_server.specs.contracts.load_sessions.Job as Job
 
-pub seat_send : IsSend Seat.the_row
-seat_send =
-    recorded_send Seat.the_field.row _ _ Seat.the_type.to_one
-    (struct_send (structs.shape Seat.the_type) (search (sendable, pass.the_send, book_send), (duty.the_field_send, tt)))
+pub job_send : IsSend Job.the_row
+job_send =
+    recorded_send Job.the_field.row _ _ Job.the_type.to_one
+    (struct_send (structs.shape Job.the_type) (search (sendable, pass.the_send, book_send), (role.the_field_send, tt)))
 
 pub done_send : IsSend Done.the_row
 done_send =
@@ -31,8 +31,8 @@ service_sync =
     (recorded_sync ServiceFields.the_field.row _ _ ServiceFields.the_type.to_one
     (struct_sync (structs.shape ServiceFields.the_type) (search (sendable, lock.the_sync, book_send), tt)))
 
-pub ground_sync : (κ : NamedLft) → IsSync (Ground.the_row κ)
-ground_sync κ =
-    recorded_sync (Ground.the_field κ).row _ _ (Ground.the_type κ).to_one
-    (struct_sync (structs.shape (Ground.the_type κ))
+pub context_sync : (κ : NamedLft) → IsSync (Context.the_row κ)
+context_sync κ =
+    recorded_sync (Context.the_field κ).row _ _ (Context.the_type κ).to_one
+    (struct_sync (structs.shape (Context.the_type κ))
     (global.the_field_sync, (search (sendable, service_sync), (search (sendable, users.the_sync), (search sendable, tt)))))

@@ -8,7 +8,7 @@ use Rattle.turn_lock.specs.Journals.{KeepsEntriesOf, IsFollowedByOthers}
 use Rattle.turn_lock.specs.Numbers.{times, as_one, Has}
 use Rattle.turn_lock.specs.Passes.{IsWhole}
 use Rattle.cal_model.specs.History.Journal.{Entry}
-use Rattle.caldav_server.specs.LoadSeats.{Known, author, IsWithin, numbers, IsLeaf, HasJoined}
+use Rattle.caldav_server.specs.LoadJobs.{Known, author, IsWithin, numbers, IsLeaf, HasJoined}
 
 -- Numbers in lists
 

@@ -19,18 +19,18 @@ use Rattle.home_laws.specs.Homes.{IsOwnOrApart}
 use Rattle.home_laws.specs.LoneSessions.{is_of}
 use Rattle.load_requests.specs.NumberedUsers.{AreNumbered}
 use Rattle.caldav_server.specs.LoadDone.{Did, HasDone}
-use Rattle.caldav_server.specs.LoadSeats.{Known, author, IsWithin, numbers, HasJoined, IsSeat, passes_at, SeatsMade, ServeFrom, AreSeats}
+use Rattle.caldav_server.specs.LoadJobs.{Known, author, IsWithin, numbers, HasJoined, IsJob, passes_at, JobsMade, ServeFrom, AreJobs}
 use Rattle.caldav_server.specs.LoadSessions.{HasAnswered, replies_in}
 use Rattle.caldav_server.specs.LoadSums.{passes_of, IsBack, accounts_in, accounts_of, HasNotFailed, requests_in, accepted_in, written_in, IsSumOf, IsSummed}
 use Rattle.caldav_server.specs.LoadTallies.{given, IsTally}
 use Rattle.caldav_server.specs.declared.load_joins.Tally.{Tally}
 use Rattle.caldav_server.specs.declared.load_sessions.Account.{Account}
 use Rattle.caldav_server.specs.declared.load_sessions.Done.{Done}
-use Rattle.caldav_server.specs.declared.load_sessions.Duty.{Duty}
-use Rattle.caldav_server.specs.declared.load_sessions.Duty.TheVariants.{Serve, Expand}
+use Rattle.caldav_server.specs.declared.load_sessions.Role.{Role}
+use Rattle.caldav_server.specs.declared.load_sessions.Role.TheVariants.{Serve, Expand}
 use Rattle.caldav_server.specs.declared.load_sessions.Outcome.{Outcome}
 use Rattle.caldav_server.specs.declared.load_sessions.Outcome.TheVariants.{Served, Worked, Failed}
-use Rattle.caldav_server.specs.declared.load_sessions.Seat.{Seat}
+use Rattle.caldav_server.specs.declared.load_sessions.Job.{Job}
 use Rattle.caldav_server.proofs.LoadJoins.{AreAbout, OfUsers, all-placed, has-rest}
 use Rattle.caldav_server.proofs.LoadPasses.{times-append, has-first, has-later}
 use Rattle.caldav_server.proofs.LoadReplies.{replies-alone, own-about, requests-own}
@@ -78,35 +78,35 @@ has-between n first xs ys has =
 
 -- Passes
 
-pub numbers-done : (users : Users) (puts : ℕ) (seats : List Seat) (dones : List Done) → AllZip (HasDone users puts) seats dones → numbers (passes_of dones) ≡ numbers (passes_at seats)
+pub numbers-done : (users : Users) (puts : ℕ) (jobs : List Job) (dones : List Done) → AllZip (HasDone users puts) jobs dones → numbers (passes_of dones) ≡ numbers (passes_at jobs)
 numbers-done users puts [] [] each = refl
 numbers-done users puts [] (done ∷ dones) each = absurd each
-numbers-done users puts (seat ∷ seats) [] each = absurd each
-numbers-done users puts (seat ∷ seats) (done ∷ dones) each =
-    let first = ap (λ (pass : Known). pass.number) each.0.pass in let rest = numbers-done users puts seats dones each.1 in λ i. first i ∷ rest i
+numbers-done users puts (job ∷ jobs) [] each = absurd each
+numbers-done users puts (job ∷ jobs) (done ∷ dones) each =
+    let first = ap (λ (pass : Known). pass.number) each.0.pass in let rest = numbers-done users puts jobs dones each.1 in λ i. first i ∷ rest i
 
 -- the passes come back as they were given, but for what they have seen
-pub all-back : (users : Users) (puts : ℕ) (lock : TableId) (seats : List Seat) (dones : List Done) → AllByRecursion (IsSeat lock users) seats → AllZip (HasDone users puts) seats dones
+pub all-back : (users : Users) (puts : ℕ) (lock : TableId) (jobs : List Job) (dones : List Done) → AllByRecursion (IsJob lock users) jobs → AllZip (HasDone users puts) jobs dones
     → AllByRecursion (λ (done : Done). IsBack lock done.pass) dones
 all-back users puts lock [] [] ready each = tt
 all-back users puts lock [] (done ∷ dones) ready each = absurd each
-all-back users puts lock (seat ∷ seats) [] ready each = absurd each
-all-back users puts lock (seat ∷ seats) (done ∷ dones) ready each = (
+all-back users puts lock (job ∷ jobs) [] ready each = absurd each
+all-back users puts lock (job ∷ jobs) (done ∷ dones) ready each = (
   (
     ap (λ (pass : Known). pass.lock) each.0.pass ∙ ready.0.pass.0,
     ap (λ (pass : Known). pass.holds_turn) each.0.pass ∙ ready.0.pass.1,
     (ap (λ (pass : Known). pass.kin) each.0.pass ∙ ready.0.leaf.0, ap (λ (pass : Known). pass.gone) each.0.pass ∙ ready.0.leaf.1),
   ),
-  all-back users puts lock seats dones ready.1 each.1,
+  all-back users puts lock jobs dones ready.1 each.1,
 )
 
 -- What was done
 
 module _ (users : Users) (puts : ℕ) where
   -- a session that did not fail answered all
-  answered : (session : ℕ) (duty : Duty) (pass now : Known) (outcome : Outcome) → duty ≡ Serve session → Did users puts duty pass now outcome → HasNotFailed outcome
+  answered : (session : ℕ) (role : Role) (pass now : Known) (outcome : Outcome) → role ≡ Serve session → Did users puts role pass now outcome → HasNotFailed outcome
       → (account : Account) × (outcome ≡ Served account) × HasAnswered users session (requests_of puts session) pass now account.requests account.accepted account.link.written
-  answered session duty pass now outcome is did done = by outcome (subst (λ d. Did users puts d pass now outcome) is did) done where
+  answered session role pass now outcome is did done = by outcome (subst (λ d. Did users puts d pass now outcome) is did) done where
     by : (outcome : Outcome) → Did users puts (Serve session) pass now outcome → HasNotFailed outcome
         → (account : Account) × (outcome ≡ Served account) × HasAnswered users session (requests_of puts session) pass now account.requests account.accepted account.link.written
     by (Served account) did done = (account, refl, did)
@@ -114,21 +114,21 @@ module _ (users : Users) (puts : ℕ) where
     by Failed did done = absurd done
 
   -- a worker entered nothing, and has no account
-  worked : (duty : Duty) (pass now : Known) (outcome : Outcome) → duty ≡ Expand → Did users puts duty pass now outcome
+  worked : (role : Role) (pass now : Known) (outcome : Outcome) → role ≡ Expand → Did users puts role pass now outcome
       → (outcome ≡ Worked) × (entries_by author pass.number now.seen ≡ entries_by author pass.number pass.seen)
-  worked duty pass now outcome is did = by outcome (subst (λ d. Did users puts d pass now outcome) is did) where
+  worked role pass now outcome is did = by outcome (subst (λ d. Did users puts d pass now outcome) is did) where
     by : (outcome : Outcome) → Did users puts Expand pass now outcome → (outcome ≡ Worked) × (entries_by author pass.number now.seen ≡ entries_by author pass.number pass.seen)
     by (Served account) did = absurd did
     by Worked did = (refl, did)
     by Failed did = absurd did
 
-  worked-accounts : (seats : List Seat) (dones : List Done) → AllByRecursion (λ (seat : Seat). seat.duty ≡ Expand) seats → AllZip (HasDone users puts) seats dones → accounts_of dones ≡ []
+  worked-accounts : (jobs : List Job) (dones : List Done) → AllByRecursion (λ (job : Job). job.role ≡ Expand) jobs → AllZip (HasDone users puts) jobs dones → accounts_of dones ≡ []
   worked-accounts [] [] expand each = refl
   worked-accounts [] (done ∷ dones) expand each = absurd each
-  worked-accounts (seat ∷ seats) [] expand each = absurd each
-  worked-accounts (seat ∷ seats) (done ∷ dones) expand each =
-      let none = (worked seat.duty seat.pass done.pass done.outcome expand.0 each.0.did).0 in
-      let rest = worked-accounts seats dones expand.1 each.1 in
+  worked-accounts (job ∷ jobs) [] expand each = absurd each
+  worked-accounts (job ∷ jobs) (done ∷ dones) expand each =
+      let none = (worked job.role job.pass done.pass done.outcome expand.0 each.0.did).0 in
+      let rest = worked-accounts jobs dones expand.1 each.1 in
       λ i. accounts_in (none i) ++ rest i
 
 -- a session that answered, by its number in another place
@@ -141,65 +141,65 @@ module _ (users : Users) (puts sessions : ℕ) (lock : TableId) (all : Known) (n
   AreIn dones = AllByRecursion (λ other. IsWithin other all) (passes_of dones)
 
   -- what a session entered is about its own home
-  entered : (session : ℕ) (seat : Seat) (done : Done) → session < sessions → seat.duty ≡ Serve session → IsSeat lock users seat → HasDone users puts seat done → HasNotFailed done.outcome
+  entered : (session : ℕ) (job : Job) (done : Done) → session < sessions → job.role ≡ Serve session → IsJob lock users job → HasDone users puts job done → HasNotFailed done.outcome
       → AreAbout (directory_of users) session (entries_by author done.pass.number done.pass.seen)
-  entered session seat done few serve ready has ok =
-      let did = answered users puts session seat.duty seat.pass done.pass done.outcome serve has.did ok in
-      known-number seat.pass.number done.pass.number done.pass.seen (directory_of users) session (ap (λ (pass : Known). pass.number) has.pass)
-      (own-about users seat.pass.number session done.pass.seen (requests_of puts session) did.2.answers seat.pass.seen
+  entered session job done few serve ready has ok =
+      let did = answered users puts session job.role job.pass done.pass done.outcome serve has.did ok in
+      known-number job.pass.number done.pass.number done.pass.seen (directory_of users) session (ap (λ (pass : Known). pass.number) has.pass)
+      (own-about users job.pass.number session done.pass.seen (requests_of puts session) did.2.answers job.pass.seen
       (requests-own users puts session (found session few) (range_with_len 0 puts)) did.2.each did.2.session_is ready.fresh)
 
-  of-users : (session : ℕ) (seats : List Seat) (dones : List Done) → session + length seats ≤ sessions → ServeFrom session seats → AllByRecursion (IsSeat lock users) seats → AllZip (HasDone users puts) seats dones
+  of-users : (session : ℕ) (jobs : List Job) (dones : List Done) → session + length jobs ≤ sessions → ServeFrom session jobs → AllByRecursion (IsJob lock users) jobs → AllZip (HasDone users puts) jobs dones
       → AllByRecursion (λ (done : Done). HasNotFailed done.outcome) dones → AreIn dones → OfUsers (directory_of users) all.seen session (numbers (passes_of dones))
   of-users session [] [] few serve ready each ok within = tt
   of-users session [] (done ∷ dones) few serve ready each ok within = absurd each
-  of-users session (seat ∷ seats) [] few serve ready each ok within = absurd each
-  of-users session (seat ∷ seats) (done ∷ dones) few serve ready each ok within = (
-    subst (AreAbout (directory_of users) session) (sym within.0.same) (entered session seat done (omega arith) serve.0 ready.0 each.0 ok.0),
-    of-users (session + 1) seats dones (omega arith) serve.1 ready.1 each.1 ok.1 within.1,
+  of-users session (job ∷ jobs) [] few serve ready each ok within = absurd each
+  of-users session (job ∷ jobs) (done ∷ dones) few serve ready each ok within = (
+    subst (AreAbout (directory_of users) session) (sym within.0.same) (entered session job done (omega arith) serve.0 ready.0 each.0 ok.0),
+    of-users (session + 1) jobs dones (omega arith) serve.1 ready.1 each.1 ok.1 within.1,
   )
 
   -- workers entered nothing
-  idle : (n : ℕ) (seats : List Seat) (dones : List Done) → AllByRecursion (λ (seat : Seat). seat.duty ≡ Expand) seats → AllByRecursion (IsSeat lock users) seats → AllZip (HasDone users puts) seats dones
+  idle : (n : ℕ) (jobs : List Job) (dones : List Done) → AllByRecursion (λ (job : Job). job.role ≡ Expand) jobs → AllByRecursion (IsJob lock users) jobs → AllZip (HasDone users puts) jobs dones
       → AreIn dones → Has (numbers (passes_of dones)) n → entries_by author n all.seen ≡ []
   idle n [] [] expand ready each within has = absurd (omega arith)
   idle n [] (done ∷ dones) expand ready each within has = absurd each
-  idle n (seat ∷ seats) [] expand ready each within has = absurd each
-  idle n (seat ∷ seats) (done ∷ dones) expand ready each within has =
-      by (eqb_tells done.pass.number n) (λ apart. idle n seats dones expand.1 ready.1 each.1 within.1 (has-rest done.pass.number n (numbers (passes_of dones)) apart has)) where
+  idle n (job ∷ jobs) [] expand ready each within has = absurd each
+  idle n (job ∷ jobs) (done ∷ dones) expand ready each within has =
+      by (eqb_tells done.pass.number n) (λ apart. idle n jobs dones expand.1 ready.1 each.1 within.1 (has-rest done.pass.number n (numbers (passes_of dones)) apart has)) where
         by : (((done.pass.number == n) ≡ true) × (done.pass.number ≡ n)) ⊎ (((done.pass.number == n) ≡ false) × (done.pass.number ≢ n)) → ((done.pass.number == n) ≡ false → entries_by author n all.seen ≡ [])
             → entries_by author n all.seen ≡ []
         by (inl same) more =
-            let number : done.pass.number ≡ seat.pass.number = ap (λ (pass : Known). pass.number) each.0.pass in
+            let number : done.pass.number ≡ job.pass.number = ap (λ (pass : Known). pass.number) each.0.pass in
             ap (λ m. entries_by author m all.seen) (sym same.1) ∙ within.0.same ∙ ap (λ m. entries_by author m done.pass.seen) number
-            ∙ (worked users puts seat.duty seat.pass done.pass done.outcome expand.0 each.0.did).1 ∙ ready.0.fresh
+            ∙ (worked users puts job.role job.pass done.pass done.outcome expand.0 each.0.did).1 ∙ ready.0.fresh
         by (inr apart) more = more apart.0
 
   -- where the journal is known to be of these sessions and of no others, each is answered as if it were alone
   module _ (members resting : List ℕ) (are : OfUsers (directory_of users) all.seen 0 members) (nothing : (n : ℕ) → Has resting n → entries_by author n all.seen ≡ [])
       (among : AllByRecursion (λ entry. Has (members ++ resting) (author entry)) all.seen) where
-    replied : (session : ℕ) (seat : Seat) (done : Done) (account : Account) → session < sessions → session < length members → done.pass.number ≡ get_or members session 0 → seat.duty ≡ Serve session → IsSeat lock users seat
-        → HasDone users puts seat done → IsWithin done.pass all → (did : HasAnswered users session (requests_of puts session) seat.pass done.pass account.requests account.accepted account.link.written)
+    replied : (session : ℕ) (job : Job) (done : Done) (account : Account) → session < sessions → session < length members → done.pass.number ≡ get_or members session 0 → job.role ≡ Serve session → IsJob lock users job
+        → HasDone users puts job done → IsWithin done.pass all → (did : HasAnswered users session (requests_of puts session) job.pass done.pass account.requests account.accepted account.link.written)
         → AreAbout (directory_of users) session (entries_by author done.pass.number done.pass.seen) → replies_in did.answers ≡ replies_of puts sessions session
-    replied session seat done account few within number serve ready has inside did about =
+    replied session job done account few within number serve ready has inside did about =
         let own : AreAbout (directory_of users) session (entries_by author (get_or members session 0) all.seen) =
         subst (λ n. AreAbout (directory_of users) session (entries_by author n all.seen)) number (subst (AreAbout (directory_of users) session) (sym inside.same) about) in
         let placed : AllByRecursion (IsOwnOrApart (directory_of users) session (is_of (get_or members session 0))) all.seen =
         all-placed (directory_of users) all.seen members resting session within are nothing (λ n has. has-either n members resting has) among own in
-        let same : get_or members session 0 ≡ seat.pass.number = sym number ∙ ap (λ (pass : Known). pass.number) has.pass in
-        let apart : AllByRecursion (IsOwnOrApart (directory_of users) session (is_of seat.pass.number)) done.pass.seen =
-        all-front (IsOwnOrApart (directory_of users) session (is_of seat.pass.number)) done.pass.seen inside.begins.0
-        (subst (AllByRecursion (IsOwnOrApart (directory_of users) session (is_of seat.pass.number))) inside.begins.1
+        let same : get_or members session 0 ≡ job.pass.number = sym number ∙ ap (λ (pass : Known). pass.number) has.pass in
+        let apart : AllByRecursion (IsOwnOrApart (directory_of users) session (is_of job.pass.number)) done.pass.seen =
+        all-front (IsOwnOrApart (directory_of users) session (is_of job.pass.number)) done.pass.seen inside.begins.0
+        (subst (AllByRecursion (IsOwnOrApart (directory_of users) session (is_of job.pass.number))) inside.begins.1
         (subst (λ n. AllByRecursion (IsOwnOrApart (directory_of users) session (is_of n)) all.seen) same placed)) in
-        replies-alone users seat.pass.number session done.pass.seen (requests_of puts session) did.answers seat.pass.seen
+        replies-alone users job.pass.number session done.pass.seen (requests_of puts session) did.answers job.pass.seen
         (requests-own users puts session (found session few) (range_with_len 0 puts)) did.each did.legal apart did.session_is ready.fresh
         ∙ ap (λ directory. replies directory (opening_state directory) session (requests_of puts session)) named
 
     -- so the sums of the first ones, and then of all
-    tallied : (session requests accepted octets : ℕ) (written : List ℕ) (seats : List Seat) (dones : List Done) → session + length seats ≤ sessions → session + length seats ≤ length members
-        → ((k : ℕ) → k < length seats → get_or (numbers (passes_of dones)) k 0 ≡ get_or members (session + k) 0) → ServeFrom session seats → AllByRecursion (IsSeat lock users) seats
-        → AllZip (HasDone users puts) seats dones → AllByRecursion (λ (done : Done). HasNotFailed done.outcome) dones → AreIn dones → IsTally puts sessions session requests accepted octets written
-        → IsTally puts sessions (session + length seats) (requests + requests_in dones) (accepted + accepted_in dones) (length (written ++ written_in dones)) (written ++ written_in dones)
+    tallied : (session requests accepted octets : ℕ) (written : List ℕ) (jobs : List Job) (dones : List Done) → session + length jobs ≤ sessions → session + length jobs ≤ length members
+        → ((k : ℕ) → k < length jobs → get_or (numbers (passes_of dones)) k 0 ≡ get_or members (session + k) 0) → ServeFrom session jobs → AllByRecursion (IsJob lock users) jobs
+        → AllZip (HasDone users puts) jobs dones → AllByRecursion (λ (done : Done). HasNotFailed done.outcome) dones → AreIn dones → IsTally puts sessions session requests accepted octets written
+        → IsTally puts sessions (session + length jobs) (requests + requests_in dones) (accepted + accepted_in dones) (length (written ++ written_in dones)) (written ++ written_in dones)
     tallied session requests accepted octets written [] [] few within place serve ready each ok inside sums =
         let same : session ≡ session + 0 = omega arith in
         let no_requests : requests + 0 ≡ requests = omega arith in
@@ -211,15 +211,15 @@ module _ (users : Users) (puts sessions : ℕ) (lock : TableId) (all : Known) (n
           written_is = append-nil written ∙ sums.written_is ∙ ap (λ n. all_octets (given puts sessions n)) same;
         }
     tallied session requests accepted octets written [] (done ∷ dones) few within place serve ready each ok inside sums = absurd each
-    tallied session requests accepted octets written (seat ∷ seats) [] few within place serve ready each ok inside sums = absurd each
-    tallied session requests accepted octets written (seat ∷ seats) (done ∷ dones) few within place serve ready each ok inside sums =
-        let did = answered users puts session seat.duty seat.pass done.pass done.outcome serve.0 each.0.did ok.0 in
+    tallied session requests accepted octets written (job ∷ jobs) [] few within place serve ready each ok inside sums = absurd each
+    tallied session requests accepted octets written (job ∷ jobs) (done ∷ dones) few within place serve ready each ok inside sums =
+        let did = answered users puts session job.role job.pass done.pass done.outcome serve.0 each.0.did ok.0 in
         let account = did.0 in
         let first : session + 0 ≡ session = omega arith in
         let here : done.pass.number ≡ get_or members session 0 = place 0 (omega arith) ∙ ap (λ n. get_or members n 0) first in
-        let replies_are = replied session seat done account (omega arith) (omega arith) here serve.0 ready.0 each.0 inside.0 did.2 (entered session seat done (omega arith) serve.0 ready.0 each.0 ok.0) in
+        let replies_are = replied session job done account (omega arith) (omega arith) here serve.0 ready.0 each.0 inside.0 did.2 (entered session job done (omega arith) serve.0 ready.0 each.0 ok.0) in
         let next = tally-more puts sessions session requests accepted octets written (replies_in did.2.answers) account.requests account.accepted account.link.written sums replies_are did.2.count_is did.2.accepted_is did.2.written_is in
-        let rest = tallied (session + 1) (requests + account.requests) (accepted + account.accepted) (length (written ++ account.link.written)) (written ++ account.link.written) seats dones
+        let rest = tallied (session + 1) (requests + account.requests) (accepted + account.accepted) (length (written ++ account.link.written)) (written ++ account.link.written) jobs dones
         (omega arith) (omega arith) (λ k less. let later : session + suc k ≡ (session + 1) + k = omega arith in place (suc k) (omega arith) ∙ ap (λ n. get_or members n 0) later) serve.1 ready.1 each.1 ok.1 inside.1 next in
         let requests_are : requests_in (done ∷ dones) ≡ account.requests + requests_in dones =
         ap (λ outcome. sum_by (λ (a : Account). a.requests) (accounts_in outcome ++ accounts_of dones)) did.1 ∙ sum_by-cons (λ (a : Account). a.requests) account (accounts_of dones) in
@@ -227,7 +227,7 @@ module _ (users : Users) (puts sessions : ℕ) (lock : TableId) (all : Known) (n
         ap (λ outcome. sum_by (λ (a : Account). a.accepted) (accounts_in outcome ++ accounts_of dones)) did.1 ∙ sum_by-cons (λ (a : Account). a.accepted) account (accounts_of dones) in
         let written_are : written ++ written_in (done ∷ dones) ≡ (written ++ account.link.written) ++ written_in dones =
         ap (λ outcome. written ++ flat_map (λ (a : Account). a.link.written) (accounts_in outcome ++ accounts_of dones)) did.1 ∙ sym (append_assoc written account.link.written (written_in dones)) in
-        let count : (session + 1) + length seats ≡ session + length (seat ∷ seats) = omega arith in
+        let count : (session + 1) + length jobs ≡ session + length (job ∷ jobs) = omega arith in
         let requests_sum : requests + requests_in (done ∷ dones) ≡ (requests + account.requests) + requests_in dones = omega (arith, requests_are) in
         let accepted_sum : accepted + accepted_in (done ∷ dones) ≡ (accepted + account.accepted) + accepted_in dones = omega (arith, accepted_are) in
         record {
@@ -242,11 +242,11 @@ module _ (users : Users) (puts sessions : ℕ) (lock : TableId) (all : Known) (n
 has-zero : (numbers_of : List ℕ) → Has (0 ∷ numbers_of) 0
 has-zero numbers_of = has-first 0 numbers_of
 
-length-done : (users : Users) (puts : ℕ) (seats : List Seat) (dones : List Done) → AllZip (HasDone users puts) seats dones → length (numbers (passes_of dones)) ≡ length seats
+length-done : (users : Users) (puts : ℕ) (jobs : List Job) (dones : List Done) → AllZip (HasDone users puts) jobs dones → length (numbers (passes_of dones)) ≡ length jobs
 length-done users puts [] [] each = refl
 length-done users puts [] (done ∷ dones) each = absurd each
-length-done users puts (seat ∷ seats) [] each = absurd each
-length-done users puts (seat ∷ seats) (done ∷ dones) each = ap suc (length-done users puts seats dones each.1)
+length-done users puts (job ∷ jobs) [] each = absurd each
+length-done users puts (job ∷ jobs) (done ∷ dones) each = ap suc (length-done users puts jobs dones each.1)
 
 first-or-idle : (n : ℕ) (ns : List ℕ) (journal : List Entry) → entries_by author 0 journal ≡ [] → (Has ns n → entries_by author n journal ≡ []) → Has (0 ∷ ns) n → entries_by author n journal ≡ []
 first-or-idle n ns journal unwritten later has = by (eqb_tells 0 n) where
@@ -254,16 +254,16 @@ first-or-idle n ns journal unwritten later has = by (eqb_tells 0 n) where
   by (inl same) = subst (λ m. entries_by author m journal ≡ []) same.1 unwritten
   by (inr apart) = later (has-rest 0 n ns apart.0 has)
 
-pub all-summed : (users : Users) (puts sessions : ℕ) (lock : TableId) (made all : Known) (seats : List Seat) (dones : List Done) (tally : Tally)
-    → directory_of users ≡ load_users sessions → AreNumbered users sessions → 0 < sessions → SeatsMade lock users made seats → AreSeats sessions seats
-    → AllZip (HasDone users puts) seats dones → HasJoined made all (passes_of dones) → IsSumOf dones tally → IsSummed puts sessions tally
-all-summed users puts sessions lock made all seats dones tally named found some from at each joined sums =
+pub all-summed : (users : Users) (puts sessions : ℕ) (lock : TableId) (made all : Known) (jobs : List Job) (dones : List Done) (tally : Tally)
+    → directory_of users ≡ load_users sessions → AreNumbered users sessions → 0 < sessions → JobsMade lock users made jobs → AreJobs sessions jobs
+    → AllZip (HasDone users puts) jobs dones → HasJoined made all (passes_of dones) → IsSumOf dones tally → IsSummed puts sessions tally
+all-summed users puts sessions lock made all jobs dones tally named found some from at each joined sums =
     let serving = at.serving in
     let expanding = at.expanding in
-    let parted = split (HasDone users puts) serving expanding dones (subst (λ s. AllZip (HasDone users puts) s dones) at.seats_are each) in
+    let parted = split (HasDone users puts) serving expanding dones (subst (λ s. AllZip (HasDone users puts) s dones) at.jobs_are each) in
     let served = parted.0 in
     let others = parted.1 in
-    let ready : AllByRecursion (IsSeat lock users) (serving ++ expanding) = subst (AllByRecursion (IsSeat lock users)) at.seats_are from.each in
+    let ready : AllByRecursion (IsJob lock users) (serving ++ expanding) = subst (AllByRecursion (IsJob lock users)) at.jobs_are from.each in
     let ok : AllByRecursion (λ (done : Done). HasNotFailed done.outcome) (served ++ others) = subst (AllByRecursion (λ (done : Done). HasNotFailed done.outcome)) parted.2 sums.done in
     let inside : AllByRecursion (λ other. IsWithin other all) (passes_of served ++ passes_of others) =
     subst (AllByRecursion (λ other. IsWithin other all)) (ap passes_of parted.2 ∙ map-both (λ (done : Done). done.pass) served others) joined.each in
@@ -273,7 +273,7 @@ all-summed users puts sessions lock made all seats dones tally named found some 
     ap (λ d. numbers (passes_of d)) parted.2 ∙ ap numbers (map-both (λ (done : Done). done.pass) served others) ∙ map-both (λ (pass : Known). pass.number) (passes_of served) (passes_of others) in
     let number : all.number ≡ 0 = joined.number_is ∙ ap (λ (pass : Known). pass.number) from.pass_is in
     let gone : all.gone ≡ numbers (passes_of dones) = joined.gone_is ∙ ap (λ g. g ++ numbers (passes_of dones)) (ap (λ (pass : Known). pass.gone) from.pass_is) in
-    let kin : all.kin ≡ numbers (passes_of dones) = joined.kin_is ∙ ap (λ (pass : Known). pass.kin) from.pass_is ∙ sym (numbers-done users puts seats dones each) in
+    let kin : all.kin ≡ numbers (passes_of dones) = joined.kin_is ∙ ap (λ (pass : Known). pass.kin) from.pass_is ∙ sym (numbers-done users puts jobs dones each) in
     let held : all.number ∷ all.gone ≡ 0 ∷ numbers (passes_of dones) = λ i. number i ∷ gone i in
     let whole : IsWhole all = (
       subst (λ h. Has h 0) (sym held) (has-zero (numbers (passes_of dones))),
@@ -281,17 +281,17 @@ all-summed users puts sessions lock made all seats dones tally named found some 
     ) in
     let long : length members ≡ sessions = length-done users puts serving served parted.3 ∙ at.many in
     let not_none : passes_of dones ≢ [] = λ none. nobody sessions some (sym long ∙ shorter members (numbers (passes_of others)) (sym all_numbers ∙ ap numbers none)) in
-    let are = of-users users puts sessions lock all named found 0 serving served (omega (arith, at.many)) at.serve (all-front (IsSeat lock users) serving expanding ready) parted.3
+    let are = of-users users puts sessions lock all named found 0 serving served (omega (arith, at.many)) at.serve (all-front (IsJob lock users) serving expanding ready) parted.3
     (all-front (λ (done : Done). HasNotFailed done.outcome) served others ok) (all-front (λ other. IsWithin other all) (passes_of served) (passes_of others) inside) in
     let unwritten : entries_by author 0 all.seen ≡ [] =
     joined.own 0 (subst (λ m. Has (m ∷ made.gone) 0) (sym (ap (λ (pass : Known). pass.number) from.pass_is)) (has-zero made.gone)) ∙ from.nothing in
     let nothing : (n : ℕ) → Has resting n → entries_by author n all.seen ≡ [] =
-    λ n has. first-or-idle n (numbers (passes_of others)) all.seen unwritten (λ later. idle users puts sessions lock all named found n expanding others at.expand (all-behind (IsSeat lock users) serving expanding ready) parted.4
+    λ n has. first-or-idle n (numbers (passes_of others)) all.seen unwritten (λ later. idle users puts sessions lock all named found n expanding others at.expand (all-behind (IsJob lock users) serving expanding ready) parted.4
     (all-behind (λ other. IsWithin other all) (passes_of served) (passes_of others) inside) later) has in
     let among : AllByRecursion (λ entry. Has (members ++ resting) (author entry)) all.seen =
     each-has (Has (all.number ∷ all.gone)) (Has (members ++ resting)) (λ n has. has-between n 0 members (numbers (passes_of others)) (subst (λ ns. Has (0 ∷ ns) n) all_numbers (subst (λ h. Has h n) held has))) all.seen (joined.whole not_none whole) in
     let tallied_all = tallied users puts sessions lock all named found members resting are nothing among 0 0 0 0 [] serving served (omega (arith, at.many)) (omega (arith, at.many, long))
-    (λ k less. let same : k ≡ 0 + k = omega arith in ap (λ n. get_or members n 0) same) at.serve (all-front (IsSeat lock users) serving expanding ready) parted.3
+    (λ k less. let same : k ≡ 0 + k = omega arith in ap (λ n. get_or members n 0) same) at.serve (all-front (IsJob lock users) serving expanding ready) parted.3
     (all-front (λ (done : Done). HasNotFailed done.outcome) served others ok) (all-front (λ other. IsWithin other all) (passes_of served) (passes_of others) inside) (tally-none puts sessions) in
     let accounts : accounts_of dones ≡ accounts_of served =
     ap accounts_of parted.2 ∙ flat_map-append (λ (done : Done). accounts_in done.outcome) served others

@@ -1,19 +1,19 @@
 -- What the status of `slot` says of the words, by what they say and by the end behind the users file.
 use Rattle.std.proofs.Common.{◌≡◌, ℕ, List, sym, subst, ◌∙◌, arith, inl, inr}
-use Rattle.std.specs.Prelude.{◌⊎◌, Option, Some, None, IfSome}
+use Rattle.std.specs.Prelude.{◌⊎◌, Option, Some, None}
 use Rattle.cal_base.specs.World.Outside.{Adds}
 use Rattle.cal_model.specs.History.Journal.{Entry}
 use Rattle.cal_model.specs.State.ServerState.{directory_of}
 use Rattle.cal_model.specs.Users.UsersFile.{Users}
 use Rattle.cal_keeper.specs.Disks.CrashModel.{Past}
 use Rattle.cal_book.specs.EventSteps.{state_behind}
-use Rattle.cal_script.specs.UsersTaken.{AreUsersOf}
+use Rattle.cal_script.specs.UsersTaken.{AreUsersAt}
 use Rattle.command_ends.specs.declared.ScriptEnd.{ScriptEnd}
 use Rattle.clap.specs.Words.{Text}
 use Rattle.command_words.specs.SlotSaid.{IsSaidBy}
 use Rattle.command_words.specs.SlotWords.{users_path}
 use Rattle.command_words.specs.declared.slot_words.SlotWords.{SlotWords}
-use Rattle.caldav_server.specs.SlotEnds.{AreServed, HasJournal, IsAsked, IsBefore, IsEnd, IsNotTaken, IsSeenEnd, Looked, WroteFront, asked_in}
+use Rattle.caldav_server.specs.SlotEnds.{HasJournal, IsAsked, IsBefore, IsEnd, IsNotTaken, IsSeenEnd, Looked, WroteFront, asked_in}
 use Rattle.slot_times.specs.SlotTimes.{printed, refused_word}
 
 -- a status that comes neither before the journal nor for want of memory
@@ -30,7 +30,7 @@ not_blind status wanted is seven eight nine (inr (inr e)) = nine (sym is ∙ e)
 
 module _ {D : Type 0} (past : D → Option Past) (faults : D → ℕ) (words : List Text) (said : SlotWords) (content : List ℕ → Option (List ℕ)) (disk left : D) (written after : Option (List ℕ)) (end : ScriptEnd) (is_said : IsSaidBy words said) where
   abbrev IsServing : Users → Type 0
-  IsServing users = IfSome (content said.users.now) (λ octets. AreUsersOf octets users)
+  IsServing users = AreUsersAt (Some said.users.now) content users
 
   abbrev IsEnded : Users → Type 0
   IsEnded users = IsEnd past faults users disk left (asked_in said) written after end
@@ -41,8 +41,8 @@ module _ {D : Type 0} (past : D → Option Past) (faults : D → ℕ) (words : L
   abbrev Behind : Type 0
   Behind = IsBefore end.status ⊎ ((users : Users) × IsServing users × IsEnded users)
 
-  served : (users : Users) → IsServing users → AreServed words content users
-  served users taken = subst (λ (path : List ℕ). IfSome (content path) (λ octets. AreUsersOf octets users)) is_said.users_are taken
+  served : (users : Users) → IsServing users → AreUsersAt (Some (users_path words)) content users
+  served users taken = subst (λ (path : List ℕ). AreUsersAt (Some path) content users) is_said.users_are taken
 
   asked : IsAsked words (asked_in said)
   asked = record {
@@ -54,11 +54,11 @@ module _ {D : Type 0} (past : D → Option Past) (faults : D → ℕ) (words : L
   }
 
   -- the users file is taken where a call of the disk failed, and where the file is not taken
-  pub users_taken : Behind → end.status ≡ 8 → (users : Users) × AreServed words content users
+  pub users_taken : Behind → end.status ≡ 8 → (users : Users) × AreUsersAt (Some (users_path words)) content users
   users_taken (inl early) is = absurd (not_before end.status 8 is (λ e. omega (arith, e)) (λ e. omega (arith, e)) (λ e. omega (arith, e)) early)
   users_taken (inr (users, taken, h)) is = (users, served users taken)
 
-  pub not_taken : Behind → end.status ≡ 9 → (users : Users) × AreServed words content users × IsNotTaken past faults users disk left end.place
+  pub not_taken : Behind → end.status ≡ 9 → (users : Users) × AreUsersAt (Some (users_path words)) content users × IsNotTaken past faults users disk left end.place
   not_taken (inl early) is = absurd (not_before end.status 9 is (λ e. omega (arith, e)) (λ e. omega (arith, e)) (λ e. omega (arith, e)) early)
   not_taken (inr (users, taken, h)) is = (users, served users taken, h.not_taken is)
 

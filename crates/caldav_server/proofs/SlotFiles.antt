@@ -13,7 +13,7 @@ use Rattle.cal_session.specs.KeptBooks.{KeptState}
 use Rattle.cal_session.specs.Loading.{Differs, HasTaken, IsMismatched, IsNoHistory, IsReady, IsRefused, IsRefusedAt}
 use Rattle.command_ends.specs.declared.ScriptEnd.{ScriptEnd}
 use Rattle.caldav_server.specs.KeptRuns.{IsFileRefused}
-use Rattle.caldav_server.specs.SlotEnds.{HasJournal, IsEnd, IsNotTaken, IsOnlyRead, IsSeenEnd, IsSeenStatus, IsServedStatus, IsSlotStatus}
+use Rattle.caldav_server.specs.SlotEnds.{HasJournal, IsEnd, IsNotTaken, IsOnlyRead, IsSeenEnd, IsSeenStatus, IsStatusBehindUsers, IsSlotStatus}
 use Rattle.slot_times.specs.SlotTimes.{Asked}
 
 -- the file has an octet, where it is told
@@ -53,7 +53,7 @@ some_octets told now size some same counted = subst HasOctets (sym same) (by tol
 
 -- Statuses
 
-status_served : (status : ℕ) → IsSeenStatus status → IsServedStatus status
+status_served : (status : ℕ) → IsSeenStatus status → IsStatusBehindUsers status
 status_served status is = inr (inr is)
 
 seen_known : (status : ℕ) → IsSeenStatus status → IsSlotStatus status
@@ -62,13 +62,13 @@ seen_known status (inr (inl is)) = inr (inr (inr (inr (inl is))))
 seen_known status (inr (inr (inl is))) = inr (inr (inr (inr (inr (inl is)))))
 seen_known status (inr (inr (inr is))) = inr (inr (inr (inr (inr (inr (inr (inr is)))))))
 
-served_known : (status : ℕ) → IsServedStatus status → IsSlotStatus status
+served_known : (status : ℕ) → IsStatusBehindUsers status → IsSlotStatus status
 served_known status (inl is) = inr (inr (inr (inr (inr (inr (inl is))))))
 served_known status (inr (inl is)) = inr (inr (inr (inr (inr (inr (inr (inl is)))))))
 served_known status (inr (inr is)) = seen_known status is
 
 -- they are none of the words or of the users file
-late : (status : ℕ) → IsServedStatus status → (status ≡ 0) ⊎ (5 ≤ status)
+late : (status : ℕ) → IsStatusBehindUsers status → (status ≡ 0) ⊎ (5 ≤ status)
 late status (inl is) = inr (omega (arith, is))
 late status (inr (inl is)) = inr (omega (arith, is))
 late status (inr (inr (inl is))) = inl is
@@ -76,13 +76,13 @@ late status (inr (inr (inr (inl is)))) = inr (omega (arith, is))
 late status (inr (inr (inr (inr (inl is))))) = inr (omega (arith, is))
 late status (inr (inr (inr (inr (inr is))))) = inr (omega (arith, is))
 
-pub not_early : (status early : ℕ) → IsServedStatus status → 0 < early → early < 5 → status ≡ early → ⊥
+pub not_early : (status early : ℕ) → IsStatusBehindUsers status → 0 < early → early < 5 → status ≡ early → ⊥
 not_early status early known some less is = by (late status known) where
   by : (status ≡ 0) ⊎ (5 ≤ status) → ⊥
   by (inl zero) = omega (arith, zero, some, is)
   by (inr more) = omega (arith, more, less, is)
 
-pub known_in_all : (status : ℕ) → IsServedStatus status → IsSlotStatus status × (status ≡ 2 → ⊥)
+pub known_in_all : (status : ℕ) → IsStatusBehindUsers status → IsSlotStatus status × (status ≡ 2 → ⊥)
 known_in_all status known = (served_known status known, not_early status 2 known (omega arith) (omega arith))
 
 seen_not_nine : (status : ℕ) → IsSeenStatus status → status ≡ 9 → ⊥

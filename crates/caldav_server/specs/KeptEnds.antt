@@ -1,28 +1,17 @@
 -- How a script at a journal file ends, by its status.
--- Given: the words; what the files, the disk, the input and the output told before and after.
-use Rattle.std.specs.Prelude.{ℕ, List, Option, IfSome}
+-- Given: the users; what the disk, the input and the output told before and after.
+use Rattle.std.specs.Prelude.{ℕ, List, Option}
 use Rattle.cal_model.specs.History.Journal.{Entry}
 use Rattle.cal_model.specs.Users.UsersFile.{Users}
 use Rattle.cal_keeper.specs.Disks.CrashModel.{Past}
-use Rattle.cal_script.specs.UsersTaken.{AreUsersOf}
+use Rattle.cal_script.specs.ScriptEnds.{RunTold}
 use Rattle.cal_script.specs.declared.running.FrameEnd.{FrameEnd}
 use Rattle.cal_script.specs.declared.running.FrameEnd.TheVariants as frames
 use Rattle.cal_script.specs.declared.running.FramesOn.TheVariants.{End, Broken}
 use Rattle.command_ends.specs.declared.ScriptEnd.{ScriptEnd}
-use Rattle.command_words.specs.JournalWords.{kept_users_path}
 use Rattle.caldav_server.specs.KeptRuns.{StoodFor, IsFileRefused, IsAnswered}
 use Rattle.caldav_server.specs.declared.kept_script.JournalEnd.{JournalEnd}
 use Rattle.caldav_server.specs.declared.kept_script.JournalEnd.TheVariants.{Frames, Failed, Refused, NoMemory}
-
--- Words
-
--- what the users file has, where that is told, by the words
-abbrev pub IfTold : List (List ℕ) → (List ℕ → Option (List ℕ)) → (List ℕ → Type 0) → Type 0
-IfTold words content P = IfSome (kept_users_path words) (λ path. IfSome (content path) P)
-
--- the users are those of the file
-abbrev pub AreServed : List (List ℕ) → (List ℕ → Option (List ℕ)) → Users → Type 0
-AreServed words content users = IfTold words content (λ octets. AreUsersOf octets users)
 
 -- Statuses of a script
 
@@ -43,11 +32,10 @@ script_end (Refused place) = record { status = 9; place = place }
 script_end NoMemory = record { status = 7; place = 0 }
 
 -- What is said of the end of a run at a journal file is so.
-abbrev pub HasRun : {D : Type 0} → (D → Option Past) → (D → ℕ) → Users → D → D → JournalEnd → Option (List ℕ) → Option (List ℕ) → Option (List ℕ) → Option (List ℕ) → Type 0
-HasRun past faults users disk left (Frames ended) input input_after written written_after =
-    (before : List Entry) × StoodFor users before (past disk) × IsAnswered users before (past left) ended input input_after written written_after
-HasRun past faults users disk left (Refused place) input input_after written written_after = IsFileRefused past faults users disk left place
-HasRun past faults users disk left other input input_after written written_after = Unit {0}
+abbrev pub HasRun : {D : Type 0} → (D → Option Past) → (D → ℕ) → Users → D → D → JournalEnd → RunTold → Type 0
+HasRun past faults users disk left (Frames ended) told = (before : List Entry) × StoodFor users before (past disk) × IsAnswered users before (past left) ended told
+HasRun past faults users disk left (Refused place) told = IsFileRefused past faults users disk left place
+HasRun past faults users disk left other told = Unit {0}
 
 -- the frames were not come to
 abbrev pub IsBeforeFrames : JournalEnd → Type 0

@@ -12,7 +12,7 @@ use Rattle.cal_session.specs.KeptBooks.{LeavesAllOrButLast}
 use Rattle.cal_session.specs.Loading.{IsLoaded}
 use Rattle.cal_session.specs.declared.loading.Loaded.TheVariants.{Refused, Mismatch}
 use Rattle.cal_script.specs.EnteredRequests.{IsEnteredBy}
-use Rattle.cal_script.specs.ScriptEnds.{BrokeOff, HasEnded, IsPrintedFrom, IsPrintedInPartFrom}
+use Rattle.cal_script.specs.ScriptEnds.{BrokeOff, HasEnded, IsPrintedFrom, IsPrintedInPartFrom, RunTold}
 use Rattle.cal_script.specs.Standings.{standing_in}
 use Rattle.cal_script.specs.declared.running.FramesOn.{FramesOn}
 use Rattle.cal_script.specs.declared.running.FramesOn.TheVariants.{End, Broken}
@@ -51,31 +51,31 @@ PrintsInPart users before input output = IsPrintedInPartFrom users (standing_in 
 -- Runs
 
 -- The run began with a journal for which the file stood, and went on with it. The file that is left is kept for all of it, and this holds of the journal before and after.
-pub record RanOn (users : Users) (told left : Option Past) (input : Option (List ℕ)) (P : List Entry → List Entry → Type 0) : Type 0 where
+pub record RanOn (users : Users) (found left : Option Past) (input : Option (List ℕ)) (P : List Entry → List Entry → Type 0) : Type 0 where
   pub before : List Entry
   pub after : List Entry
-  pub stood : StoodFor users before told
+  pub stood : StoodFor users before found
   pub goes_on : GoesOn users before after input
   pub kept : IsKeptWith users after left
   pub so : P before after
 
 -- It was broken off at a request, before which all replies were written, and no part of another. Each crash leaves a file that stands for all of the journal, or for all but its last entry, of which nobody was told.
-pub record BrokeOn (users : Users) (told left : Option Past) (input written written_after : Option (List ℕ)) : Type 0 where
+pub record BrokeOn (users : Users) (found left : Option Past) (told : RunTold) : Type 0 where
   pub before : List Entry
   pub after : List Entry
-  pub stood : StoodFor users before told
-  pub goes_on : GoesOn users before after input
+  pub stood : StoodFor users before found
+  pub goes_on : GoesOn users before after told.left
   pub crash : IfSome left (LeavesAllOrButLast users after)
-  pub broke : BrokeOff users (standing_in (state_behind users before)) input written written_after
+  pub broke : BrokeOff users (standing_in (state_behind users before)) told
 
 -- What is said of frames that were answered at the book of a journal, with its file, is so.
-abbrev pub IsAnswered : {X : Type 0} → Users → List Entry → Option Past → FramesOn X → Option (List ℕ) → Option (List ℕ) → Option (List ℕ) → Option (List ℕ) → Type 0
-IsAnswered users before left (End ended) input input_after written written_after =
-    (after : List Entry) × GoesOn users before after input × IsKeptWith users after left
-    × HasEnded (PrintsBetween users before after) (PrintsInPart users before) ended input input_after written written_after
-IsAnswered users before left (Broken fault) input input_after written written_after =
-    (after : List Entry) × GoesOn users before after input × IfSome left (LeavesAllOrButLast users after)
-    × BrokeOff users (standing_in (state_behind users before)) input written written_after
+abbrev pub IsAnswered : {X : Type 0} → Users → List Entry → Option Past → FramesOn X → RunTold → Type 0
+IsAnswered users before left (End ended) told =
+    (after : List Entry) × GoesOn users before after told.left × IsKeptWith users after left
+    × HasEnded (PrintsBetween users before after) (PrintsInPart users before) ended told
+IsAnswered users before left (Broken fault) told =
+    (after : List Entry) × GoesOn users before after told.left × IfSome left (LeavesAllOrButLast users after)
+    × BrokeOff users (standing_in (state_behind users before)) told
 
 -- a fault was told, and so one was counted
 abbrev pub IfBroken : {X : Type 0} → FramesOn X → Type 0 → Type 0

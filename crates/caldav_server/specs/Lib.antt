@@ -1,10 +1,9 @@
-pub mod Crews
 pub mod KeptEnds
 pub mod KeptRuns
 pub mod KeptServers
 pub mod LoadDone
 pub mod LoadEnds
-pub mod LoadSeats
+pub mod LoadJobs
 pub mod LoadSessions
 pub mod LoadSums
 pub mod LoadTallies
@@ -12,3 +11,4 @@ pub mod MigrateEnds
 pub mod ServeEnds
 pub mod Shares
 pub mod SlotEnds
+pub mod ThreadPasses

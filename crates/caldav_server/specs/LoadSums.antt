@@ -4,7 +4,7 @@ use Rattle.std.specs.Prelude.{◌≡◌, ℕ, true, false, List, [], ◌∷◌, 
 use Rattle.std.specs.List.{AllByRecursion}
 use Rattle.atomic_table.specs.Seated.{TableId}
 use Rattle.sha2.specs.Hashers.{Holds256}
-use Rattle.caldav_server.specs.LoadSeats.{Known, IsLeaf}
+use Rattle.caldav_server.specs.LoadJobs.{Known, IsLeaf}
 use Rattle.caldav_server.specs.LoadTallies.{IsTally}
 use Rattle.caldav_server.specs.declared.load_joins.Tally.{Tally}
 use Rattle.caldav_server.specs.declared.load_sessions.Account.{Account}

@@ -9,7 +9,7 @@ use Rattle.cal_keeper.specs.Disks.CrashModel.{Past, reading}
 use Rattle.cal_keeper.specs.Files.Opening.{IsUnwritten}
 use Rattle.cal_keeper.specs.Files.Standing.{StandsFor}
 use Rattle.cal_book.specs.EventSteps.{state_behind}
-use Rattle.cal_script.specs.UsersTaken.{AreUsersOf}
+use Rattle.cal_script.specs.UsersTaken.{AreUsersAt}
 use Rattle.command_words.specs.SlotWords.{minutes, most, paths, range_of_words, user, users_path}
 use Rattle.caldav_server.specs.KeptRuns.{IsFileRefused}
 use Rattle.slot_times.specs.SlotTimes.{Asked, printed, refused_word}
@@ -28,8 +28,8 @@ abbrev pub IsSeenStatus : ℕ → Type 0
 IsSeenStatus status = (status ≡ 0) ⊎ (status ≡ 5) ⊎ (status ≡ 7) ⊎ (status ≡ 10)
 
 -- those that come behind the users file
-abbrev pub IsServedStatus : ℕ → Type 0
-IsServedStatus status = (status ≡ 8) ⊎ (status ≡ 9) ⊎ IsSeenStatus status
+abbrev pub IsStatusBehindUsers : ℕ → Type 0
+IsStatusBehindUsers status = (status ≡ 8) ⊎ (status ≡ 9) ⊎ IsSeenStatus status
 
 -- Words
 
@@ -40,10 +40,6 @@ pub record IsAsked (words : List (List ℕ)) (asked : Asked) : Type 0 where
   pub minutes_are : asked.minutes ≡ minutes words
   pub most_are : asked.most ≡ most words
   pub paths_are : asked.paths ≡ paths words
-
--- the users are those of the file that the words name, where that is told
-abbrev pub AreServed : List (List ℕ) → (List ℕ → Option (List ℕ)) → Users → Type 0
-AreServed words content users = IfSome (content (users_path words)) (λ octets. AreUsersOf octets users)
 
 -- Files
 
@@ -67,7 +63,7 @@ pub record Looked (words : List (List ℕ)) (content : List ℕ → Option (List
   pub users : Users
   pub journal : List Entry
   pub asked : Asked
-  pub served : AreServed words content users
+  pub served : AreUsersAt (Some (users_path words)) content users
   pub stood : HasJournal users journal told
   pub is_asked : IsAsked words asked
   pub word : refused_word (directory_of users) (state_behind users journal) asked ≡ refused
@@ -93,7 +89,7 @@ pub record IsSeenEnd (directory : Directory) (state : ServerState) (asked : Aske
 
 -- the end behind the users file: the journal is looked at, and then the words in the state to which it leads
 pub record IsEnd {D : Type 0} (past : D → Option Past) (faults : D → ℕ) (users : Users) (disk left : D) (asked : Asked) (written written_after : Option (List ℕ)) (end : ScriptEnd) : Type 0 where
-  pub known : IsServedStatus end.status
+  pub known : IsStatusBehindUsers end.status
   pub not_taken : end.status ≡ 9 → IsNotTaken past faults users disk left end.place
   pub looked : ((end.status ≡ 7) ⊎ (end.status ≡ 8) ⊎ (end.status ≡ 9))
       ⊎ ((journal : List Entry) × HasJournal users journal (past disk) × IsSeenEnd (directory_of users) (state_behind users journal) asked written written_after end)

@@ -2,11 +2,11 @@
 ghost use Rattle.std.specs.Prelude.{◌≡◌, ◌≤◌, ◌<◌, [], OnOk, IsErrOf};
 ghost use Rattle.std.specs.List.{AllByRecursion};
 ghost use Rattle.cal_base.specs.World.Outside.{Rose};
-ghost use Rattle.caldav_server.specs.Crews.{Awaits, GoesOn, Grows};
+ghost use Rattle.caldav_server.specs.ThreadPasses.{Awaits, GoesOn, Grows};
 ghost use Rattle.caldav_server.specs.Shares.{RoseBy, share_of};
 
-use crate::crew::{NotServed, run_crew};
-use crate::sessions::{Crew, Ground};
+use crate::threads::{NotServed, serve_in_threads};
+use crate::sessions::{Context, Settings};
 use cal_base::{Door, NoMemory};
 use cal_book::Desk;
 use command_words::ServeWords;
@@ -27,7 +27,7 @@ pub(crate) fn serve_desk<B: Desk + Send + Drop, D: Door, R: Threads + Wait + Syn
     users: &Users,
     desk: B,
     door: &mut D,
-) -> (Result<(), NotServed<B::Fault>>, B)
+) -> (Result<(), NotServed>, B)
     requires sessions { 0 < words.now.sessions }
     requires users { B.base desk ≡ users.now }
     requires first { AllByRecursion (λ e. B.author e ≡ 0) (B.journal desk) }
@@ -56,7 +56,7 @@ fn serve_lock<B: Desk + Send, D: Door, R: Threads + Wait + Sync>(
     lock: &TurnLock<B>,
     first: Pass<B>,
     door: &mut D,
-) -> (Result<(), NotServed<B::Fault>>, Pass<B>)
+) -> (Result<(), NotServed>, Pass<B>)
     requires sessions { 0 < words.now.sessions }
     requires first { Awaits lock.now users.now [] first }
     ensures pass { GoesOn lock.now users.now [] first result.1 }
@@ -68,18 +68,18 @@ fn serve_lock<B: Desk + Send, D: Door, R: Threads + Wait + Sync>(
     let doorway = Mutex::new(());
     let running = AtomicU64::new(words.sessions);
     let over = AtomicBool::new(false);
-    let ground = Ground {
+    let context = Context {
         alloc,
         lock,
         users,
         doorway: &doorway,
         running: &running,
         over: &over,
-        crew: Crew {
+        settings: Settings {
             sessions: words.sessions,
             workers: words.workers,
             connections: words.connections,
         },
     };
-    run_crew(rt, &ground, first, door)
+    serve_in_threads(rt, &context, first, door)
 }

@@ -3,8 +3,8 @@ ghost use Rattle.std.specs.Prelude.{◌≡◌, ◌≤◌, ◌⊎◌, ◌↔◌, 
 ghost use Rattle.cal_base.specs.World.Outside.{Rose};
 ghost use Rattle.cal_model.specs.Users.UsersFile.{Users};
 ghost use Rattle.cal_script.specs.ReadersSight.{ReadersSeeAlike};
-ghost use Rattle.cal_script.specs.ScriptEnds.{EndsInPart, HasPlace, MetBadFrame, RanToEnd, RefusesStart, RunsFrames, StoppedReading, WroteFront};
-ghost use Rattle.cal_script.specs.UsersTaken.{IsRefusedAt};
+ghost use Rattle.cal_script.specs.ScriptEnds.{EndsInPart, HasPlace, MetBadFrame, RanToEnd, RefusesStart, RunsFrames, StoppedReading, WroteFront, run_told};
+ghost use Rattle.cal_script.specs.UsersTaken.{AreUsersAt, IfTold, IsRefusedAt};
 ghost use Rattle.command_words.specs.JournalWords.{kept_users_path};
 ghost use Rattle.caldav_server.specs.KeptEnds as spec;
 ghost use Rattle.caldav_server.specs.KeptRuns.{BrokeOn, IfBroken, IsAnswered, IsFileRefused, PrintsBetween, PrintsInPart, RanOn};
@@ -57,22 +57,22 @@ pub(crate) fn run_kept_script<F: Files, D: Disk, I: Source, O: Sink>(
     // The words and the users file.
     ensures words { (result.0.status ≡ 2) ↔ (kept_users_path words.now ≡ None) }
     ensures words_first { result.0.status ≡ 2 → files.new ≡ files.old }
-    ensures users_refused { result.0.status ≡ 3 → spec.IfTold words.now (F.content files.old) (λ octets. IsRefusedAt octets result.0.place) }
+    ensures users_refused { result.0.status ≡ 3 → IfTold (kept_users_path words.now) (F.content files.old) (λ octets. IsRefusedAt octets result.0.place) }
     ensures refused { RefusesStart result.0.status → (input.new ≡ input.old) × (output.new ≡ output.old) × (result.1 ≡ disk) }
-    ensures served { ((input.new ≡ input.old) × (output.new ≡ output.old)) ⊎ ((users : Users) × spec.AreServed words.now (F.content files.old) users) }
+    ensures served { ((input.new ≡ input.old) × (output.new ≡ output.old)) ⊎ ((users : Users) × AreUsersAt (kept_users_path words.now) (F.content files.old) users) }
 
     // The journal.
-    ensures journal_refused { result.0.status ≡ 9 → (input.new ≡ input.old) × (output.new ≡ output.old) × (users : Users) × spec.AreServed words.now (F.content files.old) users × IsFileRefused D.past D.faults users disk result.1 result.0.place }
+    ensures journal_refused { result.0.status ≡ 9 → (input.new ≡ input.old) × (output.new ≡ output.old) × (users : Users) × AreUsersAt (kept_users_path words.now) (F.content files.old) users × IsFileRefused D.past D.faults users disk result.1 result.0.place }
     ensures journal_fault { result.0.status ≡ 8 → Rose (D.faults disk) (D.faults result.1) }
-    ensures broke { result.0.status ≡ 8 → ((input.new ≡ input.old) × (output.new ≡ output.old)) ⊎ ((users : Users) × spec.AreServed words.now (F.content files.old) users × BrokeOn users (D.past disk) (D.past result.1) (I.left input.old) (O.written output.old) (O.written output.new)) }
+    ensures broke { result.0.status ≡ 8 → ((input.new ≡ input.old) × (output.new ≡ output.old)) ⊎ ((users : Users) × AreUsersAt (kept_users_path words.now) (F.content files.old) users × BrokeOn users (D.past disk) (D.past result.1) (run_told I.Source O.Sink input.old input.new output.old output.new)) }
 
     // The frames.
-    ensures done { result.0.status ≡ 0 → (users : Users) × spec.AreServed words.now (F.content files.old) users × RanOn users (D.past disk) (D.past result.1) (I.left input.old) (λ before after. RanToEnd (PrintsBetween users before after) (I.left input.old) (I.left input.new) (O.written output.old) (O.written output.new) result.0.place) }
-    ensures bad_frame { result.0.status ≡ 6 → (users : Users) × spec.AreServed words.now (F.content files.old) users × RanOn users (D.past disk) (D.past result.1) (I.left input.old) (λ before after. MetBadFrame (PrintsBetween users before after) (I.left input.old) (O.written output.old) (O.written output.new) result.0.place) }
+    ensures done { result.0.status ≡ 0 → (users : Users) × AreUsersAt (kept_users_path words.now) (F.content files.old) users × RanOn users (D.past disk) (D.past result.1) (I.left input.old) (λ before after. RanToEnd (PrintsBetween users before after) (run_told I.Source O.Sink input.old input.new output.old output.new) result.0.place) }
+    ensures bad_frame { result.0.status ≡ 6 → (users : Users) × AreUsersAt (kept_users_path words.now) (F.content files.old) users × RanOn users (D.past disk) (D.past result.1) (I.left input.old) (λ before after. MetBadFrame (PrintsBetween users before after) (run_told I.Source O.Sink input.old input.new output.old output.new) result.0.place) }
     ensures input_fault { result.0.status ≡ 4 → Rose (F.faults files.old) (F.faults files.new) ⊎ Rose (I.faults input.old) (I.faults input.new) }
-    ensures stopped { result.0.status ≡ 4 → ((input.new ≡ input.old) × (output.new ≡ output.old)) ⊎ ((users : Users) × spec.AreServed words.now (F.content files.old) users × RanOn users (D.past disk) (D.past result.1) (I.left input.old) (λ before after. StoppedReading (PrintsBetween users before after) (I.left input.old) (I.left input.new) (O.written output.old) (O.written output.new))) }
+    ensures stopped { result.0.status ≡ 4 → ((input.new ≡ input.old) × (output.new ≡ output.old)) ⊎ ((users : Users) × AreUsersAt (kept_users_path words.now) (F.content files.old) users × RanOn users (D.past disk) (D.past result.1) (I.left input.old) (λ before after. StoppedReading (PrintsBetween users before after) (run_told I.Source O.Sink input.old input.new output.old output.new))) }
     ensures output_fault { result.0.status ≡ 5 → Rose (O.faults output.old) (O.faults output.new) }
-    ensures in_part { EndsInPart result.0.status → ((input.new ≡ input.old) × (output.new ≡ output.old)) ⊎ ((users : Users) × spec.AreServed words.now (F.content files.old) users × RanOn users (D.past disk) (D.past result.1) (I.left input.old) (λ before _. WroteFront (PrintsInPart users before) (I.left input.old) (O.written output.old) (O.written output.new))) }
+    ensures in_part { EndsInPart result.0.status → ((input.new ≡ input.old) × (output.new ≡ output.old)) ⊎ ((users : Users) × AreUsersAt (kept_users_path words.now) (F.content files.old) users × RanOn users (D.past disk) (D.past result.1) (I.left input.old) (λ before _. WroteFront (PrintsInPart users before) (run_told I.Source O.Sink input.old input.new output.old output.new))) }
     ensures placed { HasPlace result.0.status ⊎ (result.0.status ≡ 9) ⊎ (result.0.place ≡ 0) }
 
     // No reply to a request that only reads tells more than its user sees.
@@ -107,7 +107,7 @@ fn run_at_journal<D: Disk, I: Source, O: Sink>(
     input: &mut I,
     output: &mut O,
 ) -> (JournalEnd, D)
-    ensures run { spec.HasRun D.past D.faults users disk result.1 result.0 (I.left input.old) (I.left input.new) (O.written output.old) (O.written output.new) }
+    ensures run { spec.HasRun D.past D.faults users disk result.1 result.0 (run_told I.Source O.Sink input.old input.new output.old output.new) }
     ensures before_frames { spec.IsBeforeFrames result.0 → (input.new ≡ input.old) × (output.new ≡ output.old) }
     ensures disk_fault { spec.IsDiskFault result.0 → Rose (D.faults disk) (D.faults result.1) }
     ensures input_fault { result.0 ≡ JournalEnd.Frames (FramesOn.End FrameEnd.Input) → Rose (I.faults input.old) (I.faults input.new) }
@@ -141,7 +141,7 @@ fn answer_kept<D: Disk, I: Source, O: Sink>(
 ) -> (FramesOn<DiskFault>, D)
     requires users { kept.book.users ≡ users.now }
     requires unbroken { kept.keeper.broken ≡ false }
-    ensures answered { IsAnswered users.now kept.book.work.journal (D.past result.1) result.0 (I.left input.old) (I.left input.new) (O.written output.old) (O.written output.new) }
+    ensures answered { IsAnswered users.now kept.book.work.journal (D.past result.1) result.0 (run_told I.Source O.Sink input.old input.new output.old output.new) }
     ensures disk_fault { IfBroken result.0 (Rose (D.faults kept.keeper.disk) (D.faults result.1)) }
     ensures input_fault { result.0 ≡ FramesOn.End FrameEnd.Input → Rose (I.faults input.old) (I.faults input.new) }
     ensures output_fault { result.0 ≡ FramesOn.End FrameEnd.Output → Rose (O.faults output.old) (O.faults output.new) }

@@ -5,12 +5,12 @@ ghost use Rattle.cal_model.specs.State.ServerState.{directory_of};
 ghost use Rattle.load_requests.specs.NumberedUsers.{AreNumbered};
 ghost use Rattle.caldav_server.specs.LoadEnds.{HasLoaded, HasPrinted};
 ghost use Rattle.command_words.specs.LoadSaid.{IsWithin};
-ghost use Rattle.caldav_server.specs.LoadSeats.{AreSeats, IsNumber, IsOneMore, SeatsMade, first_pass};
+ghost use Rattle.caldav_server.specs.LoadJobs.{AreJobs, IsNumber, IsOneMore, JobsMade, first_pass};
 ghost use Rattle.caldav_server.specs.LoadSums.{IsSummed};
 ghost use Rattle.caldav_server.specs.LoadTallies.{five_lines};
 
 use crate::load_joins::{Tally, joined};
-use crate::load_sessions::{Duty, Ground, Seat, run_seats};
+use crate::load_sessions::{Role, Context, Job, run_jobs};
 use cal_base::{Arc, List, NoMemory, Sink, Word, write_all};
 use cal_book::Book;
 use cal_script::ScriptEnd;
@@ -129,16 +129,16 @@ fn run_all<R: Threads + Wait + Sync>(
     requires found { AreNumbered users.now words.sessions }
     ensures { IfOk result (IsSummed words.puts words.sessions) }
 {
-    let ground = Ground {
+    let context = Context {
         alloc,
         service,
         users,
         puts: words.puts as u32,
     };
     let mut pass = first;
-    let mut seats = List::new(alloc);
-    fill_seats(rt, &ground, words, &mut pass, &mut seats)?;
-    let done = run_seats(rt, &ground, seats.into_vec())?;
+    let mut jobs = List::new(alloc);
+    fill_jobs(rt, &context, words, &mut pass, &mut jobs)?;
+    let done = run_jobs(rt, &context, jobs.into_vec())?;
     let tally = joined(service, &mut pass, done);
     if tally.whole {
         Ok(tally)
@@ -147,42 +147,42 @@ fn run_all<R: Threads + Wait + Sync>(
     }
 }
 
-/// A seat for each session, and behind these one for each worker.
-fn fill_seats<R: Wait>(
+/// A job for each session, and behind these one for each worker.
+fn fill_jobs<R: Wait>(
     rt: &R,
-    ground: &Ground<'_>,
+    context: &Context<'_>,
     words: LoadWords,
     pass: &mut Pass<Book>,
-    seats: &mut List<Seat>,
+    jobs: &mut List<Job>,
 ) -> Result<(), NoMemory>
     requires few { words.sessions ≤ 16 }
-    requires first { pass.old ≡ first_pass ground.now.service.now ground.now.users.now }
-    requires none { seats.old ≡ [] }
-    ensures made { OnOk result (SeatsMade ground.now.service.now ground.now.users.now pass.new seats.new) }
-    ensures seats { OnOk result (AreSeats words.sessions seats.new) }
+    requires first { pass.old ≡ first_pass context.now.service.now context.now.users.now }
+    requires none { jobs.old ≡ [] }
+    ensures made { OnOk result (JobsMade context.now.service.now context.now.users.now pass.new jobs.new) }
+    ensures jobs { OnOk result (AreJobs words.sessions jobs.new) }
 {
     'sessions: for session in 0..words.sessions {
-        add_seat(rt, ground, pass, Duty::Serve(session as u32), seats)?;
+        add_job(rt, context, pass, Role::Serve(session as u32), jobs)?;
     }
     'workers: for _worker in 0..words.workers {
-        add_seat(rt, ground, pass, Duty::Expand, seats)?;
+        add_job(rt, context, pass, Role::Expand, jobs)?;
     }
     Ok(())
 }
 
-/// Makes a seat with a pass of its own.
-fn add_seat<R: Wait>(
+/// Makes a job with a pass of its own.
+fn add_job<R: Wait>(
     rt: &R,
-    ground: &Ground<'_>,
+    context: &Context<'_>,
     pass: &mut Pass<Book>,
-    duty: Duty,
-    seats: &mut List<Seat>,
+    role: Role,
+    jobs: &mut List<Job>,
 ) -> Result<(), NoMemory>
-    requires made { SeatsMade ground.now.service.now ground.now.users.now pass.old seats.old }
-    requires number { IsNumber duty }
-    ensures made { OnOk result (SeatsMade ground.now.service.now ground.now.users.now pass.new seats.new) }
-    ensures added { OnOk result (IsOneMore duty seats.old seats.new) }
+    requires made { JobsMade context.now.service.now context.now.users.now pass.old jobs.old }
+    requires number { IsNumber role }
+    ensures made { OnOk result (JobsMade context.now.service.now context.now.users.now pass.new jobs.new) }
+    ensures added { OnOk result (IsOneMore role jobs.old jobs.new) }
 {
-    let pass = ground.service.lock().split(rt, pass)?;
-    seats.push(Seat { pass, duty })
+    let pass = context.service.lock().split(rt, pass)?;
+    jobs.push(Job { pass, role })
 }

@@ -2,7 +2,7 @@
 ghost use Rattle.std.specs.Prelude.{◌≡◌, ◌≤◌, ◌<◌, ◌↔◌, ℕ, false, Some, All, IfOk, IsTrue, count_by, length};
 ghost use Rattle.std.specs.List.{AllZip, AllByRecursion};
 ghost use Rattle.turn_lock.specs.Journals.{entries_by};
-ghost use Rattle.caldav_server.specs.LoadSeats.{IsSeat};
+ghost use Rattle.caldav_server.specs.LoadJobs.{IsJob};
 ghost use Rattle.caldav_server.specs.Shares.{IsPassFor};
 ghost use Rattle.caldav_server.specs.LoadSessions.{was_accepted, HadMemory};
 ghost use Rattle.caldav_server.specs.LoadDone.{Did, HasDone, IsAccountOf};
@@ -21,7 +21,7 @@ use turn_lock::Pass;
 
 /// What all threads share.
 #[derive(Clone, Copy)]
-pub(crate) struct Ground<'a> {
+pub(crate) struct Context<'a> {
     pub(crate) alloc: Global,
     pub(crate) service: &'a Service,
     pub(crate) users: &'a Users,
@@ -31,7 +31,7 @@ pub(crate) struct Ground<'a> {
 
 /// What a thread is for.
 #[derive(Clone, Copy)]
-pub(crate) enum Duty {
+pub(crate) enum Role {
     /// It is the session of this number.
     Serve(u32),
     /// It expands recurring events.
@@ -40,9 +40,9 @@ pub(crate) enum Duty {
 
 /// What a thread is started with.
 #[derive(Drop)]
-pub(crate) struct Seat {
+pub(crate) struct Job {
     pub(crate) pass: Pass<Book>,
-    pub(crate) duty: Duty,
+    pub(crate) role: Role,
 }
 
 /// What a session did.
@@ -54,7 +54,7 @@ pub(crate) struct Account {
     pub(crate) link: MemoryLink,
 }
 
-/// What came of a duty.
+/// What came of a role.
 #[derive(Drop)]
 pub(crate) enum Outcome {
     /// A session was served to its end.
@@ -73,63 +73,63 @@ pub(crate) struct Done {
 }
 
 /// Runs all threads to their ends.
-pub(crate) fn run_seats<R: Threads + Wait + Sync>(
+pub(crate) fn run_jobs<R: Threads + Wait + Sync>(
     rt: &R,
-    ground: &Ground<'_>,
-    seats: Vec<Seat>,
+    context: &Context<'_>,
+    jobs: Vec<Job>,
 ) -> Result<Vec<Done>, AllocError>
-    requires few { ground.now.puts ≤ 800 }
-    requires ready { All (λ seat. IsSeat ground.now.service.now ground.now.users.now seat) seats.items }
-    ensures { IfOk result (λ done. AllZip (HasDone ground.now.users.now ground.now.puts) seats.items done.items) }
+    requires few { context.now.puts ≤ 800 }
+    requires ready { All (λ job. IsJob context.now.service.now context.now.users.now job) jobs.items }
+    ensures { IfOk result (λ done. AllZip (HasDone context.now.users.now context.now.puts) jobs.items done.items) }
 {
     thread::map_vec(
         rt,
-        seats,
-        &|seat: Seat| -> Done
-            requires { (ground.now.puts ≤ 800) × IsSeat ground.now.service.now ground.now.users.now seat }
-            ensures { HasDone ground.entry.now.users.now ground.entry.now.puts seat result }
-        { run_seat(rt, ground, seat) },
+        jobs,
+        &|job: Job| -> Done
+            requires { (context.now.puts ≤ 800) × IsJob context.now.service.now context.now.users.now job }
+            ensures { HasDone context.entry.now.users.now context.entry.now.puts job result }
+        { run_job(rt, context, job) },
     )
 }
 
 /// Does what a thread is for.
-fn run_seat<R: Wait>(rt: &R, ground: &Ground<'_>, seat: Seat) -> Done
-    requires few { ground.now.puts ≤ 800 }
-    requires ready { IsSeat ground.now.service.now ground.now.users.now seat }
-    ensures { HasDone ground.now.users.now ground.now.puts seat result }
+fn run_job<R: Wait>(rt: &R, context: &Context<'_>, job: Job) -> Done
+    requires few { context.now.puts ≤ 800 }
+    requires ready { IsJob context.now.service.now context.now.users.now job }
+    ensures { HasDone context.now.users.now context.now.puts job result }
 {
-    let Seat { mut pass, duty } = seat;
-    let outcome = run_duty(rt, ground, duty, &mut pass);
+    let Job { mut pass, role } = job;
+    let outcome = run_role(rt, context, role, &mut pass);
     Done { pass, outcome }
 }
 
-/// Does a duty with a pass.
-fn run_duty<R: Wait>(rt: &R, ground: &Ground<'_>, duty: Duty, pass: &mut Pass<Book>) -> Outcome
-    requires few { ground.now.puts ≤ 800 }
-    requires ready { IsSeat ground.now.service.now ground.now.users.now (record { pass = pass.old; duty = duty }) }
+/// Does a role with a pass.
+fn run_role<R: Wait>(rt: &R, context: &Context<'_>, role: Role, pass: &mut Pass<Book>) -> Outcome
+    requires few { context.now.puts ≤ 800 }
+    requires ready { IsJob context.now.service.now context.now.users.now (record { pass = pass.old; role = role }) }
     ensures pass { pass.new ≡ record pass.old { seen = pass.new.seen; looks = pass.new.looks } }
-    ensures did { Did ground.now.users.now ground.now.puts duty pass.old pass.new result }
+    ensures did { Did context.now.users.now context.now.puts role pass.old pass.new result }
 {
-    match duty {
-        Duty::Serve(session) => serve_session(rt, ground, session, pass),
-        Duty::Expand => {
-            expand_pieces(rt, ground, pass);
+    match role {
+        Role::Serve(session) => serve_session(rt, context, session, pass),
+        Role::Expand => {
+            expand_pieces(rt, context, pass);
             Outcome::Worked
         }
     }
 }
 
 /// Takes one turn as often as a session puts events.
-fn expand_pieces<R: Wait>(rt: &R, ground: &Ground<'_>, pass: &mut Pass<Book>)
-    requires { IsPassFor ground.now.service.now ground.now.users.now pass.old }
+fn expand_pieces<R: Wait>(rt: &R, context: &Context<'_>, pass: &mut Pass<Book>)
+    requires { IsPassFor context.now.service.now context.now.users.now pass.old }
     ensures pass { pass.new ≡ record pass.old { seen = pass.new.seen; looks = pass.new.looks } }
     ensures mine { entries_by (λ entry. entry.session) pass.old.number pass.new.seen ≡ entries_by (λ entry. entry.session) pass.old.number pass.old.seen }
 {
-    'turns: for _turn in 0..ground.puts {
+    'turns: for _turn in 0..context.puts {
         let _ = work(
             rt,
-            ground.alloc,
-            ground.service.lock(),
+            context.alloc,
+            context.service.lock(),
             pass,
             &OpenGate::new(),
             1,
@@ -140,26 +140,26 @@ fn expand_pieces<R: Wait>(rt: &R, ground: &Ground<'_>, pass: &mut Pass<Book>)
 /// Serves a session to its end.
 fn serve_session<R: Wait>(
     rt: &R,
-    ground: &Ground<'_>,
+    context: &Context<'_>,
     session: u32,
     pass: &mut Pass<Book>,
 ) -> Outcome
-    requires few { ground.now.puts ≤ 800 }
+    requires few { context.now.puts ≤ 800 }
     requires session { session < 100 }
-    requires ready { IsPassFor ground.now.service.now ground.now.users.now pass.old }
+    requires ready { IsPassFor context.now.service.now context.now.users.now pass.old }
     ensures pass { pass.new ≡ record pass.old { seen = pass.new.seen; looks = pass.new.looks } }
-    ensures did { Did ground.now.users.now ground.now.puts (Duty.Serve session) pass.old pass.new result }
+    ensures did { Did context.now.users.now context.now.puts (Role.Serve session) pass.old pass.new result }
 {
-    match requests_of(ground.alloc, ground.users, ground.puts as u64, session) {
+    match requests_of(context.alloc, context.users, context.puts as u64, session) {
         Ok((octets, count)) => {
-            let mut link = MemoryLink::new(ground.alloc, octets, List::new(ground.alloc), 1 << 62);
+            let mut link = MemoryLink::new(context.alloc, octets, List::new(context.alloc), 1 << 62);
             let mut clock = FixedClock::new(MOMENT);
             let ended = serve_connection(
                 rt,
-                ground.alloc,
-                ground.service,
+                context.alloc,
+                context.service,
                 pass,
-                ground.users,
+                context.users,
                 &mut link,
                 &mut clock,
             );

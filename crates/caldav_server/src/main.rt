@@ -5,7 +5,7 @@
 //! runs the server.
 #![tactic(auto)]
 
-mod crew;
+mod cause;
 mod desks;
 mod kept_script;
 mod kept_serve;
@@ -23,7 +23,9 @@ mod slot;
 #[cfg(test)]
 mod slot_tests;
 mod telling_door;
+mod threads;
 
+use crate::cause::print_cause;
 use crate::kept_script::run_kept_script;
 use crate::kept_serve::run_kept_serve;
 use crate::load::run_load;
@@ -53,7 +55,10 @@ fn main(rt: HostRuntime) -> ExitCode {
         return ExitCode::SUCCESS;
     }
     if word_at(&words, 0) == "serve" {
-        return ended(&rt, "serve", end_of_serve(&rt, &rt, &words));
+        let end = end_of_serve(&rt, &rt, &words);
+        let status = ended(&rt, "serve", end);
+        let _ = print_cause(&rt, words.as_slice(), end);
+        return status;
     }
     if word_at(&words, 0) == "load" {
         let end = run_load(&rt, rt.alloc(), &words, &mut StdSink::new(&rt));

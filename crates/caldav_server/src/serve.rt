@@ -7,10 +7,10 @@ ghost use Rattle.caldav_server.specs.ServeEnds.{IsServeStatus, IsServedStatus};
 ghost use Rattle.command_words.specs.ServeWords as spec;
 ghost use Rattle.caldav_server.specs.Shares.{RoseBy, share_of};
 
-use crate::crew::NotServed;
+use crate::threads::NotServed;
 use crate::desks::serve_desk;
 use cal_base::{Arc, Door, Files, List, NoMemory, Word};
-use cal_book::{Book, Never};
+use cal_book::Book;
 use cal_script::{NoUsers, ScriptEnd, take_users};
 use command_words::{ServeWords, Untaken, read_serve};
 use privileges::Users;
@@ -109,7 +109,7 @@ fn serve_users<D: Door, R: Threads + Wait + Sync>(
         Ok(()) => 0,
         Err(NotServed::Door) => 4,
         Err(NotServed::NoMemory) => 7,
-        Err(NotServed::Broken(never)) => match never {},
+        Err(NotServed::Over) => 7,
     }
 }
 
@@ -120,7 +120,7 @@ fn serve_at<D: Door, R: Threads + Wait + Sync>(
     words: &ServeWords<'_>,
     users: Arc<Users>,
     door: &mut D,
-) -> Result<(), NotServed<Never>>
+) -> Result<(), NotServed>
     requires sessions { 0 < words.now.sessions }
     ensures limited { OnOk result (0 < words.now.connections) }
     ensures tries { OnOk result (RoseBy (share_of words.now.connections words.now.sessions 0) (D.tries door.old) (D.tries door.new)) }

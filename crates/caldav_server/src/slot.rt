@@ -4,7 +4,7 @@ ghost use Rattle.cal_base.specs.World.Outside.{Adds, Rose};
 ghost use Rattle.cal_model.specs.Users.UsersFile.{Users};
 ghost use Rattle.cal_keeper.specs.Disks.CrashModel.{reading};
 ghost use Rattle.cal_book.specs.Cores.{directory_in, state_in};
-ghost use Rattle.cal_script.specs.UsersTaken.{AreUsersOf, IsRefusedAt};
+ghost use Rattle.cal_script.specs.UsersTaken.{AreUsersAt, IsRefusedAt};
 ghost use Rattle.command_words.specs.SlotSaid.{IsWithin};
 ghost use Rattle.command_words.specs.SlotWords.{TakesSlot, users_path};
 ghost use Rattle.caldav_server.specs.SlotEnds as spec;
@@ -48,8 +48,8 @@ pub(crate) fn run_slot<F: Files, D: Disk, O: Sink>(
     ensures users_fault { result.0.status ≡ 4 → Rose (F.faults files.old) (F.faults files.new) }
 
     // The journal.
-    ensures journal_fault { result.0.status ≡ 8 → Rose (D.faults disk) (D.faults result.1) × (users : Users) × spec.AreServed words.now (F.content files.old) users }
-    ensures journal_refused { result.0.status ≡ 9 → (users : Users) × spec.AreServed words.now (F.content files.old) users × spec.IsNotTaken D.past D.faults users disk result.1 result.0.place }
+    ensures journal_fault { result.0.status ≡ 8 → Rose (D.faults disk) (D.faults result.1) × (users : Users) × AreUsersAt (Some (users_path words.now)) (F.content files.old) users }
+    ensures journal_refused { result.0.status ≡ 9 → (users : Users) × AreUsersAt (Some (users_path words.now)) (F.content files.old) users × spec.IsNotTaken D.past D.faults users disk result.1 result.0.place }
     ensures only_read { (result.0.status ≡ 8) ⊎ spec.IsOnlyRead (D.past disk) (D.past result.1) }
 
     // The user, the calendars, and what is printed.
@@ -89,7 +89,7 @@ fn slot_of_files<F: Files, D: Disk, O: Sink>(
     ensures users_refused { result.0.status ≡ 3 → IfSome (F.content files.old said.now.users.now) (λ octets. IsRefusedAt octets result.0.place) }
     ensures users_first { (result.0.status ≡ 3) ⊎ (result.0.status ≡ 4) → result.1 ≡ disk }
     ensures users_fault { result.0.status ≡ 4 → Rose (F.faults files.old) (F.faults files.new) }
-    ensures behind { spec.IsBefore result.0.status ⊎ ((users : Users) × IfSome (F.content files.old said.now.users.now) (λ octets. AreUsersOf octets users) × spec.IsEnd D.past D.faults users disk result.1 (spec.asked_in said.now) (O.written output.old) (O.written output.new) result.0) }
+    ensures behind { spec.IsBefore result.0.status ⊎ ((users : Users) × AreUsersAt (Some said.now.users.now) (F.content files.old) users × spec.IsEnd D.past D.faults users disk result.1 (spec.asked_in said.now) (O.written output.old) (O.written output.new) result.0) }
     ensures only_read { (result.0.status ≡ 8) ⊎ spec.IsOnlyRead (D.past disk) (D.past result.1) }
     ensures journal_fault { result.0.status ≡ 8 → Rose (D.faults disk) (D.faults result.1) }
     ensures output_fault { result.0.status ≡ 5 → Rose (O.faults output.old) (O.faults output.new) }

@@ -4,8 +4,10 @@ ghost use Rattle.clap.specs.Words.{app_of};
 ghost use Rattle.command_words.specs.CheckWords as spec;
 ghost use Rattle.command_words.specs.Options.{IsShown};
 
-use crate::file_words::{file_option, with_notes};
-use crate::options::{Untaken, asked_text, new_command, text_of, why_untaken, with_option};
+use crate::file_words::{NOTES, file_option};
+use crate::options::{
+    Untaken, asked_text, new_command, text_of, why_untaken, with_notes, with_option,
+};
 use cal_base::Word;
 use clap::{Command, Error};
 use std::alloc::{AllocError, Global};
@@ -17,7 +19,7 @@ fn check_command<'a>(alloc: Global) -> Result<Command<'a>, AllocError>
     ensures { IfOk result (λ c. app_of c ≡ spec.check) }
 {
     let command = new_command(alloc, "check", "caldav_server check", ABOUT)?;
-    let command = with_option(with_notes(command), file_option(alloc))?;
+    let command = with_option(with_notes(command, NOTES), file_option(alloc))?;
     Ok(command)
 }
 

@@ -6,9 +6,9 @@ ghost use Rattle.command_words.specs.ExpandWords as spec;
 ghost use Rattle.command_words.specs.Options.{IsShown, needed, value_text};
 ghost use Rattle.command_words.specs.RangeSaid.{range_said};
 
-use crate::file_words::{file_option, with_notes};
+use crate::file_words::{NOTES, file_option};
 use crate::options::{
-    Untaken, asked_text, needed_option, new_command, text_of, why_untaken, with_option,
+    Untaken, asked_text, needed_option, new_command, text_of, why_untaken, with_notes, with_option,
 };
 use crate::range_said::{from_option, range_said, to_option};
 use cal_base::Word;
@@ -35,7 +35,7 @@ fn expand_command<'a>(alloc: Global) -> Result<Command<'a>, AllocError>
     ensures { IfOk result (λ c. app_of c ≡ spec.expand) }
 {
     let command = new_command(alloc, "expand", "caldav_server expand", ABOUT)?;
-    let command = with_option(with_notes(command), file_option(alloc))?;
+    let command = with_option(with_notes(command, NOTES), file_option(alloc))?;
     let command = with_option(command, from_option(alloc))?;
     let command = with_option(command, to_option(alloc))?;
     let command = with_option(command, zone_option(alloc))?;

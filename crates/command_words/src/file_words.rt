@@ -1,14 +1,14 @@
 //! What the commands `expand` and `check` have in common: the file, and what help says of refused ones.
 ghost use Rattle.std.specs.Prelude.{◌≡◌, codes, false};
-ghost use Rattle.clap.specs.Words.{app_of, rule_of};
+ghost use Rattle.clap.specs.Words.{rule_of};
 ghost use Rattle.command_words.specs.Options.{needed};
 
 use crate::options::needed_option;
-use clap::{Arg, Command};
+use clap::Arg;
 use std::alloc::Global;
 
-/// What help says below the options.
-const NOTES: &str =
+/// What help says below the options: how refused files are told.
+pub(crate) const NOTES: &str =
     "Where a file is not taken, the line on standard error says why, with the path of the file:
   not a calendar at octet P  the line that begins at octet P, counted from 0, cannot stand, or the
                              component that it begins; `head -c P FILE | wc -l` prints how many lines
@@ -27,13 +27,6 @@ const NOTES: &str =
   too many instances         it has more than 250,000 instances, or recurs by minutes or seconds
   too long                   it has more than 262,144 octets
 ";
-
-/// A command whose help says below its options how refused files are told.
-pub(crate) fn with_notes<'a>(command: Command<'a>) -> Command<'a>
-    ensures { app_of result ≡ app_of command.entry }
-{
-    command.after_help(NOTES)
-}
 
 /// The option that names the calendar file.
 pub(crate) fn file_option<'a>(alloc: Global) -> Arg<'a>

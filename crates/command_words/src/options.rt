@@ -35,6 +35,13 @@ fn described<'a>(alloc: Global, name: &'a str, about: &'a str) -> Command<'a>
     Command::new(alloc, name).about(about).version(VERSION)
 }
 
+/// A command whose help says more below its options.
+pub(crate) fn with_notes<'a>(command: Command<'a>, notes: &'a str) -> Command<'a>
+    ensures { app_of result ≡ app_of command.entry }
+{
+    command.after_help(notes)
+}
+
 /// A command with an option more.
 pub(crate) fn with_option<'a>(
     command: Command<'a>,

@@ -7,7 +7,7 @@ ghost use Rattle.command_words.specs.SlotWords as spec;
 
 use crate::options::{
     Untaken, asked_text, is_plain, needed_option, new_command, number_said, text_of, why_untaken,
-    with_option,
+    with_notes, with_option,
 };
 use crate::range_said::{from_option, range_said, to_option};
 use cal_base::{List, NoMemory, Word};
@@ -68,17 +68,10 @@ fn files_command<'a>(alloc: Global) -> Result<Command<'a>, AllocError>
     ensures { IfOk result (λ c. app_of c ≡ spec.files) }
 {
     let command = new_command(alloc, "slot", "caldav_server slot", ABOUT)?;
-    let command = with_option(with_notes(command), users_option(alloc))?;
+    let command = with_option(with_notes(command, NOTES), users_option(alloc))?;
     let command = with_option(command, journal_option(alloc))?;
     let command = with_option(command, user_option(alloc))?;
     Ok(command)
-}
-
-/// A command whose help has an example below its options.
-fn with_notes<'a>(command: Command<'a>) -> Command<'a>
-    ensures { app_of result ≡ app_of command.entry }
-{
-    command.after_help(NOTES)
 }
 
 fn users_option<'a>(alloc: Global) -> Arg<'a>

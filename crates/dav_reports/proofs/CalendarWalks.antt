@@ -1,5 +1,5 @@
 -- Over the objects of a calendar, one after another.
-use Rattle.std.proofs.Common.{◌≡◌, ℕ, ◌+◌, ◌≤◌, List, [], ◌∷◌, ◌++◌, map, Option, Some, None, refl, sym, ap, ◌∙◌, subst, append_assoc, arith}
+use Rattle.std.proofs.Common.{◌≡◌, ℕ, ◌+◌, ◌≤◌, List, [], ◌∷◌, ◌++◌, map, Option, Some, None, refl, sym, ap, subst, arith}
 use Rattle.std.specs.Prelude.{Ok, flat_map, option_to_list}
 use Rattle.std.specs.List.{AllByRecursion}
 use Rattle.std.specs.Map.{values_of}
@@ -18,10 +18,13 @@ use Rattle.cal_model.specs.Reports.NeededWindows.{windows_needed}
 use Rattle.cal_model.specs.State.ServerState.{Calendar, Directory, ServerState, calendar_at, object_of, objects_of}
 use Rattle.cal_model.specs.State.SoundStates.{IsSound}
 use Rattle.cal_model.proofs.State.NameWalkLaws.{calendar-sound}
+use Rattle.freebusy.specs.declared.gathering.Gathered.{Gathered}
+use Rattle.freebusy.specs.Gathering.{Gathers}
 use Rattle.object_walk.specs.WalkedObjects.{objects_at}
 use Rattle.rrule_sets.proofs.AskedLemmas.{sum-cons}
 use Rattle.dav_reports.specs.CalendarObjects.{OriginOf, entries_cost, entry_cost, object_cost, times_needed, times_of_entries}
 use Rattle.dav_reports.specs.PieceRows.{Held, windows_cost}
+use Rattle.dav_reports.proofs.GatheredTimes.{AreLeftOf, left-behind}
 
 -- each object of a calendar can be served
 abbrev pub IsServed : List ℕ × List ℕ → Type 0
@@ -64,8 +67,8 @@ counted_within held report origin_of entry rest origin object so_far now limit a
     let next = counted_next held report origin_of entry rest origin object so_far now limit at reading counted steps in
     omega arith
 
-pub times_known : (zone : ZoneTable) (range : Range) (out new all : List BusyTime) (entry : List ℕ × List ℕ) (rest : Named (List ℕ)) (object : Object) → read_object entry.1 ≡ Ok object
-    → new ≡ out ++ times_needed zone range object → out ++ times_of_entries zone range (entry ∷ rest) ≡ all → new ++ times_of_entries zone range rest ≡ all
-times_known zone range out new all entry rest object reading e so_far =
-    ap (λ ts. ts ++ times_of_entries zone range rest) e ∙ append_assoc out (times_needed zone range object) (times_of_entries zone range rest)
-    ∙ ap (λ found. out ++ flat_map (times_needed zone range) (option_to_list found ++ objects_of rest)) (sym (object_known entry.1 object reading)) ∙ so_far
+pub times_known : (zone : ZoneTable) (range : Range) (old now next : Gathered) (all : List BusyTime) (entry : List ℕ × List ℕ) (rest : Named (List ℕ)) (object : Object) → read_object entry.1 ≡ Ok object
+    → Gathers now next (times_needed zone range object) → AreLeftOf old now all (times_of_entries zone range (entry ∷ rest)) → AreLeftOf old next all (times_of_entries zone range rest)
+times_known zone range old now next all entry rest object reading put so_far =
+    left-behind old now next all (times_needed zone range object) (times_of_entries zone range rest) put
+    (subst (λ (found : Option Object). AreLeftOf old now all (flat_map (times_needed zone range) (option_to_list found ++ objects_of rest))) (object_known entry.1 object reading) so_far)

@@ -3,6 +3,7 @@ pub mod CalendarWalks
 pub mod CalendarZones
 pub mod FirstRanges
 pub mod FreeBusyJoined
+pub mod GatheredTimes
 pub mod HeldCosts
 pub mod KeptObjects
 pub mod ListSteps

@@ -1,21 +1,14 @@
 -- The stored periods of components, one component after another.
-use Rattle.std.proofs.Common.{◌≡◌, List, ◌∷◌, ◌++◌, ap, ◌∙◌, sym, append_assoc}
-use Rattle.std.specs.Prelude.{All, flat_map}
-use Rattle.std.proofs.lemmas.Grind.{flat_map-append}
+use Rattle.std.specs.Prelude.{All}
 use Rattle.std.proofs.lemmas.List.Elements.{All-nil}
 use Rattle.cal_model.specs.declared.object.Component.{Component}
 use Rattle.cal_model.specs.declared.object.Kind.{Kind}
 use Rattle.cal_model.specs.declared.object.Kind.TheVariants.{Event, Todo, Journal, FreeBusy}
-use Rattle.cal_model.specs.Busy.BusyTimes.{BusyTime, stored_periods, times_of_stored}
-use Rattle.dav_reports.specs.ObjectTimes.{IsNearStored, stored_times}
+use Rattle.cal_model.specs.Busy.BusyTimes.{stored_periods}
+use Rattle.dav_reports.specs.ObjectTimes.{IsNearStored}
 
 pub kept_near : (kind : Kind) (c : Component) → All IsNearStored c.stored_busy → All IsNearStored (stored_periods kind c)
 kept_near FreeBusy c near = near
 kept_near Event c near = All-nil IsNearStored
 kept_near Todo c near = All-nil IsNearStored
 kept_near Journal c near = All-nil IsNearStored
-
-pub stored_next : (out new all : List BusyTime) (c : Component) (cs : List Component) → new ≡ out ++ flat_map times_of_stored (stored_periods c.kind c) → out ++ stored_times (c ∷ cs) ≡ all → new ++ stored_times cs ≡ all
-stored_next out new all c cs e so_far =
-    ap (λ ts. ts ++ stored_times cs) e ∙ append_assoc out (flat_map times_of_stored (stored_periods c.kind c)) (stored_times cs)
-    ∙ ap (λ ts. out ++ ts) (sym (flat_map-append times_of_stored (stored_periods c.kind c) (flat_map (λ (x : Component). stored_periods x.kind x) cs))) ∙ so_far

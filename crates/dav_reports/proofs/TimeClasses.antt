@@ -1,18 +1,15 @@
 -- The class of a second depends on no order of the times: those of an object may come window by window.
-use Rattle.std.proofs.Common.{◌≡◌, Bool, true, false, cond, List, [], ◌∷◌, ◌++◌, Option, Some, None, refl, sym, ap, ◌∙◌, ℤ}
+use Rattle.std.proofs.Common.{◌≡◌, Bool, true, false, cond, List, [], ◌∷◌, ◌++◌, refl, sym, ap, ◌∙◌, ℤ}
 use Rattle.std.specs.Prelude.{filter, flat_map}
 use Rattle.std.specs.List.{AllByRecursion}
-use Rattle.std.proofs.lemmas.List.Elements.{filter-append}
 use Rattle.std.proofs.lemmas.Grind.{flat_map-append}
-use Rattle.cal_model.specs.declared.object.Class.{Class}
-use Rattle.cal_model.specs.declared.object.Class.TheVariants.{Busy, Unavailable, Tentative}
 use Rattle.cal_model.specs.declared.object.Object.{Object}
 use Rattle.cal_model.specs.declared.report.ReportRequest.TheVariants.{FreeBusy}
 use Rattle.cal_model.specs.declared.row.Range.{Range}
 use Rattle.cal_model.specs.declared.row.Row.{Row}
 use Rattle.cal_model.specs.declared.zone.ZoneTable.{ZoneTable}
 use Rattle.cal_model.specs.Busy.BusyTimes.{BusyTime, times_of_row}
-use Rattle.cal_model.specs.Busy.BusyRuns.{calendar_runs, class_at, covers, greater, greatest_class, runs}
+use Rattle.cal_model.specs.Busy.BusyRuns.{calendar_runs, class_at, runs}
 use Rattle.cal_model.specs.Instances.Rows.{comes_before, in_order, is_dated, put_row, rows, rows_in}
 use Rattle.cal_model.specs.Ranges.Nearness.{HasShortOffsets}
 use Rattle.cal_model.specs.Reports.NeededWindows.{windows_needed}
@@ -22,75 +19,12 @@ use Rattle.cal_model.proofs.Instances.ServedStarts.{is_stated-row}
 use Rattle.cal_model.proofs.Objects.ObjectFactLaws.{IsReadObject-read}
 use Rattle.cal_model.proofs.Objects.ObjectNearness.{HasNearRows-read}
 use Rattle.cal_model.proofs.Reports.ReportLaws.{is_looked_at}
+use Rattle.freebusy.proofs.Classes.{class_at-append, join, join_swapped}
 use Rattle.dav_reports.specs.ObjectTimes.{stored_times, times_by_windows, times_in, times_of_rows}
 use Rattle.dav_reports.specs.PieceRows.{IsKept}
 use Rattle.dav_reports.proofs.NeededRows.{looked_at-windows}
 
--- Classes
-
--- the greatest of two
-abbrev join : Option Class → Option Class → Option Class
-join None other = other
-join (Some class) other = Some (greater class other)
-
-greater_twice : (a b : Class) (c : Option Class) → greater a (Some (greater b c)) ≡ greater (greater a (Some b)) c
-greater_twice Busy b c = refl
-greater_twice Unavailable Busy c = refl
-greater_twice Unavailable Unavailable None = refl
-greater_twice Unavailable Unavailable (Some Busy) = refl
-greater_twice Unavailable Unavailable (Some Unavailable) = refl
-greater_twice Unavailable Unavailable (Some Tentative) = refl
-greater_twice Unavailable Tentative None = refl
-greater_twice Unavailable Tentative (Some Busy) = refl
-greater_twice Unavailable Tentative (Some Unavailable) = refl
-greater_twice Unavailable Tentative (Some Tentative) = refl
-greater_twice Tentative b c = refl
-
-greater_turned : (a b : Class) → greater a (Some b) ≡ greater b (Some a)
-greater_turned Busy Busy = refl
-greater_turned Busy Unavailable = refl
-greater_turned Busy Tentative = refl
-greater_turned Unavailable Busy = refl
-greater_turned Unavailable Unavailable = refl
-greater_turned Unavailable Tentative = refl
-greater_turned Tentative Busy = refl
-greater_turned Tentative Unavailable = refl
-greater_turned Tentative Tentative = refl
-
-join_twice : (a b c : Option Class) → join a (join b c) ≡ join (join a b) c
-join_twice None b c = refl
-join_twice (Some a) None c = by_class a c where
-  by_class : (a : Class) (c : Option Class) → Some (greater a c) ≡ Some (greater (greater a None) c)
-  by_class Busy c = refl
-  by_class Unavailable c = refl
-  by_class Tentative c = refl
-join_twice (Some a) (Some b) c = ap (λ class. Some class) (greater_twice a b c)
-
-join_turned : (a b : Option Class) → join a b ≡ join b a
-join_turned None None = refl
-join_turned None (Some b) = by_class b where
-  by_class : (b : Class) → Some b ≡ Some (greater b None)
-  by_class Busy = refl
-  by_class Unavailable = refl
-  by_class Tentative = refl
-join_turned (Some a) None = sym (by_class a) where
-  by_class : (a : Class) → Some a ≡ Some (greater a None)
-  by_class Busy = refl
-  by_class Unavailable = refl
-  by_class Tentative = refl
-join_turned (Some a) (Some b) = ap (λ class. Some class) (greater_turned a b)
-
-join_swapped : (a b c : Option Class) → join a (join b c) ≡ join b (join a c)
-join_swapped a b c = join_twice a b c ∙ ap (λ o. join o c) (join_turned a b) ∙ sym (join_twice b a c)
-
--- Times
-
-greatest-append : (xs ys : List BusyTime) → greatest_class (xs ++ ys) ≡ join (greatest_class xs) (greatest_class ys)
-greatest-append [] ys = refl
-greatest-append (x ∷ xs) ys = ap (λ o. Some (greater x.class o)) (greatest-append xs ys) ∙ join_twice (Some x.class) (greatest_class xs) (greatest_class ys)
-
-class_at-append : (xs ys : List BusyTime) (t : ℤ) → class_at (xs ++ ys) t ≡ join (class_at xs t) (class_at ys t)
-class_at-append xs ys t = ap greatest_class (filter-append (covers t) xs ys) ∙ greatest-append (filter (covers t) xs) (filter (covers t) ys)
+-- Rows
 
 -- a row that is put in its place
 put_more : (f : Row → List BusyTime) (row x : Row) (xs : List Row) (t : ℤ) (test : Bool) → class_at (flat_map f (put_row row xs)) t ≡ class_at (flat_map f (row ∷ xs)) t

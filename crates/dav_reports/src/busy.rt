@@ -1,22 +1,23 @@
-//! The busy times of an object (RFC 4791, 7.10).
-ghost use Rattle.std.specs.Prelude.{◌≡◌, ◌+◌, ◌≤◌, ◌++◌, All, IfOk, OnOk, flat_map, map, sum};
+//! The busy times of an object (RFC 4791, 7.10), gathered for the runs of a range: what comes out is
+//! alike in the range to the times put behind one another.
+ghost use Rattle.std.specs.Prelude.{◌≡◌, ◌+◌, ◌≤◌, All, OnOk, flat_map, map, sum};
 ghost use Rattle.cal_model.specs.declared.object.Component.{Component};
 ghost use Rattle.cal_model.specs.declared.report.ReportRequest.TheVariants.{FreeBusy};
 ghost use Rattle.cal_model.specs.Busy.BusyTimes as spec;
 ghost use Rattle.cal_model.specs.Ranges.Cost.{cost};
 ghost use Rattle.cal_model.specs.Reports.NeededWindows.{windows_needed};
 ghost use Rattle.cal_model.specs.TimeZones.TableBounds.{IsTable};
-ghost use Rattle.freebusy.specs.Times.{times_of};
+ghost use Rattle.freebusy.specs.Gathering.{Gathers};
 ghost use Rattle.overlap_rules.specs.Bounds.{IsNearRow};
 ghost use Rattle.dav_reports.specs.ObjectTimes.{IsNearStored, stored_times, times_by_windows, times_in, times_of_rows};
 ghost use Rattle.dav_reports.specs.PieceRows.{AreRowsOf, IsKept, windows_cost};
 
 use crate::rows::{missing_first, windows_for};
-use cal_base::{List, NoMemory, Steps};
+use cal_base::{NoMemory, Steps};
 use cal_model::view::Pieces;
 use cal_model::{Class, Component, Kind, Object, Range, Row, ZoneTable};
 use cal_moment::Period;
-use freebusy::BusyRow;
+use freebusy::{BusyRow, Gathered};
 use needed_windows::is_needed;
 use overlap_rules::{fixed, stored_period};
 use rrule_sets::{only_row, windows_rows};
@@ -34,15 +35,10 @@ fn class_of(object: &Object, row: &Row) -> Option<Class>
 }
 
 /// Puts the time of a row behind others, where it makes busy. Floating times are read in the zone.
-fn put_row(
-    object: &Object,
-    row: &Row,
-    zone: &ZoneTable,
-    out: &mut List<BusyRow>,
-) -> Result<(), NoMemory>
+fn put_row(object: &Object, row: &Row, zone: &ZoneTable, out: &mut Gathered) -> Result<(), NoMemory>
     requires zone { IsTable zone.now }
     requires near { IsNearRow row.now }
-    ensures { OnOk result (times_of out.new ≡ times_of out.old ++ spec.times_of_row zone.now object.now row.now) }
+    ensures { OnOk result (Gathers out.old out.new (spec.times_of_row zone.now object.now row.now)) }
 {
     match class_of(object, row) {
         Some(class) => {
@@ -62,11 +58,11 @@ fn put_rows(
     object: &Object,
     rows: &[Row],
     zone: &ZoneTable,
-    out: &mut List<BusyRow>,
+    out: &mut Gathered,
 ) -> Result<(), NoMemory>
     requires zone { IsTable zone.now }
     requires near { All IsNearRow rows.now }
-    ensures { OnOk result (times_of out.new ≡ times_of out.old ++ times_of_rows zone.now object.now rows.now) }
+    ensures { OnOk result (Gathers out.old out.new (times_of_rows zone.now object.now rows.now)) }
 {
     let mut rest = rows;
     'rows: while let Some((row, behind)) = rest.split_first() {
@@ -86,14 +82,14 @@ fn put_windows<P: Pieces, L: Ledger>(
     object: &Object,
     windows: &[i32],
     zone: &ZoneTable,
-    out: &mut List<BusyRow>,
+    out: &mut Gathered,
     steps: &mut Steps<L>,
 ) -> Result<(), NoMemory>
     requires object { IsKept object.now }
     requires right { AreRowsOf (P.held pieces.now) origin object.now }
     requires zone { IsTable zone.now }
     ensures steps { steps.new ≤ steps.old + windows_cost (P.held pieces.now) origin object.now windows.now }
-    ensures times { OnOk result (times_of out.new ≡ times_of out.old ++ times_in zone.now object.now windows.now) }
+    ensures times { OnOk result (Gathers out.old out.new (times_in zone.now object.now windows.now)) }
 {
     let mut rest = windows;
     'windows: while let Some((window, behind)) = rest.split_first() {
@@ -115,13 +111,13 @@ fn put_missing<L: Ledger>(
     object: &Object,
     windows: &[i32],
     zone: &ZoneTable,
-    out: &mut List<BusyRow>,
+    out: &mut Gathered,
     steps: &mut Steps<L>,
 ) -> Result<(), NoMemory>
     requires object { IsKept object.now }
     requires zone { IsTable zone.now }
     ensures steps { steps.new ≤ steps.old + sum (map (cost object.now) windows.now) }
-    ensures times { OnOk result (times_of out.new ≡ times_of out.old ++ times_in zone.now object.now windows.now) }
+    ensures times { OnOk result (Gathers out.old out.new (times_in zone.now object.now windows.now)) }
 {
     let rows = windows_rows(alloc, object, windows, steps)?;
     put_rows(object, rows.as_slice(), zone, out)
@@ -136,14 +132,14 @@ fn put_needed<P: Pieces, L: Ledger>(
     object: &Object,
     range: Range,
     zone: &ZoneTable,
-    out: &mut List<BusyRow>,
+    out: &mut Gathered,
     steps: &mut Steps<L>,
 ) -> Result<(), NoMemory>
     requires object { IsKept object.now }
     requires right { AreRowsOf (P.held pieces.now) origin object.now }
     requires zone { IsTable zone.now }
     ensures steps { steps.new ≤ steps.old + windows_cost (P.held pieces.now) origin object.now (windows_needed object.now (FreeBusy range)) }
-    ensures times { OnOk result (times_of out.new ≡ times_of out.old ++ times_in zone.now object.now (windows_needed object.now (FreeBusy range))) }
+    ensures times { OnOk result (Gathers out.old out.new (times_in zone.now object.now (windows_needed object.now (FreeBusy range)))) }
 {
     let Some((row, window)) = only_row(object) else {
         let windows = windows_for(alloc, object, &[range])?;
@@ -166,9 +162,9 @@ fn put_needed<P: Pieces, L: Ledger>(
 }
 
 /// Puts a stored period behind other times, unless it is free.
-fn put_period(stored: &(Option<Class>, Period), out: &mut List<BusyRow>) -> Result<(), NoMemory>
+fn put_period(stored: &(Option<Class>, Period), out: &mut Gathered) -> Result<(), NoMemory>
     requires { IsNearStored stored.now }
-    ensures { OnOk result (times_of out.new ≡ times_of out.old ++ spec.times_of_stored stored.now) }
+    ensures { OnOk result (Gathers out.old out.new (spec.times_of_stored stored.now)) }
 {
     match stored.0 {
         Some(class) => {
@@ -184,9 +180,9 @@ fn put_period(stored: &(Option<Class>, Period), out: &mut List<BusyRow>) -> Resu
 }
 
 /// The same of several.
-fn put_periods(stored: &[(Option<Class>, Period)], out: &mut List<BusyRow>) -> Result<(), NoMemory>
+fn put_periods(stored: &[(Option<Class>, Period)], out: &mut Gathered) -> Result<(), NoMemory>
     requires { All IsNearStored stored.now }
-    ensures { OnOk result (times_of out.new ≡ times_of out.old ++ flat_map spec.times_of_stored stored.now) }
+    ensures { OnOk result (Gathers out.old out.new (flat_map spec.times_of_stored stored.now)) }
 {
     let mut rest = stored;
     'periods: while let Some((period, behind)) = rest.split_first() {
@@ -207,9 +203,9 @@ fn periods_of(component: &Component) -> &[(Option<Class>, Period)]
 }
 
 /// Puts the stored periods of some components behind other times.
-fn put_stored(components: &[Component], out: &mut List<BusyRow>) -> Result<(), NoMemory>
+fn put_stored(components: &[Component], out: &mut Gathered) -> Result<(), NoMemory>
     requires { All (λ (c : Component). All IsNearStored c.stored_busy) components.now }
-    ensures { OnOk result (times_of out.new ≡ times_of out.old ++ stored_times components.now) }
+    ensures { OnOk result (Gathers out.old out.new (stored_times components.now)) }
 {
     let mut rest = components;
     'components: while let Some((component, behind)) = rest.split_first() {
@@ -228,14 +224,14 @@ pub(crate) fn put_object<P: Pieces, L: Ledger>(
     object: &Object,
     range: Range,
     zone: &ZoneTable,
-    out: &mut List<BusyRow>,
+    out: &mut Gathered,
     steps: &mut Steps<L>,
 ) -> Result<(), NoMemory>
     requires object { IsKept object.now }
     requires right { AreRowsOf (P.held pieces.now) origin object.now }
     requires zone { IsTable zone.now }
     ensures steps { steps.new ≤ steps.old + windows_cost (P.held pieces.now) origin object.now (windows_needed object.now (FreeBusy range)) }
-    ensures times { OnOk result (times_of out.new ≡ times_of out.old ++ times_by_windows zone.now object.now (windows_needed object.now (FreeBusy range))) }
+    ensures times { OnOk result (Gathers out.old out.new (times_by_windows zone.now object.now (windows_needed object.now (FreeBusy range)))) }
 {
     put_needed(alloc, pieces, origin, object, range, zone, out, steps)?;
     put_stored(object.components.as_slice(), out)

@@ -6,7 +6,7 @@ ghost use Rattle.cal_model.specs.Reports.FloatingZone.{floating_zone};
 ghost use Rattle.cal_model.specs.State.ServerState.{Calendar, calendar_at, objects_of, own_zone};
 ghost use Rattle.cal_model.specs.State.SoundStates.{IsSound};
 ghost use Rattle.cal_model.specs.TimeZones.TableBounds.{IsTable};
-ghost use Rattle.freebusy.specs.Times.{time_of_run, times_of};
+ghost use Rattle.freebusy.specs.Times.{time_of_run};
 ghost use Rattle.object_walk.specs.WalkedObjects.{objects_at};
 ghost use Rattle.dav_reports.specs.CalendarObjects.{AreHeldRight, entries_cost, times_of_entries};
 
@@ -15,14 +15,14 @@ use crate::zones::{utc, zone_or};
 use cal_base::{List, NoMemory, Steps};
 use cal_model::view::Pieces;
 use cal_model::{Range, Seen, ZoneTable};
-use freebusy::{BusyRow, Run, busy_runs};
+use freebusy::{Gathered, Run};
 use object_walk::Walks;
 use std::alloc::Global;
 use std::sync::ledger::Ledger;
 
-/// The times at which the objects of a calendar may make busy in a range. Floating times are read in
-/// the zone.
-fn times_in_calendar<V: Walks, P: Pieces, L: Ledger>(
+/// The longest runs of one class of the times at which the objects of a calendar make busy in a range,
+/// in order. Floating times are read in the zone.
+fn runs_of_objects<V: Walks, P: Pieces, L: Ledger>(
     alloc: Global,
     view: &V,
     home: u32,
@@ -31,14 +31,14 @@ fn times_in_calendar<V: Walks, P: Pieces, L: Ledger>(
     range: Range,
     zone: &ZoneTable,
     steps: &mut Steps<L>,
-) -> Result<List<BusyRow>, NoMemory>
+) -> Result<List<Run>, NoMemory>
     requires sound { IsSound (V.directory view.now) (V.state view.now) }
     requires right { AreHeldRight (P.held pieces.now) (V.origins view.now) (V.state view.now) home name.now }
     requires zone { IsTable zone.now }
     ensures steps { steps.new ≤ steps.old + entries_cost (P.held pieces.now) (FreeBusy range) (V.origins view.now home name.now) (objects_at (V.state view.now) home name.now) }
-    ensures times { IfOk result (λ times. times_of times ≡ times_of_entries zone.now range (objects_at (V.state view.now) home name.now)) }
+    ensures runs { IfOk result (λ found. map time_of_run found ≡ spec.runs (times_of_entries zone.now range (objects_at (V.state view.now) home name.now)) range) }
 {
-    let mut times = List::new(alloc);
+    let mut times = Gathered::new(alloc, range);
     'walk: for (stored, origin) in view.objects(home, name) {
         put_object(
             alloc,
@@ -51,7 +51,7 @@ fn times_in_calendar<V: Walks, P: Pieces, L: Ledger>(
             steps,
         )?;
     }
-    Ok(times)
+    times.runs()
 }
 
 /// The longest runs of one class of a calendar in a range, in order (RFC 4791, 7.10). Floating times are
@@ -75,6 +75,5 @@ pub fn calendar_runs<V: Walks, P: Pieces, L: Ledger>(
     };
     let own = utc(alloc);
     let zone = zone_or(data, &own);
-    let times = times_in_calendar(alloc, seen.view, home, name, pieces, range, zone, steps)?;
-    busy_runs(alloc, &times, range)
+    runs_of_objects(alloc, seen.view, home, name, pieces, range, zone, steps)
 }

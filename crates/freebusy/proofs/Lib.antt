@@ -1,3 +1,5 @@
+pub mod Classes
+pub mod Gatherings
 mod Passed
 mod Counts
 mod Joining

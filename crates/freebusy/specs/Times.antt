@@ -12,3 +12,7 @@ times_of rows = map time_of rows
 
 abbrev pub time_of_run : Run → BusyTime
 time_of_run run = record { class = run.class; start = run.start.0; end = run.end.0 }
+
+-- a run as a row
+abbrev pub row_of_run : Run → BusyRow
+row_of_run run = record { class = run.class; start = run.start.0; end = run.end.0 }

@@ -1,14 +1,15 @@
 //! The octets that answer what a stream gave: its requests, and the fault at which it goes wrong.
-ghost use Rattle.std.specs.Prelude.{◌≡◌, ◌<◌, length, IfOk};
+ghost use Rattle.std.specs.Prelude.{◌≡◌, ◌<◌, ◌++◌, length, IfOk};
 ghost use Rattle.cal_base.specs.World.Outside.{IsMoment};
 ghost use Rattle.cal_model.specs.Replies.BareReplies as bare;
+ghost use Rattle.cal_model.specs.Replies.ReplyOctets.{content};
 ghost use Rattle.cal_model.specs.Replies.Statuses.{reason};
 ghost use Rattle.cal_model.specs.Replies.WireReplies.{answer_octets, fault_octets, fault_status as status_of, is_head as asks_head};
 ghost use Rattle.cal_model.specs.Streams.StreamRequests as streams;
 ghost use Rattle.cal_model.specs.Streams.WireLimits.{request_limit};
 
 use crate::limits::REQUEST_LIMIT;
-use crate::response::write_response;
+use crate::response::{content_of, write_head, write_response};
 use cal_base::{NoMemory, Octets};
 use cal_model::{Media, Reply, WireFault, WireRequest};
 use std::alloc::Global;
@@ -39,6 +40,32 @@ pub fn write_answer(
 {
     let close = closes_after(before, request);
     write_response(alloc, reply, moment, close, is_head(request))
+}
+
+/// The octets of the reply to a request before its content, which is `answer_content`. So a long content
+/// need not be copied behind them. All else is as in `write_answer`.
+#[tactic(auto, unfolding(cal_model::specs::Replies::WireReplies::answer_octets))]
+pub fn write_answer_head(
+    alloc: Global,
+    before: usize,
+    request: &WireRequest,
+    reply: &Reply,
+    moment: i64,
+) -> Result<Octets, NoMemory>
+    requires before { before < request_limit }
+    requires moment { IsMoment moment }
+    requires known { 0 < length (reason reply.now.status) }
+    ensures { IfOk result (λ head. head ++ content reply.now (asks_head request.now) ≡ answer_octets before request.now reply.now moment) }
+{
+    write_head(alloc, reply, moment, closes_after(before, request))
+}
+
+/// The content of the reply to a request, which stands last in its octets: the body, or nothing where
+/// the status has no content or the request was HEAD (RFC 9110, 9.3.2, 15.3.5 and 15.4.5).
+pub fn answer_content<'a>(request: &WireRequest, reply: &'a Reply) -> &'a [u8]
+    ensures { result.now ≡ content reply.now (asks_head request.now) }
+{
+    content_of(reply, is_head(request))
 }
 
 /// Whether a request asks for a reply without its content (RFC 9110, 9.3.2).

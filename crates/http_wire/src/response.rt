@@ -1,5 +1,5 @@
 //! The octets of replies (RFC 9112, 2.1 and 4).
-ghost use Rattle.std.specs.Prelude.{◌≡◌, ◌<◌, ◌++◌, ◌==◌, ◌&&◌, IfOk, OnOk, codes, decimal, is_some, length, unsigned_abs};
+ghost use Rattle.std.specs.Prelude.{◌≡◌, ◌<◌, ◌++◌, ◌==◌, ◌&&◌, Bool, IfOk, OnOk, codes, decimal, is_some, length, unsigned_abs};
 ghost use Rattle.cal_base.specs.World.Outside.{IsMoment};
 ghost use Rattle.cal_model.specs.Replies.DateField.{date_of_moment};
 ghost use Rattle.cal_model.specs.Replies.ReplyOctets.{field, field_if, methods as methods_of, allow_field, etag_field, type_field, has_content as is_with_content, content_type, content, content_length, fields, reply_octets};
@@ -190,16 +190,25 @@ fn push_status_line(out: &mut Octets, status: u16) -> Result<(), NoMemory>
 fn push_content(out: &mut Octets, reply: &Reply, head_only: bool) -> Result<(), NoMemory>
     ensures { OnOk result (out.new ≡ out.old ++ content reply.now head_only) }
 {
-    if has_content(reply.status) && !head_only {
-        out.extend_from_slice(reply.body.as_slice())?;
-    }
-    Ok(())
+    out.extend_from_slice(content_of(reply, head_only))
+}
+
+/// Puts what stands before the content of a reply at the end: the status line, the fields and an empty
+/// line (RFC 9112, 2.1). It is the same for HEAD.
+#[tactic(auto, unfolding(cal_model::specs::Replies::ReplyOctets::reply_octets))]
+fn push_head(out: &mut Octets, reply: &Reply, moment: i64, close: bool) -> Result<(), NoMemory>
+    requires moment { IsMoment moment }
+    requires status { 0 < length (reason reply.now.status) }
+    ensures { OnOk result ((head_only : Bool) → out.new ++ content reply.now head_only ≡ out.old ++ reply_octets reply.now moment close head_only) }
+{
+    push_status_line(out, reply.status)?;
+    push_fields(out, reply, moment, close)?;
+    out.extend_from_slice(b"\r\n")
 }
 
 /// The octets of a reply that is written at a moment, in seconds since 1970 (RFC 9112, 2.1). `close`
 /// is whether the connection closes after it, `head_only` whether the request was HEAD (RFC 9110,
 /// 9.3.2). The room is taken before anything is written.
-#[tactic(auto, unfolding(cal_model::specs::Replies::ReplyOctets::reply_octets))]
 pub fn write_response(
     alloc: Global,
     reply: &Reply,
@@ -213,18 +222,41 @@ pub fn write_response(
 {
     let mut out = Octets::new(alloc);
     out.reserve(room(reply, head_only))?;
-    push_status_line(&mut out, reply.status)?;
-    push_fields(&mut out, reply, moment, close)?;
-    out.extend_from_slice(b"\r\n")?;
+    push_head(&mut out, reply, moment, close)?;
     push_content(&mut out, reply, head_only)?;
     Ok(out)
 }
 
+/// The octets of a reply before its content, which are the same for HEAD: with the content behind them
+/// they are those of the reply.
+pub(crate) fn write_head(
+    alloc: Global,
+    reply: &Reply,
+    moment: i64,
+    close: bool,
+) -> Result<Octets, NoMemory>
+    requires moment { IsMoment moment }
+    requires status { 0 < length (reason reply.now.status) }
+    ensures { IfOk result (λ head. (head_only : Bool) → head ++ content reply.now head_only ≡ reply_octets reply.now moment close head_only) }
+{
+    let mut out = Octets::new(alloc);
+    out.reserve(HEAD_ROOM)?;
+    push_head(&mut out, reply, moment, close)?;
+    Ok(out)
+}
+
+/// The content of a reply, which it lacks where its status has none, and where the request was HEAD.
+pub(crate) fn content_of(reply: &Reply, head_only: bool) -> &[u8]
+    ensures { result.now ≡ content reply.now head_only }
+{
+    if has_content(reply.status) && !head_only {
+        reply.body.as_slice()
+    } else {
+        b""
+    }
+}
+
 /// Room enough for a reply: for the longest head, and for the content that is written.
 fn room(reply: &Reply, head_only: bool) -> usize {
-    if head_only {
-        HEAD_ROOM
-    } else {
-        HEAD_ROOM.saturating_add(reply.body.len())
-    }
+    HEAD_ROOM.saturating_add(content_of(reply, head_only).len())
 }

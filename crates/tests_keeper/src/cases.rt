@@ -49,7 +49,7 @@ pub(super) fn three_users(alloc: Global) -> Result<Users, UsersFault> {
 }
 
 /// The entry of the deletion in `ONE_DELETION`, by the second of some users.
-fn deletion(alloc: Global, users: &Users) -> Result<Entry, NoMemory>
+pub(super) fn deletion(alloc: Global, users: &Users) -> Result<Entry, NoMemory>
     requires { 1 < length users.now.people }
     ensures { IfOk result (λ entry. HasForm (counts_of users.now) (kept_entry entry)) }
 {
@@ -160,6 +160,23 @@ pub(super) fn read_octets(
     users: &Users,
 ) -> Result<(u32, Ending), NoMemory> {
     Ok(read_whole(alloc, memory_disk(alloc, octets, &[])?, users))
+}
+
+/// What is found in the file after a stop within a call.
+pub(super) fn found_of_stop(
+    alloc: Global,
+    users: &Users,
+    disk: &MemoryDisk,
+    call: u64,
+    written: bool,
+) -> Result<(u32, Ending), NoMemory> {
+    if disk.calls() <= call {
+        return Ok((0, Ending::Longer));
+    }
+    let image = disk.stopped(call, written)?;
+    let found = read_octets(alloc, image.as_slice(), users);
+    drop(image);
+    found
 }
 
 /// What is found in a file of which one octet was changed.

@@ -3,8 +3,8 @@ ghost use Rattle.std.specs.Prelude.{◌≡◌};
 ghost use Rattle.cal_keeper.specs.Principals.{counts_of};
 
 use crate::cases::{
-    Ending, NO_RECORD, ONE_DELETION, ONE_PUT, is_same, keep_deletion, memory_disk, read_octets,
-    read_whole, three_users,
+    Ending, NO_RECORD, ONE_DELETION, ONE_PUT, found_of_stop, is_same, keep_deletion, memory_disk,
+    read_octets, read_whole, three_users,
 };
 use cal_base::NoMemory;
 use cal_keeper::{MemoryDisk, NextEntry, Opened, Reader, open};
@@ -24,23 +24,6 @@ fn found_after_stop(call: u64, calls: u64, written: bool) -> (u32, Ending) {
     } else {
         (0, Ending::End)
     }
-}
-
-/// What is found in the file after a stop within a call.
-fn found_of_stop(
-    alloc: Global,
-    users: &Users,
-    disk: &MemoryDisk,
-    call: u64,
-    written: bool,
-) -> Result<(u32, Ending), NoMemory> {
-    if disk.calls() <= call {
-        return Ok((0, Ending::Longer));
-    }
-    let image = disk.stopped(call, written)?;
-    let found = read_octets(alloc, image.as_slice(), users);
-    drop(image);
-    found
 }
 
 /// How many stops, written and not, leave the file that they should, beginning with the call behind the

@@ -1,4 +1,4 @@
-use Rattle.std.proofs.Common.{rules, ◌≡◌, is_ok, Bool, true, false, sym, subst}
+use Rattle.std.proofs.Common.{rules, ◌≡◌, is_ok, Bool, false, sym, subst}
 use Rattle.cal_keeper.specs.Steps.Drafting.{Seals}
 use Rattle.cal_keeper.proofs.DraftForms.{seal_ungated, seal_gated}
 use Rattle.cal_keeper.proofs.draft.seal.Goals as goal

@@ -12,7 +12,7 @@ use Rattle.cal_script.proofs.ScriptLemmas.{sound_start, stands_start}
 use Rattle.cal_script.proofs.running.frames_on.Goals as goal
 
 pub returns-in_default-clause-ended : goal.returns-in_default-clause-ended
-returns-in_default-clause-ended g c = wrote_none _ _ _ _
+returns-in_default-clause-ended g c = wrote_none _ _ (g.I.Source.left c.args.input.now) (g.O.Sink.written c.args.output.now)
 
 pub returns-in_default-clause-entered : goal.returns-in_default-clause-entered
 returns-in_default-clause-entered g c = run_entered_none _ _ _
@@ -39,7 +39,7 @@ run_under-end-requires-clause-stands g c κs bounds = stands_start (running (g.B
 
 pub returns-clause-ended : goal.returns-clause-ended
 returns-clause-ended g c =
-    ended_later c.args.users.now _ (state_in (g.B.Desk.book c.run_under-end.new.desk)) (state_in (g.B.Desk.book c.give_up_all.new.desk)) c.run_under-end.result _ _ _ _
+    ended_later c.args.users.now _ (state_in (g.B.Desk.book c.run_under-end.new.desk)) (state_in (g.B.Desk.book c.give_up_all.new.desk)) c.run_under-end.result _
     (same_state (g.B.Desk.book c.run_under-end.new.desk) (g.B.Desk.book c.give_up_all.new.desk) c.give_up_all.ensures.users c.give_up_all.ensures.journal) c.run_under-end.ensures.ended
 
 pub returns-clause-entered : goal.returns-clause-entered

@@ -2,20 +2,21 @@ use Rattle.std.proofs.Common.{arith, subst, sym, ap, ◌∙◌, refl, length, le
 use Rattle.std.proofs.lemmas.Grind.{common_steps}
 use Rattle.cal_book.specs.Cores.{state_in}
 use Rattle.cal_script.specs.FrameHeads.{IsFrameStart}
+use Rattle.cal_script.specs.ScriptEnds.{RunTold, run_told}
 use Rattle.cal_script.proofs.AnsweringLemmas.{rose_since}
 use Rattle.cal_script.proofs.EnteredLemmas.{run_enters_none, run_enters_more, run_enters_on, run_entered, run_entered_last, run_entered_none}
 use Rattle.cal_script.proofs.RunLemmas.{come_start, come_more, come_cut, bounded_next, start_of_none, at_end, bad_behind, stopped_reading, wrote_cut, wrote_before, wrote_none, broke_here}
 use Rattle.cal_script.proofs.running.run_counted.Goals as goal
 
 pub returns-in_default-clause-ended : goal.returns-in_default-clause-ended
-returns-in_default-clause-ended g c = wrote_none _ _ _ _
+returns-in_default-clause-ended g c = wrote_none _ _ (g.I.Source.left c.args.input.now) (g.O.Sink.written c.args.output.now)
 
 pub returns-in_default-clause-entered : goal.returns-in_default-clause-entered
 returns-in_default-clause-entered g c = run_entered_none _ _ _
 
 pub reading-init : goal.reading-init
 reading-init g c = record {
-  come = come_start _ _ _ _ _ _ c.new-kept.ensures c.requires.stands;
+  come = come_start _ _ (g.I.Source.left c.args.input.now) (g.O.Sink.written c.args.output.now) _ _ c.new-kept.ensures c.requires.stands;
   entered = run_enters_none _ (state_in (g.B.Desk.book c.args.desk.now)) _ _ _ c.new-kept.ensures c.requires.stands;
   sound = λ kept sound. sound;
   start = subst IsFrameStart (sym c.new-kept.ensures) start_of_none;
@@ -35,16 +36,20 @@ answer_frames-requires-clause-stands g c κs bounds = (c.reading.invariant.come.
 
 pub returns-in-Ok-eq0-clause-ended : goal.returns-in-Ok-eq0-clause-ended
 returns-in-Ok-eq0-clause-ended g c =
-    at_end _ _ c.is_empty.result c.end_at.result _ _ _ _ _ _ _ _ _ c.reading.invariant.come c.reading.invariant.start c.in-Ok-eq0.ensures.goes
+    let told : RunTold = run_told g.I.Source g.O.Sink c.args.input.now c.reading.input c.args.output.now c.reading.output in
+    at_end _ _ c.is_empty.result c.end_at.result told _ _ _ _ (g.I.Source.left c.take_piece.new.input) c.reading.invariant.come c.reading.invariant.start c.in-Ok-eq0.ensures.goes
     (c.in-Ok-eq0.ensures.at_end c.in-Ok-eq0.field-0-test) c.is_empty.ensures c.end_at.ensures
 
 pub returns-in-Err-Input-clause-ended : goal.returns-in-Err-Input-clause-ended
 returns-in-Err-Input-clause-ended g c =
-    stopped_reading _ _ _ _ _ _ _ _ _ _ c.reading.invariant.come c.reading.invariant.start
+    let told : RunTold = run_told g.I.Source g.O.Sink c.args.input.now c.reading.input c.args.output.now c.reading.output in
+    stopped_reading _ _ told _ _ _ (g.I.Source.left c.take_piece.new.input) c.reading.invariant.come c.reading.invariant.start
     (c.take_piece.ensures.nothing_read (c.in-Err-Input.is ∙ ap (λ why. Err why) c.in-Err-Input.field-0-is))
 
 pub returns-in-Err-NoMemory-clause-ended : goal.returns-in-Err-NoMemory-clause-ended
-returns-in-Err-NoMemory-clause-ended g c = wrote_before _ _ _ _ _ _ _ _ _ c.reading.invariant.come
+returns-in-Err-NoMemory-clause-ended g c =
+    let told : RunTold = run_told g.I.Source g.O.Sink c.args.input.now c.reading.input c.args.output.now c.reading.output in
+    wrote_before _ _ told _ _ _ (g.I.Source.left c.take_piece.new.input) c.reading.invariant.come
 
 pub returns-in-Ok-eq0-clause-entered : goal.returns-in-Ok-eq0-clause-entered
 returns-in-Ok-eq0-clause-entered g c = run_entered _ _ _ _ _ _ c.reading.invariant.entered
@@ -57,8 +62,10 @@ returns-in-Err-NoMemory-clause-entered g c = run_entered _ _ _ _ _ _ c.reading.i
 
 pub reading-preserved : goal.reading-preserved
 reading-preserved g c =
-    let more = come_more _ _ _ _ _ _ _ _ _ _ _ c.reading.invariant.come c.in-Ok-take_piece.ensures.goes in
-    let cut = come_cut _ _ c.in-Cut.len _ _ _ _ _ _ _ _ _ _ _ c.as_slice.ensures c.behind_front-kept.ensures more c.in-Cut.ensures.answered in
+    let told : RunTold = run_told g.I.Source g.O.Sink c.args.input.now c.reading.input c.args.output.now c.reading.output in
+    let taken : RunTold = record told { left_after = g.I.Source.left c.take_piece.new.input } in
+    let more = come_more _ _ told _ _ _ _ (g.I.Source.left c.take_piece.new.input) c.reading.invariant.come c.in-Ok-take_piece.ensures.goes in
+    let cut = come_cut _ _ c.in-Cut.len _ _ taken _ _ _ _ (g.O.Sink.written c.answer_frames.new.output) c.as_slice.ensures c.behind_front-kept.ensures more c.in-Cut.ensures.answered in
     record {
       come = cut.0;
       entered = run_enters_on _ c.in-Cut.len _ _ _ _ _ _ _ _ c.as_slice.ensures c.behind_front-kept.ensures
@@ -76,20 +83,28 @@ reading-preserved g c =
 
 pub returns-in-Bad-clause-ended : goal.returns-in-Bad-clause-ended
 returns-in-Bad-clause-ended g c =
-    bad_behind _ _ c.in-Bad.len _ _ _ _ _ _ _ _ _ _ c.as_slice.ensures
-    (come_more _ _ _ _ _ _ _ _ _ _ _ c.reading.invariant.come c.in-Ok-take_piece.ensures.goes) c.in-Bad.ensures.answered
+    let told : RunTold = run_told g.I.Source g.O.Sink c.args.input.now c.reading.input c.args.output.now c.reading.output in
+    let taken : RunTold = record told { left_after = g.I.Source.left c.take_piece.new.input } in
+    bad_behind _ _ c.in-Bad.len _ taken _ _ _ _ (g.O.Sink.written c.answer_frames.new.output) c.as_slice.ensures
+    (come_more _ _ told _ _ _ _ (g.I.Source.left c.take_piece.new.input) c.reading.invariant.come c.in-Ok-take_piece.ensures.goes) c.in-Bad.ensures.answered
 
 pub returns-in-OutputFault-clause-ended : goal.returns-in-OutputFault-clause-ended
 returns-in-OutputFault-clause-ended g c =
-    wrote_cut _ _ _ _ _ _ _ _ _ _ _ c.as_slice.ensures (come_more _ _ _ _ _ _ _ _ _ _ _ c.reading.invariant.come c.in-Ok-take_piece.ensures.goes) c.in-OutputFault.ensures.answered
+    let told : RunTold = run_told g.I.Source g.O.Sink c.args.input.now c.reading.input c.args.output.now c.reading.output in
+    let taken : RunTold = record told { left_after = g.I.Source.left c.take_piece.new.input } in
+    wrote_cut _ _ _ taken _ _ _ (g.O.Sink.written c.answer_frames.new.output) c.as_slice.ensures (come_more _ _ told _ _ _ _ (g.I.Source.left c.take_piece.new.input) c.reading.invariant.come c.in-Ok-take_piece.ensures.goes) c.in-OutputFault.ensures.answered
 
 pub returns-in-NoMemory-clause-ended : goal.returns-in-NoMemory-clause-ended
 returns-in-NoMemory-clause-ended g c =
-    wrote_cut _ _ _ _ _ _ _ _ _ _ _ c.as_slice.ensures (come_more _ _ _ _ _ _ _ _ _ _ _ c.reading.invariant.come c.in-Ok-take_piece.ensures.goes) c.in-NoMemory.ensures.answered
+    let told : RunTold = run_told g.I.Source g.O.Sink c.args.input.now c.reading.input c.args.output.now c.reading.output in
+    let taken : RunTold = record told { left_after = g.I.Source.left c.take_piece.new.input } in
+    wrote_cut _ _ _ taken _ _ _ (g.O.Sink.written c.answer_frames.new.output) c.as_slice.ensures (come_more _ _ told _ _ _ _ (g.I.Source.left c.take_piece.new.input) c.reading.invariant.come c.in-Ok-take_piece.ensures.goes) c.in-NoMemory.ensures.answered
 
 pub returns-in-Broken-clause-ended : goal.returns-in-Broken-clause-ended
 returns-in-Broken-clause-ended g c =
-    broke_here _ _ _ _ _ _ _ _ _ _ _ c.as_slice.ensures (come_more _ _ _ _ _ _ _ _ _ _ _ c.reading.invariant.come c.in-Ok-take_piece.ensures.goes) c.in-Broken.ensures.answered
+    let told : RunTold = run_told g.I.Source g.O.Sink c.args.input.now c.reading.input c.args.output.now c.reading.output in
+    let taken : RunTold = record told { left_after = g.I.Source.left c.take_piece.new.input } in
+    broke_here _ _ _ taken _ _ _ (g.O.Sink.written c.answer_frames.new.output) c.as_slice.ensures (come_more _ _ told _ _ _ _ (g.I.Source.left c.take_piece.new.input) c.reading.invariant.come c.in-Ok-take_piece.ensures.goes) c.in-Broken.ensures.answered
 
 pub returns-in-Bad-clause-entered : goal.returns-in-Bad-clause-entered
 returns-in-Bad-clause-entered g c =

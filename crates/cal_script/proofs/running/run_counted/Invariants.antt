@@ -2,6 +2,7 @@ use Rattle.std.proofs.Common.{◌≡◌, ◌+◌, ◌<◌, ◌≤◌, ◌^◌, L
 use Rattle.cal_book.specs.Cores.{state_in}
 use Rattle.cal_model.specs.History.Claims.{Pair}
 use Rattle.cal_script.specs.FrameHeads.{IsFrameStart}
+use Rattle.cal_script.specs.ScriptEnds.{run_told}
 use Rattle.cal_script.specs.Standings.{IsSound, running, standing_in}
 use Rattle.cal_script.proofs.EnteredLemmas.{HasEnteredSoFar}
 use Rattle.cal_script.proofs.RunLemmas.{HasCome}
@@ -10,7 +11,7 @@ use Rattle.cal_script.proofs.running.run_counted.Given as goal
 -- how far the run has come, and what it has entered; what is kept is the start of a frame; the octets are at most all that a source may give; the desk is as broken as it was, and no count fell
 abbrev pub invariant-reading : goal.invariant-reading
 invariant-reading g l = record {
-  come : HasCome l.users (standing_in (state_in (g.B.Desk.book l.fn.desk))) (g.I.Source.left l.fn.input) (g.O.Sink.written l.fn.output) l.place l.kept (running (g.B.Desk.book l.desk) l.script) (g.I.Source.left l.input) (g.O.Sink.written l.output);
+  come : HasCome l.users (standing_in (state_in (g.B.Desk.book l.fn.desk))) (run_told g.I.Source g.O.Sink l.fn.input l.input l.fn.output l.output) l.place l.kept (running (g.B.Desk.book l.desk) l.script);
   entered : HasEnteredSoFar l.users (g.I.Source.left l.fn.input) (g.B.Desk.book l.fn.desk).work.journal l.kept (running (g.B.Desk.book l.desk) l.script) (g.I.Source.left l.input);
   sound : (kept : List Pair) → IsSound l.users kept (running (g.B.Desk.book l.fn.desk) l.fn.script) → IsSound l.users kept (running (g.B.Desk.book l.desk) l.script);
   start : IsFrameStart l.kept;

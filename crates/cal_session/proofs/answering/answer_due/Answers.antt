@@ -4,17 +4,17 @@ use Rattle.turn_lock.specs.Passes.{PassState}
 use Rattle.cal_model.specs.History.Journal.{Entry}
 use Rattle.cal_model.specs.Streams.WireLimits.{request_limit}
 use Rattle.cal_model.specs.Users.UsersFile.{Users}
-use Rattle.cal_session.specs.Sessions.{LinkTold}
+use Rattle.cal_session.specs.SessionStates.{SessionState, session_state}
 use Rattle.cal_session.specs.UnderWay.{IsUnderWay, IsWaiting, StopsSo}
 use Rattle.cal_session.proofs.AnswerLaws.{few_yet}
-use Rattle.cal_session.proofs.StartLaws.{on_further}
+use Rattle.cal_session.proofs.SessionLaws.{seen_further}
 use Rattle.cal_session.proofs.answering.answer_due.Goals as goal
 
 pub due-init : goal.due-init
 due-init g c = record {
   pass = refl;
   room = refl;
-  session = λ start before on w. w;
+  session = λ before w. w;
   clock = refl;
   allowance = refl;
   never_falls = omega arith;
@@ -32,14 +32,14 @@ answer_next-requires-clause-base g c κs within = ap (λ (p : PassState Entry Us
 pub answer_next-requires-clause-few : goal.answer_next-requires-clause-few
 answer_next-requires-clause-few g c κs within =
     let from = c.requires.under_way in
-    let under = c.due.invariant.session from.0 from.1 from.2 from.3 in
-    few_yet c.args.hall.now.users.now _ from.0 _ from.1 _ _ under.stream under.rest under.reached
+    let under = c.due.invariant.session from.0 from.1 in
+    few_yet _ from.0 _ _ under.stream under.rest under.reached
 
 pub answer_next-requires-clause-room : goal.answer_next-requires-clause-room
 answer_next-requires-clause-room g c κs within =
     let from = c.requires.under_way in
-    let under = c.due.invariant.session from.0 from.1 from.2 from.3 in
-    let few : length c.due.turns.items < request_limit = few_yet c.args.hall.now.users.now _ from.0 _ from.1 _ _ under.stream under.rest under.reached in
+    let under = c.due.invariant.session from.0 from.1 in
+    let few : length c.due.turns.items < request_limit = few_yet _ from.0 _ _ under.stream under.rest under.reached in
     let same = c.due.invariant.room in
     let room = c.requires.room in
     omega (arith, few, same, room)
@@ -47,20 +47,20 @@ answer_next-requires-clause-room g c κs within =
 pub answer_next-requires-clause-stands : goal.answer_next-requires-clause-stands
 answer_next-requires-clause-stands g c κs within =
     let from = c.requires.under_way in
-    let under = c.due.invariant.session from.0 from.1 from.2 from.3 in
+    let under = c.due.invariant.session from.0 from.1 in
     (under.rest, under.stands)
 
 pub due-preserved : goal.due-preserved
 due-preserved g c =
-    let users = c.args.hall.now.users.now in
-    let link : LinkTold = record { faults = g.L.Link.faults c.answer_next.new.link; left = g.L.Link.left c.answer_next.new.link; written = g.L.Link.written c.answer_next.new.link } in
+    let users = c.args.context.now.users.now in
+    let now : SessionState = session_state g.L.Link c.answer_next.new.pass c.answer_next.new.link in
     let kept = c.due.invariant in
     record {
-      pass = on_further c.args.pass.now c.due.pass c.answer_next.new.pass kept.pass c.answer_next.ensures.pass;
+      pass = seen_further c.args.pass.now c.due.pass c.answer_next.new.pass kept.pass c.answer_next.ensures.pass;
       room = c.answer_next.ensures.room ∙ kept.room;
-      session = λ start before on w.
-          subst (λ (told : Option ℤ). IsUnderWay users told start c.answer_next.new.pass before link c.answer_next.new.turns.items c.answer_next.new.wire) (sym c.answer_next.ensures.clock)
-          (c.in-Answered.ensures.session start before (on_further start c.args.pass.now c.due.pass on kept.pass) (kept.session start before on w));
+      session = λ before w.
+          subst (λ (clock : Option ℤ). IsUnderWay (record { users = users; clock = clock }) before now c.answer_next.new.turns.items c.answer_next.new.wire) (sym c.answer_next.ensures.clock)
+          (c.in-Answered.ensures.session before (kept.session before w));
       clock = c.answer_next.ensures.clock ∙ kept.clock;
       allowance = c.answer_next.ensures.allowance ∙ kept.allowance;
       never_falls = (let first = c.answer_next.ensures.never_falls in let falls = kept.never_falls in omega (arith, first, falls));
@@ -69,29 +69,29 @@ due-preserved g c =
 pub due-smaller : goal.due-smaller
 due-smaller g c =
     let from = c.requires.under_way in
-    let under = c.due.invariant.session from.0 from.1 from.2 from.3 in
-    let few : length c.due.turns.items < request_limit = few_yet c.args.hall.now.users.now _ from.0 _ from.1 _ _ under.stream under.rest under.reached in
+    let under = c.due.invariant.session from.0 from.1 in
+    let few : length c.due.turns.items < request_limit = few_yet _ from.0 _ _ under.stream under.rest under.reached in
     let longer : length c.answer_next.new.turns.items ≡ length c.due.turns.items + 1 = c.in-Answered.ensures.longer in
     omega (arith, few, longer)
 
 pub returns-in-Waits-clause-session : goal.returns-in-Waits-clause-session
-returns-in-Waits-clause-session g c start before on w =
-    let users = c.args.hall.now.users.now in
-    let link : LinkTold = record { faults = g.L.Link.faults c.answer_next.new.link; left = g.L.Link.left c.answer_next.new.link; written = g.L.Link.written c.answer_next.new.link } in
+returns-in-Waits-clause-session g c before w =
+    let users = c.args.context.now.users.now in
+    let now : SessionState = session_state g.L.Link c.answer_next.new.pass c.answer_next.new.link in
     let kept = c.due.invariant in
-    subst (λ (told : Option ℤ). IsWaiting users told start c.answer_next.new.pass before link c.answer_next.new.turns.items c.answer_next.new.wire) kept.clock
-    (c.in-Waits.ensures.session start before (on_further start c.args.pass.now c.due.pass on kept.pass) (kept.session start before on w))
+    subst (λ (clock : Option ℤ). IsWaiting (record { users = users; clock = clock }) before now c.answer_next.new.turns.items c.answer_next.new.wire) kept.clock
+    (c.in-Waits.ensures.session before (kept.session before w))
 
 pub returns-in-Stops-clause-session : goal.returns-in-Stops-clause-session
-returns-in-Stops-clause-session g c start before on w =
-    let users = c.args.hall.now.users.now in
-    let link : LinkTold = record { faults = g.L.Link.faults c.answer_next.new.link; left = g.L.Link.left c.answer_next.new.link; written = g.L.Link.written c.answer_next.new.link } in
+returns-in-Stops-clause-session g c before w =
+    let users = c.args.context.now.users.now in
+    let now : SessionState = session_state g.L.Link c.answer_next.new.pass c.answer_next.new.link in
     let kept = c.due.invariant in
-    subst (λ (told : Option ℤ). StopsSo users told start c.answer_next.new.pass before link c.answer_next.new.turns.items c.in-Stops.stop) kept.clock
-    (c.in-Stops.ensures.session start before (on_further start c.args.pass.now c.due.pass on kept.pass) (kept.session start before on w))
+    subst (λ (clock : Option ℤ). StopsSo (record { users = users; clock = clock }) before now c.answer_next.new.turns.items c.in-Stops.stop) kept.clock
+    (c.in-Stops.ensures.session before (kept.session before w))
 
 pub returns-in-Waits-clause-pass : goal.returns-in-Waits-clause-pass
-returns-in-Waits-clause-pass g c = on_further c.args.pass.now c.due.pass c.answer_next.new.pass c.due.invariant.pass c.answer_next.ensures.pass
+returns-in-Waits-clause-pass g c = seen_further c.args.pass.now c.due.pass c.answer_next.new.pass c.due.invariant.pass c.answer_next.ensures.pass
 
 pub returns-in-Waits-clause-room : goal.returns-in-Waits-clause-room
 returns-in-Waits-clause-room g c = c.answer_next.ensures.room ∙ c.due.invariant.room
@@ -109,7 +109,7 @@ returns-in-Waits-clause-never_falls g c =
     omega (arith, first, falls)
 
 pub returns-in-Stops-clause-pass : goal.returns-in-Stops-clause-pass
-returns-in-Stops-clause-pass g c = on_further c.args.pass.now c.due.pass c.answer_next.new.pass c.due.invariant.pass c.answer_next.ensures.pass
+returns-in-Stops-clause-pass g c = seen_further c.args.pass.now c.due.pass c.answer_next.new.pass c.due.invariant.pass c.answer_next.ensures.pass
 
 pub returns-in-Stops-clause-room : goal.returns-in-Stops-clause-room
 returns-in-Stops-clause-room g c = c.answer_next.ensures.room ∙ c.due.invariant.room

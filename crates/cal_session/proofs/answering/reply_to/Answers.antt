@@ -10,7 +10,7 @@ use Rattle.cal_session.proofs.answering.reply_to.Goals as goal
 
 pub returns-in-Reply-clause-answered : goal.returns-in-Reply-clause-answered
 returns-in-Reply-clause-answered g c =
-    let users = c.args.hall.now.users.now in
+    let users = c.args.context.now.users.now in
     let pass = c.args.pass.now in
     let next = c.ask_once-at.new.pass in
     let at = c.ask_once-at.result.0 in
@@ -25,7 +25,7 @@ returns-in-Reply-clause-answered g c =
 
 pub returns-in-Reply-clause-known : goal.returns-in-Reply-clause-known
 returns-in-Reply-clause-known g c =
-    let users = c.args.hall.now.users.now in
+    let users = c.args.context.now.users.now in
     let pass = c.args.pass.now in
     let next = c.ask_once-at.new.pass in
     let at = c.ask_once-at.result.0 in

@@ -6,7 +6,7 @@ returns-clause-answered g c =
     let ran = c.frames_on-end in
     let now = ran.new.desk in
     rw c.into_disk.ensures
-    (answered g.D.Disk.past c.args.users.now c.args.kept now ran.result _ _ _ _ _ _ c.requires.users ran.ensures.users c.requires.unbroken
+    (answered g.D.Disk.past c.args.users.now c.args.kept now ran.result _ _ _ c.requires.users ran.ensures.users c.requires.unbroken
     ran.ensures.ended ran.ensures.entered ran.ensures.legal ran.ensures.broken c.book-book.ensures.kept)
 
 pub returns-clause-disk_fault : goal.returns-clause-disk_fault

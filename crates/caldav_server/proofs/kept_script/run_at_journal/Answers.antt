@@ -1,5 +1,6 @@
 use Rattle.std.proofs.Common.{◌∙◌, sym, subst, inl, inr}
 use Rattle.cal_model.specs.Users.UsersFile.{Users}
+use Rattle.cal_script.specs.ScriptEnds.{run_told}
 use Rattle.cal_session.specs.Loading.{IsReady, IsRefused, IsMismatched}
 use Rattle.caldav_server.specs.KeptRuns.{IsAnswered}
 use Rattle.caldav_server.proofs.FaultCounts.{rose_since}
@@ -20,7 +21,7 @@ returns-in-Ready-clause-run g c =
       kept.book.work.journal,
       stood_for g.D.Disk.past users c.args.disk kept ready,
       subst
-          (λ (known : Users). IsAnswered known kept.book.work.journal (g.D.Disk.past ran.result.1) ran.result.0 (g.I.Source.left c.args.input.now) (g.I.Source.left ran.new.input) (g.O.Sink.written c.args.output.now) (g.O.Sink.written ran.new.output))
+          (λ (known : Users). IsAnswered known kept.book.work.journal (g.D.Disk.past ran.result.1) ran.result.0 (run_told g.I.Source g.O.Sink c.args.input.now ran.new.input c.args.output.now ran.new.output))
           c.deref.ensures ran.ensures.answered,
     )
 

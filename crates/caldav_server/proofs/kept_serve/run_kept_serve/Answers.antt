@@ -17,5 +17,5 @@ returns-in-Ok-clause-journal_fault g c = λ is.
     let path = c.in-Ok.ensures.said.users_are ∙ ap (λ (words : List Text). users_path words) c.as_slice.ensures in
     subst
     (λ (at : List ℕ). ((ran.new.door ≡ c.args.door.now) × Rose (g.K.Disk.faults c.args.disk) (g.K.Disk.faults ran.result.1))
-    ⊎ ((users : Users) × IfSome (g.F.Files.content c.args.files.now at) (λ octets. AreUsersOf octets users) × ServedFrom users (g.K.Disk.past c.args.disk) (g.K.Disk.past ran.result.1)))
+    ⊎ ((users : Users) × IfSome (g.F.Files.content c.args.files.now at) (λ octets. AreUsersOf octets users) × ServedFrom users ran.result.0.status (g.K.Disk.past c.args.disk) (g.K.Disk.past ran.result.1)))
     path (ran.ensures.journal_fault is)

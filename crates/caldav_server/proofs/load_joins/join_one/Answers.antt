@@ -1,5 +1,5 @@
 use Rattle.std.proofs.Common.{ap}
-use Rattle.caldav_server.specs.LoadSeats.{Known}
+use Rattle.caldav_server.specs.LoadJobs.{Known}
 use Rattle.caldav_server.proofs.LoadPasses.{joined-more}
 use Rattle.caldav_server.proofs.load_joins.join_one.Goals as goal
 

@@ -1,6 +1,6 @@
 use Rattle.std.proofs.Common.{List, [], ◌∷◌, ◌++◌, length, ap, sym, subst, arith}
 use Rattle.std.specs.List.{AllByRecursion}
-use Rattle.caldav_server.specs.LoadSeats.{HasJoined}
+use Rattle.caldav_server.specs.LoadJobs.{HasJoined}
 use Rattle.caldav_server.specs.LoadSums.{AreAdded, IsBack, passes_of}
 use Rattle.caldav_server.specs.declared.load_sessions.Done.{Done}
 use Rattle.caldav_server.proofs.LoadDoneLemmas.{parts-more, parts-done, passes-more}

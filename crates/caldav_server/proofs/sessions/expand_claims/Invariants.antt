@@ -1,4 +1,4 @@
-use Rattle.caldav_server.specs.Crews.{HasTakenTurns}
+use Rattle.caldav_server.specs.ThreadPasses.{HasTakenTurns}
 use Rattle.caldav_server.proofs.sessions.expand_claims.Given as goal
 
 abbrev pub invariant-working : goal.invariant-working

@@ -1,5 +1,5 @@
 use Rattle.std.proofs.Common.{◌≤◌}
-use Rattle.caldav_server.specs.Crews.{HasTakenTurns}
+use Rattle.caldav_server.specs.ThreadPasses.{HasTakenTurns}
 use Rattle.caldav_server.specs.Shares.{RoseBy}
 use Rattle.caldav_server.proofs.sessions.serve_all.Given as goal
 

@@ -1,8 +1,10 @@
-use Rattle.std.proofs.Common.{◌≡◌, Bool, true, false, ◌∷◌, [], ◌++◌, sym, ap, ◌∙◌, append-nil, rules, FitsSigned, w32, to_z-of_z}
+use Rattle.std.proofs.Common.{◌≡◌, List, true, false, ◌∷◌, [], sym, ◌∙◌, subst, rules, FitsSigned, w32, to_z-of_z}
 use Rattle.std.specs.Prelude.{◌&&◌}
 use Rattle.std.proofs.lemmas.Result.{on_ok_weaker}
+use Rattle.cal_model.specs.Busy.BusyTimes.{BusyTime}
 use Rattle.cal_model.specs.Reports.NeededWindows.{counts, is_stated_window}
-use Rattle.freebusy.specs.Times.{times_of}
+use Rattle.freebusy.specs.Gathering.{Gathers}
+use Rattle.freebusy.proofs.Gatherings.{Gathers-none}
 use Rattle.dav_reports.proofs.OnlyRows.{only_near, only_times}
 use Rattle.dav_reports.proofs.busy.put_needed.Goals as goal
 
@@ -16,7 +18,7 @@ returns-then-is_needed-clause-times g c =
     let fits : FitsSigned w32 window = search rules in
     let needed : c.is_needed.result ≡ (is_stated_window window && counts object (c.args.range ∷ []) window) = simp to_z-of_z at c.is_needed.ensures in
     let times = only_times c.args.zone.now object (counts object (c.args.range ∷ [])) c.in-Some.row window true c.in-Some.ensures.rows (sym c.if-is_needed.true ∙ needed) in
-    on_ok_weaker c.put_row.result (λ e. e ∙ ap (λ ts. times_of c.args.out.now ++ ts) (sym times)) c.put_row.ensures
+    on_ok_weaker c.put_row.result (λ put. subst (λ (ts : List BusyTime). Gathers c.args.out.now c.put_row.new.out ts) (sym times) put) c.put_row.ensures
 
 pub returns-else-is_needed-clause-times : goal.returns-else-is_needed-clause-times
 returns-else-is_needed-clause-times g c =
@@ -25,4 +27,4 @@ returns-else-is_needed-clause-times g c =
     let fits : FitsSigned w32 window = search rules in
     let needed : c.is_needed.result ≡ (is_stated_window window && counts object (c.args.range ∷ []) window) = simp to_z-of_z at c.is_needed.ensures in
     let times = only_times c.args.zone.now object (counts object (c.args.range ∷ [])) c.in-Some.row window false c.in-Some.ensures.rows (sym c.if-is_needed.false ∙ needed) in
-    sym (ap (λ ts. times_of c.args.out.now ++ ts) times ∙ append-nil (times_of c.args.out.now))
+    subst (λ (ts : List BusyTime). Gathers c.args.out.now c.args.out.now ts) (sym times) (Gathers-none c.args.out.now)

@@ -1,13 +1,19 @@
-use Rattle.std.proofs.Common.{◌≡◌, ◌+◌, ◌++◌, sym, rules, arith, FitsSigned, w32, to_z-of_z}
+use Rattle.std.proofs.Common.{◌≡◌, ◌+◌, sym, rules, arith, FitsSigned, w32, to_z-of_z}
 use Rattle.std.specs.Prelude.{Some, None}
+use Rattle.std.proofs.lemmas.List.{nil_from_length}
 use Rattle.cal_model.specs.Instances.Rows.{rows_in}
 use Rattle.dav_reports.specs.PieceRows.{windows_cost}
-use Rattle.dav_reports.proofs.ListSteps.{put_next}
-use Rattle.dav_reports.proofs.MissingWindows.{held_cost, put_run, run_counted, run_split, run_within}
-use Rattle.freebusy.specs.Times.{times_of}
+use Rattle.dav_reports.proofs.GatheredTimes.{left-all, left-next, left-none, left-run}
+use Rattle.dav_reports.proofs.MissingWindows.{held_cost, run_counted, run_split, run_within}
 use Rattle.dav_reports.specs.ObjectTimes.{times_in, times_of_rows}
 use Rattle.dav_reports.proofs.KeptObjects.{rows_near}
 use Rattle.dav_reports.proofs.busy.put_windows.Goals as goal
+
+pub windows-init : goal.windows-init
+windows-init g c = record {
+  made = left-all c.args.out.now (times_in c.args.zone.now c.args.object.now c.args.windows.now);
+  counted = omega arith;
+}
 
 pub put_rows-requires-clause-near : goal.put_rows-requires-clause-near
 put_rows-requires-clause-near g c =
@@ -35,7 +41,7 @@ windows-preserved-in-Some-rows g c =
     let cost = held_cost held origin object window behind c.in-Some-rows.rows.now there in
     let counted = rw first at c.windows.invariant.counted in
     record {
-      made = put_next (λ x. times_of_rows c.args.zone.now object (rows_in object x)) (times_of c.windows.out) (times_of c.put_rows.new.out) _ window behind put (rw first at c.windows.invariant.made);
+      made = left-next (λ x. times_of_rows c.args.zone.now object (rows_in object x)) c.args.out.now c.windows.out c.put_rows.new.out _ window behind put (rw first at c.windows.invariant.made);
       counted = omega (arith, cost, counted);
     }
 
@@ -65,8 +71,12 @@ windows-preserved g c =
     let none : None ≡ held origin c.in-Some.window.now = simp to_z-of_z at c.in_default-rows.ensures in
     let split = run_split held origin c.in-Some.window.now windows c.in-Some.behind.now run left c.missing_first.result c.in-Some.ensures.cases.0 none c.missing_first.ensures.missing c.split_at.ensures.front c.split_at.ensures.back in
     let all = c.args.steps.now + windows_cost held origin object c.args.windows.now in
-    let given = times_of c.args.out.now ++ times_in c.args.zone.now object c.args.windows.now in
     record {
-      made = put_run (λ x. times_of_rows c.args.zone.now object (rows_in object x)) (times_of c.windows.out) (times_of c.put_missing.new.out) given windows run left split.0 c.in_ok-put_missing.ensures.times c.windows.invariant.made;
+      made = left-run (λ x. times_of_rows c.args.zone.now object (rows_in object x)) c.args.out.now c.windows.out c.put_missing.new.out (times_in c.args.zone.now object c.args.windows.now) windows run left split.0 c.in_ok-put_missing.ensures.times c.windows.invariant.made;
       counted = run_counted held origin object windows run left c.windows.steps c.put_missing.new.steps all split.0 split.1 c.put_missing.ensures.steps c.windows.invariant.counted;
     }
+
+pub returns-clause-times : goal.returns-clause-times
+returns-clause-times g c =
+    let end = nil_from_length c.windows.rest.now c.in_default.ensures.cases in
+    left-none c.args.out.now c.windows.out _ (rw end at c.windows.invariant.made)
