@@ -48,7 +48,10 @@ pub(crate) fn start_books(
     match start_book(alloc, old_users) {
         Ok(source) => match start_book(alloc, new_users) {
             Ok(target) => Ok(Books { source, target }),
-            Err(NoMemory) => Err(NoMemory),
+            Err(NoMemory) => {
+                drop(source);
+                Err(NoMemory)
+            }
         },
         Err(NoMemory) => Err(NoMemory),
     }
@@ -176,8 +179,14 @@ fn carry<G: Ledger>(
             let target = &mut books.target;
             carry_moved(alloc, old_users, new_users, event, status, target, steps)
         }
-        Remade::Other(made) => Carried::Mismatch(made),
-        Remade::NoMemory => Carried::NoMemory,
+        Remade::Other(made) => {
+            drop(event);
+            Carried::Mismatch(made)
+        }
+        Remade::NoMemory => {
+            drop(event);
+            Carried::NoMemory
+        }
     }
 }
 
@@ -200,7 +209,11 @@ fn carry_moved<G: Ledger>(
     file_laws();
     let _old = old_users.len();
     match moved_event(alloc, old_users, new_users, event) {
-        Ok(moved) => ask_moved(alloc, new_users, &moved, status, target, steps),
+        Ok(moved) => {
+            let end = ask_moved(alloc, new_users, &moved, status, target, steps);
+            drop(moved);
+            end
+        }
         Err(NoMemory) => Carried::NoMemory,
     }
 }

@@ -2,7 +2,7 @@
 ghost use Rattle.std.specs.Prelude.{◌≡◌, ◌≤◌, ◌<◌, ◌⊎◌, IfSome};
 ghost use Rattle.cal_keeper.specs.Files.Opening.{IsUnwritten};
 ghost use Rattle.journal_migration.specs.Migrations.{IsHistoryOfBoth, IsMigrated, IsWriting};
-ghost use Rattle.journal_migration.specs.Carrying.{AreWhole};
+ghost use Rattle.journal_migration.specs.Carrying.{AreNewBooks, AreWhole};
 ghost use Rattle.journal_migration.specs.Writing.{IsWrittenAs};
 ghost use Rattle.journal_migration.specs.Renumbering.{AreAllIn, moved_entries};
 ghost use Rattle.journal_migration.specs.Stops.{LeavesNoneOrWhole};
@@ -102,15 +102,42 @@ fn migrate_under<D: Disk, G: Ledger>(
     let mut steps = Steps::<G>::open(blank);
     match start_books(alloc, old_users, new_users) {
         Ok(mut books) => {
-            match read_old(alloc, old_users, new_users, from, &mut books, &mut steps) {
-                (Ok(()), from) => {
-                    let (end, to) = write_moved(alloc, &books, old_users, new_users, to);
-                    (end, from, to)
-                }
-                (Err(end), from) => (end, from, to),
-            }
+            let ended = migrate_in(
+                alloc, old_users, new_users, from, to, &mut books, &mut steps,
+            );
+            drop(books);
+            ended
         }
         Err(NoMemory) => (Migrated::NoMemory, from, to),
+    }
+}
+
+/// Reads the old file into new books of both users, and then writes the new one.
+fn migrate_in<D: Disk, G: Ledger>(
+    alloc: Global,
+    old_users: &Users,
+    new_users: &Users,
+    from: D,
+    to: D,
+    books: &mut Books,
+    steps: &mut Steps<G>,
+) -> (Migrated, D, D)
+    requires all { AreAllIn old_users.now new_users.now }
+    requires begun { AreNewBooks old_users.now new_users.now books.old }
+    ensures end { IsMigrated D.past D.faults old_users.now new_users.now from to result.1 result.2 result.0 }
+    ensures only_read { IsUnwritten (D.past from) (D.past result.1) }
+    ensures untouched { IsWriting result.0 ⊎ (D.past result.2 ≡ D.past to) }
+    ensures stops { (result.0 ≡ Migrated.Done) ⊎ (result.0 ≡ Migrated.NewFailed) → IfSome (D.past result.2) (LeavesNoneOrWhole old_users.now new_users.now (D.past from)) }
+    ensures old_never_falls { D.faults from ≤ D.faults result.1 }
+    ensures new_never_falls { D.faults to ≤ D.faults result.2 }
+{
+    let (read, from) = read_old(alloc, old_users, new_users, from, books, steps);
+    match read {
+        Ok(()) => {
+            let (end, to) = write_moved(alloc, books, old_users, new_users, to);
+            (end, from, to)
+        }
+        Err(end) => (end, from, to),
     }
 }
 

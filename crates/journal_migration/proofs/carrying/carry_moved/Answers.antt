@@ -14,8 +14,8 @@ pub moved_event-requires-clause-grants : goal.moved_event-requires-clause-grants
 moved_event-requires-clause-grants g c =
     (own_bookable c.file_laws.ensures.bookable c.args.old_users.now c.len-old.ensures.told c.args.event c.args.status c.requires.recorded.0 c.requires.recorded.1).grants
 
-pub ask_moved-requires-clause-recorded : goal.ask_moved-requires-clause-recorded
-ask_moved-requires-clause-recorded g c =
+pub ask_moved-end-requires-clause-recorded : goal.ask_moved-end-requires-clause-recorded
+ask_moved-end-requires-clause-recorded g c =
     let entry = moved_entry c.args.old_users.now c.args.new_users.now c.requires.recorded.0 in
     (
       entry,
@@ -25,4 +25,4 @@ ask_moved-requires-clause-recorded g c =
 
 pub returns-in-Ok-clause-carried : goal.returns-in-Ok-clause-carried
 returns-in-Ok-clause-carried g c =
-    subst (λ (e : Event). IsAskedOn e c.args.status c.args.target.now c.ask_moved.new.target c.ask_moved.result) c.in-Ok.ensures c.ask_moved.ensures.carried
+    subst (λ (e : Event). IsAskedOn e c.args.status c.args.target.now c.ask_moved-end.new.target c.ask_moved-end.result) c.in-Ok.ensures c.ask_moved-end.ensures.carried
