@@ -1,32 +1,29 @@
 -- An event that is asked of the books of both users: that it can be asked, and what comes of it.
-use Rattle.std.proofs.Common.{◌≡◌, inl, inr, ℕ, ◌+◌, ◌<◌, ◌≤◌, ◌^◌, true, false, List, [], ◌∷◌, ◌++◌, length, drop, map, Option, Some, None, Ok, Err, Result, IfSome, refl, sym, ◌∙◌, ap, subst, arith}
-use Rattle.std.specs.Prelude.{ℤ, pos, ◌≤ℤ◌, option_map}
+use Rattle.std.proofs.Common.{◌≡◌, ℕ, ◌<◌, ◌≤◌, ◌^◌, false, List, [], ◌∷◌, ◌++◌, drop, Option, Some, None, Ok, Err, IfSome, sym, ◌∙◌, ap, subst, arith}
+use Rattle.std.specs.Prelude.{ℤ, pos, ◌≤ℤ◌}
 use Rattle.std.specs.List.{AllByRecursion}
 use Rattle.std.proofs.lemmas.Bool.{false≢true}
 use Rattle.std.proofs.lemmas.Int.{ints}
 use Rattle.std.proofs.lemmas.List.{map-append}
-use Rattle.cal_base.specs.World.Outside.{Rose}
 use Rattle.cal_model.specs.declared.request.Event.{Event}
-use Rattle.cal_model.specs.History.Journal.{Entry, asked, IsLegal}
-use Rattle.cal_model.specs.Requests.BookableRequests.{GrantsAmong, IsBookable}
+use Rattle.cal_model.specs.History.Journal.{Entry, IsLegal}
+use Rattle.cal_model.specs.Requests.BookableRequests.{IsBookable}
 use Rattle.cal_model.specs.State.Changes.{Change, change_of}
 use Rattle.cal_model.specs.State.ServerState.{directory_of, opening_state}
 use Rattle.cal_model.specs.State.UserNames.{AreToldApart}
 use Rattle.cal_model.specs.Users.UsersFile.{Users}
 use Rattle.cal_model.specs.Words.Limits.{last_moment}
 use Rattle.cal_keeper.specs.declared.reader.NextEntry.TheVariants as next_entry
-use Rattle.cal_keeper.specs.Disks.CrashModel.{Past, reading, synced}
+use Rattle.cal_keeper.specs.Disks.CrashModel.{Past, reading}
 use Rattle.cal_keeper.specs.Files.EntryLaws.{FormIsBookable}
 use Rattle.cal_keeper.specs.Files.NextEntries.{IsEventOf, GoesOn, Ends, IsBadAt, IsFound}
 use Rattle.cal_keeper.specs.Files.Payloads.{payload_of, seconds_of}
 use Rattle.cal_keeper.specs.Files.RecordForm.{HasRecord}
 use Rattle.cal_keeper.specs.Files.Standing.{IsRecorded, IsRead, StandsFor}
 use Rattle.cal_keeper.specs.Keepers.{KeeperState, ReaderState}
-use Rattle.cal_keeper.specs.Principals.{counts_of}
 use Rattle.cal_book.specs.Cores.{Core, directory_in}
-use Rattle.cal_book.specs.EventSteps.{state_behind}
 use Rattle.cal_book.specs.LegalJournals.{is_accepted_with}
-use Rattle.journal_migration.specs.Carrying.{IsRemade, AreBooksOf, AreWhole, IsCarried, IsReadInto, IsReadWhole, IsReadAs, IsReadOn}
+use Rattle.journal_migration.specs.Carrying.{IsRemade, AreBooksOf, IsCarried, IsReadInto, IsReadAs, IsReadOn}
 use Rattle.journal_migration.specs.Migrations.{IsNoHistory, EndsBadly, outcome_behind, IsAcceptedOtherwise, IsNextEntry, IsMismatch, IsDeclined}
 use Rattle.journal_migration.specs.Renumbering.{AreAllIn, moved_entry, moved_entries, moved_event}
 use Rattle.journal_migration.specs.declared.asking.Remade.TheVariants as remade
@@ -112,8 +109,7 @@ module _ {D : Type 0} (past : D → Option Past) (faults : D → ℕ) (old new :
 
   pub read_on : AreBooksOf old new after → past behind.disk ≡ past reader.disk → reader.place < 2 ^ 64 → IsCarried old new event status before after carried.Same → IsReadOn past faults old new reader after (Ok behind)
   read_on books_of same within again =
-      let further = found.2 in
-      (
+      let further = found.2 in (
         record {
           whole = record {
             books_of = books_of;

@@ -1,15 +1,14 @@
 -- What an entry asks of users: its own change; and for the new users the change with their numbers.
-use Rattle.std.proofs.Common.{◌≡◌, ℕ, ◌<◌, true, List, [], ◌∷◌, length, map, Option, Some, None, refl, sym, ◌∙◌, ap, arith}
+use Rattle.std.proofs.Common.{◌≡◌, ℕ, ◌<◌, true, List, length, Some, None, sym, ap, arith}
 use Rattle.std.specs.Prelude.{option_and_then}
 use Rattle.std.proofs.lemmas.List.{length-map}
 use Rattle.cal_model.specs.declared.request.Content.TheVariants as content
-use Rattle.cal_model.specs.declared.request.Event.{Event}
 use Rattle.cal_model.specs.declared.request.Method.TheVariants as method
 use Rattle.cal_model.specs.declared.path.Path.TheVariants as path
 use Rattle.cal_model.specs.declared.request.Request.{Request}
 use Rattle.cal_model.specs.History.Journal.{Entry, asked, request_for}
 use Rattle.cal_model.specs.State.Changes.{Change, put, delete_object, delete_calendar, make, patch, acl, change_of, change_of_object, change_of_calendar}
-use Rattle.cal_model.specs.State.ServerState.{Directory, directory_of, user_number, user_name}
+use Rattle.cal_model.specs.State.ServerState.{directory_of, user_number, user_name}
 use Rattle.cal_model.specs.State.UserNames.{AreToldApart}
 use Rattle.cal_model.specs.Users.UsersFile.{User, Users}
 use Rattle.cal_keeper.specs.Files.Payloads.{home_of}

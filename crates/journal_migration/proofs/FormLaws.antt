@@ -1,6 +1,6 @@
 -- An entry in the form is in the form for the new users, and has a payload of the same length.
-use Rattle.std.proofs.Common.{◌≡◌, ℕ, suc, ◌+◌, ◌<◌, ◌≤◌, List, [], ◌∷◌, ◌++◌, length, map, refl, sym, ◌∙◌, ap, subst, arith, length-append}
-use Rattle.std.specs.Prelude.{All, flat_map}
+use Rattle.std.proofs.Common.{◌≡◌, ℕ, suc, ◌+◌, ◌<◌, ◌≤◌, List, [], ◌∷◌, length, map, refl, sym, ◌∙◌, ap, subst, length-append}
+use Rattle.std.specs.Prelude.{flat_map}
 use Rattle.std.specs.List.{AllByRecursion}
 use Rattle.std.proofs.lemmas.List.{length-map}
 use Rattle.std.proofs.lemmas.List.Elements.{All-map}
@@ -11,11 +11,11 @@ use Rattle.cal_model.specs.Bodies.AclBodies.{grant_limit}
 use Rattle.cal_model.specs.History.Journal.{Entry}
 use Rattle.cal_model.specs.State.Changes.{Change, put, delete_object, delete_calendar, make, patch, acl}
 use Rattle.cal_model.specs.Users.UsersFile.{Users}
-use Rattle.cal_keeper.specs.Files.Payloads.{home_of, calendar_of, shared_text, own_text, grant_text, grants_text, payload_of, IsName, IsKnown, GrantHasForm, ChangeHasForm, HasForm}
+use Rattle.cal_keeper.specs.Files.Payloads.{home_of, calendar_of, shared_text, own_text, grant_text, payload_of, IsName, IsKnown, GrantHasForm, ChangeHasForm, HasForm}
 use Rattle.cal_keeper.specs.Files.RecordForm.{payload_limit}
-use Rattle.cal_keeper.specs.Files.Standing.{recorded, IsRecorded}
+use Rattle.cal_keeper.specs.Files.Standing.{IsRecorded}
 use Rattle.cal_keeper.specs.Principals.{counts_of}
-use Rattle.journal_migration.specs.Renumbering.{AreAllIn, moved_user, moved_who, moved_grant, moved_change, moved_entry, moved_entries}
+use Rattle.journal_migration.specs.Renumbering.{AreAllIn, moved_who, moved_grant, moved_change, moved_entry, moved_entries}
 use Rattle.journal_migration.proofs.NameLaws.{moved_within, group_within}
 use Rattle.journal_migration.proofs.StateLaws.{moved_home_of}
 

@@ -1,19 +1,17 @@
 -- A carrying ends as its reading or its writing does.
-use Rattle.std.proofs.Common.{◌≡◌, inl, inr, ℕ, ◌<◌, ◌⊎◌, List, [], ◌∷◌, length, Option, Some, None, Ok, Err, Result, IfSome, refl, sym, ◌∙◌, ap, subst}
-use Rattle.std.specs.Prelude.{option_map}
+use Rattle.std.proofs.Common.{◌≡◌, inl, inr, ℕ, ◌<◌, ◌⊎◌, List, [], ◌∷◌, length, Option, Some, None, Ok, Err, IfSome, sym, subst}
 use Rattle.std.specs.List.{AllByRecursion}
-use Rattle.cal_base.specs.World.Outside.{Rose}
 use Rattle.cal_model.specs.History.Journal.{Entry, IsLegal}
 use Rattle.cal_model.specs.Serving.ServingLaws.{AcceptedHasItsEffect}
 use Rattle.cal_model.specs.State.ServerState.{directory_of}
 use Rattle.cal_model.specs.State.UserNames.{AreToldApart}
 use Rattle.cal_model.specs.Users.UsersFile.{Users}
-use Rattle.cal_keeper.specs.Disks.CrashModel.{Past, reading, LeavesOnly}
+use Rattle.cal_keeper.specs.Disks.CrashModel.{Past, reading}
 use Rattle.cal_keeper.specs.Files.Drafts.{IsNoneOrWhole as IsNoneOrAll}
 use Rattle.cal_keeper.specs.Files.Payloads.{home_of}
 use Rattle.cal_keeper.specs.Files.Standing.{IsRecorded, StandsFor}
 use Rattle.cal_book.specs.Cores.{directory_in}
-use Rattle.journal_migration.specs.Carrying.{AreWhole, IsReadWhole, IsReadFrom}
+use Rattle.journal_migration.specs.Carrying.{AreWhole, IsReadFrom}
 use Rattle.journal_migration.specs.Migrations.{IsHistoryOfBoth, IsMigrated, IsWriting}
 use Rattle.journal_migration.specs.Renumbering.{AreAllIn, moved_entries}
 use Rattle.journal_migration.specs.Stops.{IsNoneOrWhole, LeavesNoneOrWhole}

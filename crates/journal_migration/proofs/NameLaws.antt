@@ -1,12 +1,12 @@
 -- Numbers that are mapped by names: who is found by a name has it, and no two old users have one number.
-use Rattle.std.proofs.Common.{◌≡◌, ◌≢◌, ℕ, ◌<◌, true, List, [], length, map, get_or, Option, Some, None, refl, sym, ◌∙◌, ap, subst, arith}
-use Rattle.std.specs.Prelude.{bytes_eq, position, slice_get, unwrap_or, IsSome, option_map}
+use Rattle.std.proofs.Common.{◌≡◌, ◌≢◌, ℕ, ◌<◌, List, [], length, get_or, Option, Some, None, refl, sym, ◌∙◌, ap, arith}
+use Rattle.std.specs.Prelude.{bytes_eq, position, slice_get, unwrap_or, IsSome}
 use Rattle.std.proofs.lemmas.List.{length-map}
 use Rattle.std.proofs.lemmas.List.Quantifiers.{position-Some}
 use Rattle.std.proofs.lemmas.Option.{slice_get-get_or}
 use Rattle.std.proofs.lemmas.Slice.Eq.{bytes_eq-Decides}
 use Rattle.std.proofs.lemmas.Bool.{false≢true}
-use Rattle.cal_model.specs.State.ServerState.{Directory, directory_of, user_number, user_name, group_number, group_name}
+use Rattle.cal_model.specs.State.ServerState.{directory_of, user_number, user_name, group_number, group_name}
 use Rattle.cal_model.specs.State.UserNames.{AreToldApart}
 use Rattle.cal_model.specs.Users.UsersFile.{User, Group, Users}
 use Rattle.journal_migration.specs.Renumbering.{AreAllIn, moved_user, moved_group}

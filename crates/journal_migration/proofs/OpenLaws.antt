@@ -11,7 +11,7 @@ use Rattle.cal_keeper.specs.Files.Opening.{IsNoJournal, IsOfOthers, StandsForNon
 use Rattle.cal_keeper.specs.Files.Standing.{IsRecorded, IsRead, StandsFor}
 use Rattle.cal_keeper.specs.Keepers.{ReaderState}
 use Rattle.cal_keeper.specs.Principals.{counts_of}
-use Rattle.journal_migration.specs.Carrying.{AreWhole, AreNewBooks, IsReadInto, IsReadWhole, IsReadAs, IsReadFrom}
+use Rattle.journal_migration.specs.Carrying.{AreNewBooks, IsReadInto, IsReadWhole, IsReadAs, IsReadFrom}
 use Rattle.journal_migration.specs.Migrations.{IsNoHistory, EndsBadly, IsRefusedAt, IsRefused, IsMismatch, IsDeclined}
 use Rattle.journal_migration.specs.Renumbering.{moved_entries}
 use Rattle.journal_migration.specs.declared.carrying.Books.{Books}

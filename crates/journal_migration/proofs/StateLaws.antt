@@ -1,17 +1,16 @@
 -- A legal journal of old users and the same of new ones lead to states that have the same homes.
-use Rattle.std.proofs.Common.{◌≡◌, ◌≢◌, inl, inr, ℕ, false, ◌<◌, ◌≤◌, ◌⊎◌, List, [], ◌∷◌, length, map, get_or, Option, Some, None, refl, sym, ◌∙◌, ap, subst, arith}
-use Rattle.std.specs.Prelude.{slice_get, slice_set, option_map, bytes_eq}
+use Rattle.std.proofs.Common.{◌≡◌, ◌≢◌, inl, inr, ℕ, false, ◌<◌, ◌≤◌, ◌⊎◌, List, [], ◌∷◌, length, Option, Some, None, refl, sym, ◌∙◌, ap, subst, arith}
+use Rattle.std.specs.Prelude.{slice_get, slice_set, option_map}
 use Rattle.std.specs.List.{AllByRecursion}
 use Rattle.std.proofs.lemmas.Bool.{cases_lt, cases_eq}
 use Rattle.std.proofs.lemmas.List.{length-map, length-set, get_or-set_same, get_or-set_other}
 use Rattle.std.proofs.lemmas.Option.{slice_get-get_or, slice_get_past, slice_get_within, slice_get-map}
-use Rattle.cal_model.specs.declared.request.Event.{Event}
 use Rattle.cal_model.specs.History.Journal.{Entry, asked, request_for, replay, replay_from, IsAcceptedAt, IsLegal, IsLegalFrom}
 use Rattle.cal_model.specs.Serving.EventReplies.{state_after}
 use Rattle.cal_model.specs.Serving.Outcomes.{is_reading}
 use Rattle.cal_model.specs.Serving.ServingLaws.{AcceptedHasItsEffect}
 use Rattle.cal_model.specs.State.Changes.{Change, put, delete_object, delete_calendar, make, patch, acl, effect}
-use Rattle.cal_model.specs.State.ServerState.{Directory, Home, ServerState, directory_of, user_number, user_name, home_at, with_home, opening_state, first_home}
+use Rattle.cal_model.specs.State.ServerState.{Home, ServerState, directory_of, user_number, user_name, home_at, with_home, opening_state, first_home}
 use Rattle.cal_model.specs.State.UserNames.{AreToldApart}
 use Rattle.cal_model.specs.Users.UsersFile.{User, Users}
 use Rattle.journal_migration.specs.Renumbering.{AreAllIn, moved_user, moved_home, moved_change, moved_entry, moved_entries}

@@ -1,19 +1,17 @@
 -- The entries of a book are written into a draft, one after another.
-use Rattle.std.proofs.Common.{◌≡◌, inl, inr, ℕ, ◌+◌, ◌<◌, ◌≤◌, ◌⊎◌, Bool, true, false, List, [], ◌∷◌, ◌++◌, length, take, get_or, slice_get, Option, Some, None, Result, Ok, Err, IfSome, refl, sym, ◌∙◌, ap, subst, arith}
-use Rattle.std.specs.Prelude.{not, is_ok, is_err, option_map, pos, IsTrue, zero, suc}
+use Rattle.std.proofs.Common.{◌≡◌, inl, inr, ℕ, ◌+◌, ◌<◌, ◌≤◌, ◌⊎◌, Bool, true, false, List, [], ◌∷◌, ◌++◌, length, take, get_or, slice_get, Option, Some, None, Result, Ok, Err, IfSome, refl, sym, ◌∙◌, ap, subst}
+use Rattle.std.specs.Prelude.{not, is_ok, is_err, pos, zero, suc}
 use Rattle.std.specs.List.{AllByRecursion}
 use Rattle.std.proofs.lemmas.Option.{slice_get-get_or}
-use Rattle.std.proofs.lemmas.List.{take_more, take_all}
-use Rattle.cal_base.specs.World.Outside.{Rose}
+use Rattle.std.proofs.lemmas.List.{take_more}
 use Rattle.cal_model.specs.History.Journal.{Entry}
 use Rattle.cal_model.specs.State.Changes.{delete_calendar}
 use Rattle.cal_model.specs.Users.UsersFile.{Users}
-use Rattle.cal_keeper.specs.declared.draft.Finished.TheVariants as finish
 use Rattle.cal_keeper.specs.declared.principals.PrincipalCounts.{PrincipalCounts}
-use Rattle.cal_keeper.specs.Disks.CrashModel.{Past, LeftSince, moment, LeavesOnly}
+use Rattle.cal_keeper.specs.Disks.CrashModel.{Past, LeavesOnly}
 use Rattle.cal_keeper.specs.Files.Creating.{HasLength}
 use Rattle.cal_keeper.specs.Files.DraftLaws.{DraftsAreNoJournals, DraftsGoOn, DraftsAreFinished}
-use Rattle.cal_keeper.specs.Files.Drafts.{IsDraftOf, BeginsTold, DraftsEntry, DraftsTold, DraftsTo, IsNoneOrWhole, FinishesTold, IsFinished}
+use Rattle.cal_keeper.specs.Files.Drafts.{IsDraftOf, BeginsTold, DraftsTold, DraftsTo, IsNoneOrWhole, FinishesTold}
 use Rattle.cal_keeper.specs.Files.Opening.{IsNoJournal}
 use Rattle.cal_keeper.specs.Files.Payloads.{HasForm}
 use Rattle.cal_keeper.specs.Files.Standing.{recorded, IsRecorded}
@@ -79,8 +77,7 @@ module _ {D : Type 0} (past : D → Option Past) (users : Users) where
         → (q : Past) × (past new.disk ≡ Some q) × LeavesOnly IsNoJournal first q × (went_through ≡ true → IsDraftOf users (entries ++ recorded entry ∷ []) new.place q)
     gone_on went_through first drafts p is since =
         let told : DraftsTold users entry old.place new.place went_through (Some p) (past new.disk) =
-        subst (λ (o : Option Past). DraftsTold users entry old.place new.place went_through o (past new.disk)) is (drafts users (sym so_far.principals)) in
-        (
+        subst (λ (o : Option Past). DraftsTold users entry old.place new.place went_through o (past new.disk)) is (drafts users (sym so_far.principals)) in (
           told.0,
           told.1,
           going_on first p told.0 since.1 (told.2.any_moment entries since.0),
@@ -133,8 +130,7 @@ module _ {D : Type 0} (past : D → Option Past) (users : Users) where
     sealed : (went_through : Bool) (first : Past) → ((u : Users) → FinishesTold u draft.place went_through (past draft.disk) (past left)) → (p : Past) → past draft.disk ≡ Some p → IsDraftSince users entries draft.place first p
         → (q : Past) × (past left ≡ Some q) × LeavesOnly (IsNoneOrWhole users entries) first q × (went_through ≡ true → IsKeptSomewhere users entries q)
     sealed went_through first finishes p is since =
-        let told : FinishesTold users draft.place went_through (Some p) (past left) = subst (λ (o : Option Past). FinishesTold users draft.place went_through o (past left)) is (finishes users) in
-        (
+        let told : FinishesTold users draft.place went_through (Some p) (past left) = subst (λ (o : Option Past). FinishesTold users draft.place went_through o (past left)) is (finishes users) in (
           told.0,
           told.1,
           finished users entries first p told.0 since.1 (told.2.any_moment entries since.0),

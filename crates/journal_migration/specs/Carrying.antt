@@ -1,15 +1,13 @@
 -- The steps in which a journal is carried over: what comes of an event that is asked of a book again, of one that is asked of both, and of all of them.
 -- Given: as in Migrations. The public contracts cite none of it.
-use Rattle.std.specs.Prelude.{◌≡◌, ℕ, ◌<◌, ◌^◌, true, false, ◌==◌, if◌then◌else◌, [], length, Option, Some, None, IfSome, Result, Ok, Err, option_map}
+use Rattle.std.specs.Prelude.{◌≡◌, ℕ, ◌<◌, ◌^◌, true, false, ◌==◌, if◌then◌else◌, [], Option, Some, None, IfSome, Result, Ok, Err, option_map}
 use Rattle.std.specs.List.{AllByRecursion}
 use Rattle.cal_base.specs.World.Outside.{Rose}
 use Rattle.cal_model.specs.declared.request.Event.{Event}
-use Rattle.cal_model.specs.History.Journal.{Entry, IsLegal}
+use Rattle.cal_model.specs.History.Journal.{Entry}
 use Rattle.cal_model.specs.Serving.Outcomes.{Outcome, outcome}
-use Rattle.cal_model.specs.State.ServerState.{directory_of}
 use Rattle.cal_model.specs.Users.UsersFile.{Users}
 use Rattle.cal_keeper.specs.Disks.CrashModel.{Past, reading, synced}
-use Rattle.cal_keeper.specs.Files.NextEntries.{IsEventOf}
 use Rattle.cal_keeper.specs.Files.Standing.{IsRecorded, IsRead, StandsFor}
 use Rattle.cal_keeper.specs.Keepers.{ReaderState}
 use Rattle.cal_keeper.specs.Principals.{counts_of}

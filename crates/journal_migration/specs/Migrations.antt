@@ -1,7 +1,7 @@
 -- How the carrying of a journal over to other users ended.
 -- Given: the old and the new users, and the pasts of the old file and of the new one, before and after. Read what a file stands for in `Files` of the crate that keeps it.
 -- Where a disk tells no past nothing is said of octets, and all else holds.
-use Rattle.std.specs.Prelude.{◌≡◌, ◌⊎◌, ◌<◌, ◌≢◌, ℕ, false, List, [], ◌∷◌, ◌++◌, length, drop, Option, Some, None, IfSome, option_map}
+use Rattle.std.specs.Prelude.{◌≡◌, ◌⊎◌, ◌<◌, ◌≢◌, ℕ, false, List, [], ◌∷◌, ◌++◌, length, drop, Option, None, IfSome, option_map}
 use Rattle.std.specs.List.{AllByRecursion}
 use Rattle.cal_base.specs.World.Outside.{Rose}
 use Rattle.cal_model.specs.History.Journal.{Entry, asked, IsLegal}

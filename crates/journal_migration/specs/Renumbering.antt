@@ -7,7 +7,6 @@ use Rattle.cal_model.specs.declared.privilege.Who.TheVariants.{Principal, Group}
 use Rattle.cal_model.specs.declared.request.Content.{Content}
 use Rattle.cal_model.specs.declared.request.Content.TheVariants as content
 use Rattle.cal_model.specs.declared.request.Event.{Event}
-use Rattle.cal_model.specs.declared.request.Request.{Request}
 use Rattle.cal_model.specs.History.Journal.{Entry}
 use Rattle.cal_model.specs.State.Changes.{Change, put, delete_object, delete_calendar, make, patch, acl}
 use Rattle.cal_model.specs.State.ServerState.{Calendar, Home, directory_of, user_number, user_name, group_number, group_name}

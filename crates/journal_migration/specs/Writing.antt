@@ -1,6 +1,6 @@
 -- The steps in which the entries of a book are written into a new file.
 -- Given: the users, the entries, and the draft or the disk before and after. The public contracts cite none of it.
-use Rattle.std.specs.Prelude.{◌≡◌, ◌≢◌, ◌+◌, ◌⊎◌, ℕ, Bool, true, false, not, List, [], Option, Some, None, IfSome}
+use Rattle.std.specs.Prelude.{◌≡◌, ◌≢◌, ℕ, Bool, true, false, not, List, [], Option, Some, None, IfSome}
 use Rattle.cal_base.specs.World.Outside.{Rose}
 use Rattle.cal_model.specs.History.Journal.{Entry}
 use Rattle.cal_model.specs.Users.UsersFile.{Users}
@@ -8,7 +8,6 @@ use Rattle.cal_keeper.specs.Disks.CrashModel.{Past, LeavesOnly}
 use Rattle.cal_keeper.specs.Files.Creating.{HasLength}
 use Rattle.cal_keeper.specs.Files.Drafts.{IsDraftOf, DraftsTo, IsNoneOrWhole}
 use Rattle.cal_keeper.specs.Files.Opening.{IsNoJournal}
-use Rattle.cal_keeper.specs.Files.Standing.{IsKeptFor}
 use Rattle.cal_keeper.specs.Keepers.{DraftState}
 use Rattle.cal_keeper.specs.Principals.{counts_of}
 use Rattle.journal_migration.specs.Migrations.{IsKeptSomewhere}

@@ -22,7 +22,9 @@ fn moved_group(old_users: &Users, new_users: &Users, group: u32) -> u32
     requires { group < length old_users.now.groups }
     ensures { result ≡ moved_group old_users.now new_users.now group }
 {
-    new_users.find_group(old_users.group_name(group)).unwrap_or(0)
+    new_users
+        .find_group(old_users.group_name(group))
+        .unwrap_or(0)
 }
 
 /// Whom a grant is for, with the number that is new.

@@ -15,12 +15,7 @@ use privileges::Users;
 use std::alloc::Global;
 
 /// Writes the entries of a book into a new file of these users.
-pub(crate) fn write_new<D: Disk>(
-    alloc: Global,
-    book: &Book,
-    users: &Users,
-    to: D,
-) -> (Migrated, D)
+pub(crate) fn write_new<D: Disk>(alloc: Global, book: &Book, users: &Users, to: D) -> (Migrated, D)
     requires { AllByRecursion (IsRecorded users.now) book.now.work.journal }
     ensures written { IsWrittenAs D.past D.faults users.now book.now.work.journal to result.1 result.0 }
     ensures never_falls { D.faults to ≤ D.faults result.1 }

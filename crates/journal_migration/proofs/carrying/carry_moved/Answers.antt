@@ -16,8 +16,7 @@ moved_event-requires-clause-grants g c =
 
 pub ask_moved-end-requires-clause-recorded : goal.ask_moved-end-requires-clause-recorded
 ask_moved-end-requires-clause-recorded g c =
-    let entry = moved_entry c.args.old_users.now c.args.new_users.now c.requires.recorded.0 in
-    (
+    let entry = moved_entry c.args.old_users.now c.args.new_users.now c.requires.recorded.0 in (
       entry,
       subst (λ (e : Event). IsEventOf c.args.new_users.now e c.args.status entry) (sym c.in-Ok.ensures)
           (event_moved c.args.old_users.now c.args.new_users.now c.requires.all c.args.event c.args.status c.requires.recorded.0 c.requires.recorded.1),

@@ -29,8 +29,7 @@ returns-in-Err-clause-written g c =
     let users = c.args.users.now in
     let entries = c.args.book.now.work.journal in
     let kept = c.entries.invariant in
-    let within : c.entries.number < length entries = omega (arith, c.entries-test.true, c.entries-number-end.ensures.entries) in
-    (
+    let within : c.entries.number < length entries = omega (arith, c.entries-test.true, c.entries-number-end.ensures.entries) in (
       subst (λ left. Since (LeavesOnly (IsNoneOrWhole users entries)) (g.D.Disk.past c.args.begun.disk) (g.D.Disk.past left)) (sym c.into_disk.ensures)
           (failed_at g.D.Disk.past users c.file_laws.ensures.going_on entries c.requires.recorded c.args.begun c.entries.draft c.write_entry.new.draft c.entries.number within kept.so_far _ refl c.in-Err.ensures.written),
       subst (λ left. Rose (g.D.Disk.faults c.args.begun.disk) (g.D.Disk.faults left)) (sym c.into_disk.ensures)
@@ -50,8 +49,7 @@ returns-in-Failed-clause-written g c =
     let entries = c.args.book.now.work.journal in
     let all : length entries ≤ c.entries.number = omega (arith, c.entries-test.false, c.entries-number-end.ensures.entries) in
     let so_far : IsDraftSoFar g.D.Disk.past c.args.users.now entries c.args.begun c.entries.draft =
-    subst (λ (es : List Entry). IsDraftSoFar g.D.Disk.past c.args.users.now es c.args.begun c.entries.draft) (take_all c.entries.number entries all) c.entries.invariant.so_far in
-    (
+    subst (λ (es : List Entry). IsDraftSoFar g.D.Disk.past c.args.users.now es c.args.begun c.entries.draft) (take_all c.entries.number entries all) c.entries.invariant.so_far in (
       unsealed g.D.Disk.past c.args.users.now c.file_laws.ensures.finished entries c.args.begun c.entries.draft so_far c.in-Failed.to c.in-Failed.ensures.finished.0,
       rose_since (g.D.Disk.faults c.args.begun.disk) (g.D.Disk.faults c.entries.draft.disk) (g.D.Disk.faults c.in-Failed.to) c.entries.invariant.never_falls c.in-Failed.ensures.never_falls c.in-Failed.ensures.finished.1,
     )

@@ -1,4 +1,4 @@
-use Rattle.std.proofs.Common.{sym, ◌∙◌}
+use Rattle.std.proofs.Common.{sym}
 use Rattle.cal_journal.specs.KeptEntries.{kept_entry}
 use Rattle.journal_migration.proofs.WriteLaws.{form_at, written, none_written}
 use Rattle.journal_migration.proofs.writing.write_entry.Goals as goal
