@@ -7,6 +7,7 @@ pub mod LoadJobs
 pub mod LoadSessions
 pub mod LoadSums
 pub mod LoadTallies
+pub mod MigrateEnds
 pub mod ServeEnds
 pub mod Shares
 pub mod SlotEnds

@@ -14,6 +14,9 @@ mod kept_tests;
 mod load;
 mod load_joins;
 mod load_sessions;
+mod migrate;
+#[cfg(test)]
+mod migrate_tests;
 mod serve;
 mod sessions;
 mod slot;
@@ -26,15 +29,16 @@ use crate::cause::print_cause;
 use crate::kept_script::run_kept_script;
 use crate::kept_serve::run_kept_serve;
 use crate::load::run_load;
+use crate::migrate::{MigrateEnd, Side, run_migrate};
 use crate::serve::run_serve;
 use crate::slot::run_slot;
 use crate::telling_door::TellingDoor;
-use cal_base::{List, NoMemory, StdFiles, StdSink, StdSource, TcpDoor, Word};
+use cal_base::{List, NoMemory, Octets, StdFiles, StdSink, StdSource, TcpDoor, Word};
 use cal_keeper::FileDisk;
 use cal_script::{ScriptEnd, run_script};
 use command_words::{
-    HELP, SCRIPT_HELP, VERSION, check_text, expand_text, journal_path, load_text, serve_text,
-    slot_text,
+    HELP, MigrateWords, SCRIPT_HELP, VERSION, check_text, expand_text, journal_path, load_text, migrate_text,
+    read_migrate, serve_text, slot_text,
 };
 use file_commands::{ToolEnd, run_check, run_expand};
 use std::process::ExitCode;
@@ -62,6 +66,9 @@ fn main(rt: HostRuntime) -> ExitCode {
     }
     if word_at(&words, 0) == "slot" {
         return ended(&rt, "slot", end_of_slot(&rt, &words));
+    }
+    if word_at(&words, 0) == "migrate" {
+        return ended_migrate(&rt, &words);
     }
     if word_at(&words, 0) == "expand" {
         let mut files = StdFiles::new(&rt);
@@ -131,6 +138,88 @@ fn end_of_slot(rt: &HostRuntime, words: &List<Word>) -> ScriptEnd {
     end
 }
 
+/// Runs the command `migrate` between the two journal files that its words name, if they are taken, prints
+/// its line, and gives its status to the system.
+fn ended_migrate(rt: &HostRuntime, words: &List<Word>) -> ExitCode {
+    let alloc = rt.alloc();
+    let said = match read_migrate(alloc, words.as_slice()) {
+        Ok(said) => said,
+        Err(_) => NO_PATHS,
+    };
+    let Ok(journal) = Word::of(alloc, said.journal) else {
+        return ended(rt, "migrate", WITHOUT_MEMORY);
+    };
+    let Ok(to) = Word::of(alloc, said.to) else {
+        return ended(rt, "migrate", WITHOUT_MEMORY);
+    };
+    let mut files = StdFiles::new(rt);
+    let from = FileDisk::new(rt, alloc, journal);
+    let to = FileDisk::new(rt, alloc, to);
+    let (end, _from, _to) = run_migrate(alloc, words, &mut files, from, to);
+    let _ = report_migrate(rt, &said, &end);
+    ExitCode::from(end.status())
+}
+
+/// What words say that are not taken.
+const NO_PATHS: MigrateWords<'static> = MigrateWords {
+    users: "",
+    journal: "",
+    new_users: "",
+    to: "",
+};
+
+/// Prints the line of an end of `migrate`, which begins with the path of the file that it tells of.
+fn report_migrate(rt: &HostRuntime, said: &MigrateWords<'_>, end: &MigrateEnd) -> io::Result<()> {
+    match end {
+        MigrateEnd::Done => Ok(()),
+        MigrateEnd::Words => eprintln!(rt; "usage: caldav_server migrate"),
+        MigrateEnd::Line(side, place) => {
+            let path = users_file(said, *side);
+            eprintln!(rt; "{path}: bad line at octet {place}")
+        }
+        MigrateEnd::Unread(side) => {
+            let path = users_file(said, *side);
+            eprintln!(rt; "{path}: input fault")
+        }
+        MigrateEnd::UserGone(name) => {
+            let name = name_text(name);
+            eprintln!(rt; "{}: no user {name}", said.new_users)
+        }
+        MigrateEnd::GroupGone(name) => {
+            let name = name_text(name);
+            eprintln!(rt; "{}: no group {name}", said.new_users)
+        }
+        MigrateEnd::Refused(place) => {
+            eprintln!(rt; "{}: refused at octet {place}", said.journal)
+        }
+        MigrateEnd::Declined(place) => {
+            eprintln!(rt; "{}: change at octet {place} is not accepted for the new users", said.journal)
+        }
+        MigrateEnd::NotEmpty(octets) => {
+            eprintln!(rt; "{}: has {octets} octets already", said.to)
+        }
+        MigrateEnd::Fault(Side::Old) => eprintln!(rt; "{}: journal fault", said.journal),
+        MigrateEnd::Fault(Side::New) => eprintln!(rt; "{}: journal fault", said.to),
+        MigrateEnd::NoMemory => eprintln!(rt; "out of memory"),
+    }
+}
+
+/// The path of one of the users files.
+fn users_file<'a>(said: &MigrateWords<'a>, side: Side) -> &'a str {
+    match side {
+        Side::Old => said.users,
+        Side::New => said.new_users,
+    }
+}
+
+/// A name of a users file, which is of ASCII.
+fn name_text(name: &Octets) -> &str {
+    match str::from_utf8(name.as_slice()) {
+        Ok(text) => text,
+        Err(_) => "",
+    }
+}
+
 /// The words of the command `script`, as its usage shows them.
 const USAGE_OF_SCRIPT: &str = "script --users FILE";
 
@@ -184,6 +273,12 @@ fn is_answered(rt: &HostRuntime, words: &List<Word>) -> bool {
     }
     if first == "slot" {
         if let Some(text) = slot_text(rt.alloc(), words.as_slice()) {
+            let _ = text.print(rt);
+            return true;
+        }
+    }
+    if first == "migrate" {
+        if let Some(text) = migrate_text(rt.alloc(), words.as_slice()) {
             let _ = text.print(rt);
             return true;
         }

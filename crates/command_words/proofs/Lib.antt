@@ -3,6 +3,7 @@ mod CommandLaws
 mod ExpandWordLaws
 mod JournalLaws
 mod LoadWordLaws
+mod MigrateWordLaws
 mod Numbers
 mod RangeTexts
 mod SlotWordLaws

@@ -4,6 +4,8 @@ pub mod ExpandWords
 pub mod JournalWords
 pub mod LoadSaid
 pub mod LoadWords
+pub mod MigrateSaid
+pub mod MigrateWords
 pub mod Options
 pub mod RangeSaid
 pub mod SaidWords

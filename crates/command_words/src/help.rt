@@ -6,12 +6,13 @@ pub const HELP: &str = "A calendar server (CalDAV), whose answers are proved
 Usage: caldav_server COMMAND OPTIONS
 
 Commands:
-  serve   serves calendars to calendar programs
-  load    runs sessions and workers over memory, and prints what they did
-  script  reads a script of requests from standard input and prints the replies
-  expand  lists the instances of a calendar file in a range of time
-  check   tells whether the server would take a calendar file
-  slot    prints the times at which some calendars are all free
+  serve    serves calendars to calendar programs
+  load     runs sessions and workers over memory, and prints what they did
+  script   reads a script of requests from standard input and prints the replies
+  expand   lists the instances of a calendar file in a range of time
+  check    tells whether the server would take a calendar file
+  slot     prints the times at which some calendars are all free
+  migrate  writes a journal anew for other users
 
 Options:
   --help     prints help, also behind the name of a command

@@ -1,4 +1,4 @@
-//! The words of the commands `serve`, `load`, `expand`, `check` and `slot`, those that name a journal file,
+//! The words of the commands `serve`, `load`, `expand`, `check`, `slot` and `migrate`, those that name a journal file,
 //! and the texts of help.
 //!
 //! Given: the words behind the program's name. Gives: what their options say, or why they are not
@@ -11,6 +11,7 @@ mod file_words;
 mod help;
 mod journal_words;
 mod load_words;
+mod migrate_words;
 mod options;
 mod range_said;
 mod serve_words;
@@ -21,6 +22,7 @@ pub use expand_words::{ExpandWords, expand_text, read_expand};
 pub use help::{HELP, SCRIPT_HELP};
 pub use journal_words::{journal_path, kept_users_path};
 pub use load_words::{LoadWords, load_text, read_load};
+pub use migrate_words::{MigrateWords, migrate_text, read_migrate};
 pub use options::{Untaken, VERSION};
 pub use serve_words::{ServeWords, read_kept_serve, read_serve, serve_text};
 pub use slot_words::{SlotWords, read_slot, slot_text};

@@ -1,0 +1,10 @@
+mod NameLaws
+mod HomeLaws
+mod EntryLaws
+mod StateLaws
+mod FormLaws
+mod RemadeLaws
+mod CarryLaws
+mod OpenLaws
+mod WriteLaws
+mod MigrateLaws
