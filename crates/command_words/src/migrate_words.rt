@@ -6,7 +6,7 @@ ghost use Rattle.command_words.specs.MigrateWords as spec;
 ghost use Rattle.command_words.specs.Options.{IsShown, needed};
 
 use crate::options::{
-    Untaken, asked_text, needed_option, new_command, text_of, why_untaken, with_option,
+    Untaken, asked_text, needed_option, new_command, text_of, why_untaken, with_notes, with_option,
 };
 use cal_base::Word;
 use clap::{Arg, ArgMatches, Command, Error};
@@ -43,18 +43,11 @@ fn migrate_command<'a>(alloc: Global) -> Result<Command<'a>, AllocError>
     ensures { IfOk result (λ c. app_of c ≡ spec.migrate) }
 {
     let command = new_command(alloc, "migrate", "caldav_server migrate", ABOUT)?;
-    let command = with_option(with_notes(command), users_option(alloc))?;
+    let command = with_option(with_notes(command, NOTES), users_option(alloc))?;
     let command = with_option(command, journal_option(alloc))?;
     let command = with_option(command, new_users_option(alloc))?;
     let command = with_option(command, to_option(alloc))?;
     Ok(command)
-}
-
-/// A command whose help has an example below its options.
-fn with_notes<'a>(command: Command<'a>) -> Command<'a>
-    ensures { app_of result ≡ app_of command.entry }
-{
-    command.after_help(NOTES)
 }
 
 fn users_option<'a>(alloc: Global) -> Arg<'a>
