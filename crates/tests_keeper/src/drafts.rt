@@ -16,31 +16,17 @@ use privileges::Users;
 use std::alloc::Global;
 use std::test::Fail;
 
-/// The entry of a deletion, by the first of some users.
-fn first_deletion(alloc: Global, users: &Users) -> Result<Entry, NoMemory>
-    requires { 1 < length users.now.people }
+/// The entry of the deletion of a calendar of the first of some users, by one of the first two.
+fn deletion_by(alloc: Global, users: &Users, who: u32) -> Result<Entry, NoMemory>
+    requires two { 1 < length users.now.people }
+    requires who { who < 2 }
     ensures { IfOk result (λ entry. HasForm (counts_of users.now) (kept_entry entry)) }
 {
     let name = Octets::of(alloc, b"work".as_slice())?;
     Ok(Entry {
         session: 7,
-        who: 0,
+        who,
         moment: 1_741_500_000,
-        change: Change::DeleteCalendar(0, Arc::new(alloc, name)?),
-        status: 204,
-    })
-}
-
-/// The entry of a deletion in the home of another user.
-fn second_deletion(alloc: Global, users: &Users) -> Result<Entry, NoMemory>
-    requires { 1 < length users.now.people }
-    ensures { IfOk result (λ entry. HasForm (counts_of users.now) (kept_entry entry)) }
-{
-    let name = Octets::of(alloc, b"work".as_slice())?;
-    Ok(Entry {
-        session: 8,
-        who: 1,
-        moment: 1_741_550_000,
         change: Change::DeleteCalendar(0, Arc::new(alloc, name)?),
         status: 204,
     })
@@ -74,8 +60,8 @@ fn add_three(
     requires unbroken { draft.broken ≡ false }
 {
     let mut draft = draft;
-    let first = first_deletion(alloc, users)?;
-    let second = second_deletion(alloc, users)?;
+    let first = deletion_by(alloc, users, 0)?;
+    let second = deletion_by(alloc, users, 1)?;
     let third = deletion(alloc, users)?;
     let all = add_all(&mut draft, &first, &second, &third);
     drop((first, second, third));
@@ -134,8 +120,8 @@ fn append_three(
     requires unbroken { keeper.broken ≡ false }
 {
     let mut keeper = keeper;
-    let first = first_deletion(alloc, users)?;
-    let second = second_deletion(alloc, users)?;
+    let first = deletion_by(alloc, users, 0)?;
+    let second = deletion_by(alloc, users, 1)?;
     let third = deletion(alloc, users)?;
     let all = append_all(&mut keeper, &first, &second, &third);
     drop((first, second, third));
