@@ -7,7 +7,7 @@ The server is started as in docs/RUNNING.md, with sixteen sessions, two workers 
 data (LimitDATA= of a unit; 469,762,048 where the word is not given), in which its stacks count, 8 MB for each thread. Then
 one account asks for more than that, each time of another server:
 
-- `rows`: a free-busy-query of five centuries over as many hourly events as it takes;
+- `rows`: a free-busy-query of five centuries over as many hourly events as it takes, no two of whose instances meet;
 - `replies`: one object of 262,144 octets, named 255 times, by sixteen connections that do not read;
 - `zones`: events each in a zone of its own with 50,000 onsets, until one is refused;
 - `lines`: events of lines as small as can be, until one is refused;
@@ -103,7 +103,8 @@ def until_refused(server, text, most):
 
 def rows(server, options):
     for number in range(1, options.data // 10_000_000 if options.data else 60):
-        server.ask(put(event(*HOURLY), number))
+        start = f"DTSTART:16000101T00{number // 30 % 60:02}{number * 2 % 60:02}Z"
+        server.ask(put(event(start, "DURATION:PT1S", HOURLY[1]), number))
     return server.ask(request("REPORT", CALENDAR, f"<free-busy-query {SPACES}>{span()}</free-busy-query>".encode()))
 
 
