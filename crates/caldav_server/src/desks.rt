@@ -5,8 +5,8 @@ ghost use Rattle.cal_base.specs.World.Outside.{Rose};
 ghost use Rattle.caldav_server.specs.ThreadPasses.{Awaits, GoesOn, Grows};
 ghost use Rattle.caldav_server.specs.Shares.{RoseBy, share_of};
 
-use crate::threads::{NotServed, serve_in_threads};
 use crate::sessions::{Context, Settings};
+use crate::threads::{NotServed, serve_in_threads};
 use cal_base::{Door, NoMemory};
 use cal_book::Desk;
 use command_words::ServeWords;

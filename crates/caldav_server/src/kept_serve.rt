@@ -9,9 +9,9 @@ ghost use Rattle.caldav_server.specs.KeptRuns.{IsFileRefused};
 ghost use Rattle.caldav_server.specs.KeptServers.{IsKeptServeStatus, IsServedStatus, LeavesJournal, LeavesMore, ServedFrom, served_status};
 ghost use Rattle.caldav_server.specs.Shares.{RoseBy, share_of};
 
-use crate::threads::NotServed;
 use crate::desks::serve_desk;
 use crate::serve::without_place;
+use crate::threads::NotServed;
 use cal_base::{Arc, Door, Files, List, Word};
 use cal_keeper::Disk;
 use cal_script::{NoUsers, ScriptEnd, take_users};

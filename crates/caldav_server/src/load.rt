@@ -10,7 +10,7 @@ ghost use Rattle.caldav_server.specs.LoadSums.{IsSummed};
 ghost use Rattle.caldav_server.specs.LoadTallies.{five_lines};
 
 use crate::load_joins::{Tally, joined};
-use crate::load_sessions::{Role, Context, Job, run_jobs};
+use crate::load_sessions::{Context, Job, Role, run_jobs};
 use cal_base::{Arc, List, NoMemory, Sink, Word, write_all};
 use cal_book::Book;
 use cal_script::ScriptEnd;

@@ -152,7 +152,12 @@ fn serve_session<R: Wait>(
 {
     match requests_of(context.alloc, context.users, context.puts as u64, session) {
         Ok((octets, count)) => {
-            let mut link = MemoryLink::new(context.alloc, octets, List::new(context.alloc), 1 << 62);
+            let mut link = MemoryLink::new(
+                context.alloc,
+                octets,
+                List::new(context.alloc),
+                1 << 62,
+            );
             let mut clock = FixedClock::new(MOMENT);
             let ended = serve_connection(
                 rt,

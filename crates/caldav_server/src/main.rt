@@ -37,8 +37,8 @@ use cal_base::{List, NoMemory, Octets, StdFiles, StdSink, StdSource, TcpDoor, Wo
 use cal_keeper::FileDisk;
 use cal_script::{ScriptEnd, run_script};
 use command_words::{
-    HELP, MigrateWords, SCRIPT_HELP, VERSION, check_text, expand_text, journal_path, load_text, migrate_text,
-    read_migrate, serve_text, slot_text,
+    HELP, MigrateWords, SCRIPT_HELP, Untaken, VERSION, check_text, expand_text, journal_path,
+    load_text, migrate_text, read_migrate, serve_text, slot_text,
 };
 use file_commands::{ToolEnd, run_check, run_expand};
 use std::process::ExitCode;
@@ -144,7 +144,8 @@ fn ended_migrate(rt: &HostRuntime, words: &List<Word>) -> ExitCode {
     let alloc = rt.alloc();
     let said = match read_migrate(alloc, words.as_slice()) {
         Ok(said) => said,
-        Err(_) => NO_PATHS,
+        Err(Untaken::Words) => NO_PATHS,
+        Err(Untaken::NoMemory) => NO_PATHS,
     };
     let Ok(journal) = Word::of(alloc, said.journal) else {
         return ended(rt, "migrate", WITHOUT_MEMORY);
@@ -193,7 +194,10 @@ fn report_migrate(rt: &HostRuntime, said: &MigrateWords<'_>, end: &MigrateEnd) -
             eprintln!(rt; "{}: refused at octet {place}", said.journal)
         }
         MigrateEnd::Declined(place) => {
-            eprintln!(rt; "{}: change at octet {place} is not accepted for the new users", said.journal)
+            eprintln!(rt;
+                "{}: change at octet {place} is not accepted for the new users",
+                said.journal
+            )
         }
         MigrateEnd::NotEmpty(octets) => {
             eprintln!(rt; "{}: has {octets} octets already", said.to)

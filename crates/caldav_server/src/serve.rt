@@ -7,8 +7,8 @@ ghost use Rattle.caldav_server.specs.ServeEnds.{IsServeStatus, IsServedStatus};
 ghost use Rattle.command_words.specs.ServeWords as spec;
 ghost use Rattle.caldav_server.specs.Shares.{RoseBy, share_of};
 
-use crate::threads::NotServed;
 use crate::desks::serve_desk;
+use crate::threads::NotServed;
 use cal_base::{Arc, Door, Files, List, NoMemory, Word};
 use cal_book::Book;
 use cal_script::{NoUsers, ScriptEnd, take_users};
