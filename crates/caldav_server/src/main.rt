@@ -194,7 +194,10 @@ fn report_migrate(rt: &HostRuntime, said: &MigrateWords<'_>, end: &MigrateEnd) -
             eprintln!(rt; "{}: refused at octet {place}", said.journal)
         }
         MigrateEnd::Declined(place) => {
-            eprintln!(rt; "{}: change at octet {place} is not accepted for the new users", said.journal)
+            eprintln!(rt;
+                "{}: change at octet {place} is not accepted for the new users",
+                said.journal
+            )
         }
         MigrateEnd::NotEmpty(octets) => {
             eprintln!(rt; "{}: has {octets} octets already", said.to)

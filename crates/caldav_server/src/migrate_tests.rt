@@ -48,7 +48,8 @@ const OLD: &[u8] = b"caldavjournal 1\n\0\0\0\x29user alice\nuser bob\ngroup team
     \x01\0\0\0\x22\x02\0\0\0\x01\0\0\0\0g\xce\xb5\x02\0\xcc\0\0\0\0\x08calendar\x05a.ics\0";
 
 /// The same for the new users: alice is user 1, bob is user 3, and the team is group 1.
-const NEW: &[u8] = b"caldavjournal 1\n\0\0\0\x59user aaron\nuser alice\nuser ann\nuser bob\nuser carol\n\
+const NEW: &[u8] =
+    b"caldavjournal 1\n\0\0\0\x59user aaron\nuser alice\nuser ann\nuser bob\nuser carol\n\
     group crew aaron\ngroup team alice bob\n\
     \x01\0\0\0\xd4\x01\0\0\0\x01\0\0\0\0g\xce\xb5\0\0\xc9\0\0\0\x01\x08calendar\x05a.ics\0\0\0\xaeBEGIN:VCALENDAR\r\n\
     VERSION:2.0\r\nPRODID:-//a//EN\r\nBEGIN:VEVENT\r\nUID:busy\r\nDTSTAMP:20250101T000000Z\r\n\
@@ -109,28 +110,140 @@ type Case = (First, First, First, [&'static [u64]; 3], (u8, u64), First);
 
 const CASES: [Case; 16] = [
     // Carried over to users among whom others stand, and to the same ones.
-    (First::NewUsers, First::Old, First::Nothing, [&[], &[], &[]], (0, 0), First::New),
-    (First::OldUsers, First::Old, First::Nothing, [&[], &[], &[]], (0, 0), First::Old),
+    (
+        First::NewUsers,
+        First::Old,
+        First::Nothing,
+        [&[], &[], &[]],
+        (0, 0),
+        First::New,
+    ),
+    (
+        First::OldUsers,
+        First::Old,
+        First::Nothing,
+        [&[], &[], &[]],
+        (0, 0),
+        First::Old,
+    ),
     // A users file has a bad line, or cannot be read; then no disk is looked at.
-    (First::BadLine, First::Old, First::Nothing, [&[], &[0], &[0]], (3, 0), First::Nothing),
-    (First::NewUsers, First::Old, First::Nothing, [&[0], &[0], &[0]], (4, 0), First::Nothing),
-    (First::NewUsers, First::Old, First::Nothing, [&[1], &[0], &[0]], (4, 0), First::Nothing),
+    (
+        First::BadLine,
+        First::Old,
+        First::Nothing,
+        [&[], &[0], &[0]],
+        (3, 0),
+        First::Nothing,
+    ),
+    (
+        First::NewUsers,
+        First::Old,
+        First::Nothing,
+        [&[0], &[0], &[0]],
+        (4, 0),
+        First::Nothing,
+    ),
+    (
+        First::NewUsers,
+        First::Old,
+        First::Nothing,
+        [&[1], &[0], &[0]],
+        (4, 0),
+        First::Nothing,
+    ),
     // Somebody is gone, or a group.
-    (First::Alice, First::Old, First::Nothing, [&[], &[0], &[0]], (10, 0), First::Nothing),
-    (First::AliceAndBob, First::Old, First::Nothing, [&[], &[0], &[0]], (10, 0), First::Nothing),
+    (
+        First::Alice,
+        First::Old,
+        First::Nothing,
+        [&[], &[0], &[0]],
+        (10, 0),
+        First::Nothing,
+    ),
+    (
+        First::AliceAndBob,
+        First::Old,
+        First::Nothing,
+        [&[], &[0], &[0]],
+        (10, 0),
+        First::Nothing,
+    ),
     // The old journal is empty, is none, or is of other users.
-    (First::NewUsers, First::Nothing, First::Nothing, [&[], &[], &[0]], (9, 0), First::Nothing),
-    (First::NewUsers, First::X, First::Nothing, [&[], &[], &[0]], (9, 0), First::Nothing),
-    (First::NewUsers, First::OfAlice, First::Nothing, [&[], &[], &[0]], (9, 11), First::Nothing),
+    (
+        First::NewUsers,
+        First::Nothing,
+        First::Nothing,
+        [&[], &[], &[0]],
+        (9, 0),
+        First::Nothing,
+    ),
+    (
+        First::NewUsers,
+        First::X,
+        First::Nothing,
+        [&[], &[], &[0]],
+        (9, 0),
+        First::Nothing,
+    ),
+    (
+        First::NewUsers,
+        First::OfAlice,
+        First::Nothing,
+        [&[], &[], &[0]],
+        (9, 11),
+        First::Nothing,
+    ),
     // bob has left the team, and his deletion is not accepted any more: nothing is written.
-    (First::LessUsers, First::Old, First::Nothing, [&[], &[], &[0]], (9, 330), First::Nothing),
+    (
+        First::LessUsers,
+        First::Old,
+        First::Nothing,
+        [&[], &[], &[0]],
+        (9, 330),
+        First::Nothing,
+    ),
     // The new journal is there already.
-    (First::NewUsers, First::Old, First::X, [&[], &[], &[]], (12, 1), First::X),
+    (
+        First::NewUsers,
+        First::Old,
+        First::X,
+        [&[], &[], &[]],
+        (12, 1),
+        First::X,
+    ),
     // A call of a disk fails.
-    (First::NewUsers, First::Old, First::Nothing, [&[], &[0], &[]], (8, 0), First::Nothing),
-    (First::NewUsers, First::Old, First::Nothing, [&[], &[5], &[]], (8, 0), First::Nothing),
-    (First::NewUsers, First::Old, First::Nothing, [&[], &[], &[0]], (8, 0), First::Nothing),
-    (First::NewUsers, First::Old, First::Nothing, [&[], &[], &[1]], (8, 0), First::Nothing),
+    (
+        First::NewUsers,
+        First::Old,
+        First::Nothing,
+        [&[], &[0], &[]],
+        (8, 0),
+        First::Nothing,
+    ),
+    (
+        First::NewUsers,
+        First::Old,
+        First::Nothing,
+        [&[], &[5], &[]],
+        (8, 0),
+        First::Nothing,
+    ),
+    (
+        First::NewUsers,
+        First::Old,
+        First::Nothing,
+        [&[], &[], &[0]],
+        (8, 0),
+        First::Nothing,
+    ),
+    (
+        First::NewUsers,
+        First::Old,
+        First::Nothing,
+        [&[], &[], &[1]],
+        (8, 0),
+        First::Nothing,
+    ),
 ];
 
 /// The words as the program has them.

@@ -73,7 +73,12 @@ fn new_users_option<'a>(alloc: Global) -> Arg<'a>
     ensures rule { rule_of result ≡ needed (codes "new-users") }
     ensures local { result.global ≡ false }
 {
-    needed_option(alloc, "new-users", "FILE", "The users file of the new journal")
+    needed_option(
+        alloc,
+        "new-users",
+        "FILE",
+        "The users file of the new journal",
+    )
 }
 
 fn to_option<'a>(alloc: Global) -> Arg<'a>
