@@ -14,6 +14,7 @@ mod LoadPrinted
 mod LoadReplies
 mod LoadSums
 mod LoadWhole
+mod MigrateEndings
 mod SessionPasses
 mod Sharing
 mod SlotAnswers

@@ -99,6 +99,11 @@ told_of old migrated.NotBegun = Fault New
 told_of old migrated.NewFailed = Fault New
 told_of old migrated.NoMemory = NoMemory
 
+-- somebody is gone
+abbrev pub IsGone : Migrated → Type 0
+IsGone (migrated.Gone principal) = Unit {0}
+IsGone other = ⊥
+
 -- who is gone is one of the old users
 abbrev pub IsGoneOf : KnownUsers → Migrated → Type 0
 IsGoneOf old (migrated.Gone (User user)) = user < length old.people

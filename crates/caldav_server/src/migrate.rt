@@ -1,5 +1,5 @@
 //! The command `migrate`.
-ghost use Rattle.std.specs.Prelude.{◌≡◌, ◌≤◌, ◌⊎◌, IfOk, IfSome, IsErrOf, OnErr};
+ghost use Rattle.std.specs.Prelude.{◌≡◌, ◌≤◌, ◌⊎◌, IfErr, IfOk, IfSome};
 ghost use Rattle.cal_base.specs.World.Outside.{Rose};
 ghost use Rattle.cal_model.specs.Users.UsersFile.{Users as KnownUsers};
 ghost use Rattle.cal_keeper.specs.Files.Opening.{IsUnwritten};
@@ -139,7 +139,7 @@ fn users_of<F: Files>(
     side: Side,
 ) -> Result<Arc<Users>, MigrateEnd>
     ensures taken { IfOk result (λ users. IfSome (F.content files.old path.now) (λ octets. AreUsersOf octets users)) }
-    ensures refused { OnErr result (spec.IsNotRead (F.content files.old path.now) (F.faults files.old) (F.faults files.new) side) }
+    ensures refused { IfErr result (spec.IsNotRead (F.content files.old path.now) (F.faults files.old) (F.faults files.new) side) }
     ensures same { F.content files.new ≡ F.content files.old }
     ensures never_falls { F.faults files.old ≤ F.faults files.new }
 {
@@ -179,7 +179,7 @@ fn migrate_users<D: Disk>(
 /// that is told.
 fn told(alloc: Global, users: &Users, migrated: Migrated) -> MigrateEnd
     requires { spec.IsGoneOf users.now migrated }
-    ensures { (result ≡ MigrateEnd.NoMemory) ⊎ (result ≡ spec.told_of users.now migrated) }
+    ensures { (spec.IsGone migrated × (result ≡ MigrateEnd.NoMemory)) ⊎ (result ≡ spec.told_of users.now migrated) }
 {
     match migrated {
         Migrated::Done => MigrateEnd::Done,
