@@ -1,5 +1,5 @@
 -- How the command `migrate` ends, and what each end tells.
--- Given: what the files told, the paths of the two users files, and the disks of the two journals before and after.
+-- Given: what the two users files have, where that is told, and the disks of the two journals before and after.
 use Rattle.std.specs.Prelude.{◌≡◌, ◌≢◌, ◌⊎◌, ◌<◌, ℕ, List, length, Option, IfSome, option_map}
 use Rattle.cal_base.specs.World.Outside.{Rose}
 use Rattle.cal_model.specs.State.ServerState.{directory_of, user_name, group_name}
@@ -31,15 +31,15 @@ status_of (Fault side) = 8
 status_of NoMemory = 7
 
 -- the users are those of the two files, where these are told
-pub record AreTaken (content : List ℕ → Option (List ℕ)) (users new_users : List ℕ) (old new : KnownUsers) : Type 0 where
-  pub old_are : IfSome (content users) (λ octets. AreUsersOf octets old)
-  pub new_are : IfSome (content new_users) (λ octets. AreUsersOf octets new)
+pub record AreTaken (told new_told : Option (List ℕ)) (old new : KnownUsers) : Type 0 where
+  pub old_are : IfSome told (λ octets. AreUsersOf octets old)
+  pub new_are : IfSome new_told (λ octets. AreUsersOf octets new)
 
 -- of the users of the two files this holds
-pub record OfBoth (content : List ℕ → Option (List ℕ)) (users new_users : List ℕ) (P : KnownUsers → KnownUsers → Type 0) : Type 0 where
+pub record OfBoth (told new_told : Option (List ℕ)) (P : KnownUsers → KnownUsers → Type 0) : Type 0 where
   pub old : KnownUsers
   pub new : KnownUsers
-  pub taken : AreTaken content users new_users old new
+  pub taken : AreTaken told new_told old new
   pub so : P old new
 
 -- what is refused of the old journal: the file itself, or a change of it that its own users' book does not accept as it was
@@ -47,28 +47,29 @@ abbrev pub IsRefusedJournal : KnownUsers → Option Past → ℕ → Type 0
 IsRefusedJournal old from place = IsRefused old from place ⊎ ((kept made : ℕ) × IsMismatch old (option_map synced from) place kept made)
 
 -- What an end behind the words tells.
-abbrev pub IsEnd : {D : Type 0} → (D → Option Past) → (D → ℕ) → (List ℕ → Option (List ℕ)) → List ℕ → List ℕ → (from to from_after to_after : D) → MigrateEnd → Type 0
-IsEnd past faults content users new_users from to from_after to_after Done = OfBoth content users new_users (λ old new. IsDone old new (past from) (past to) (past to_after))
-IsEnd past faults content users new_users from to from_after to_after Words = ⊥
-IsEnd past faults content users new_users from to from_after to_after (Line Old place) = IfSome (content users) (λ octets. IsRefusedAt octets place)
-IsEnd past faults content users new_users from to from_after to_after (Line New place) = IfSome (content new_users) (λ octets. IsRefusedAt octets place)
-IsEnd past faults content users new_users from to from_after to_after (Unread side) = Unit {0}
-IsEnd past faults content users new_users from to from_after to_after (UserGone name) =
-    OfBoth content users new_users (λ old new. (user : ℕ) × IsUserGone old new user × (name ≡ user_name (directory_of old) user))
-IsEnd past faults content users new_users from to from_after to_after (GroupGone name) =
-    OfBoth content users new_users (λ old new. (group : ℕ) × IsGroupGone old new group × (name ≡ group_name (directory_of old) group))
-IsEnd past faults content users new_users from to from_after to_after (Refused place) = OfBoth content users new_users (λ old new. IsRefusedJournal old (past from) place)
-IsEnd past faults content users new_users from to from_after to_after (Declined place) =
-    OfBoth content users new_users (λ old new. (kept made : ℕ) × IsDeclined old new (option_map synced (past from)) place kept made)
-IsEnd past faults content users new_users from to from_after to_after (NotEmpty count) = HasLength count (past to) × (count ≢ 0)
-IsEnd past faults content users new_users from to from_after to_after (Fault Old) = Rose (faults from) (faults from_after)
-IsEnd past faults content users new_users from to from_after to_after (Fault New) = Rose (faults to) (faults to_after)
-IsEnd past faults content users new_users from to from_after to_after NoMemory = Unit {0}
+abbrev pub IsEnd : {D : Type 0} → (D → Option Past) → (D → ℕ) → (told new_told : Option (List ℕ)) → (from to from_after to_after : D) → MigrateEnd → Type 0
+IsEnd past faults told new_told from to from_after to_after Done = OfBoth told new_told (λ old new. IsDone old new (past from) (past to) (past to_after))
+IsEnd past faults told new_told from to from_after to_after Words = ⊥
+IsEnd past faults told new_told from to from_after to_after (Line Old place) = IfSome told (λ octets. IsRefusedAt octets place)
+IsEnd past faults told new_told from to from_after to_after (Line New place) = IfSome new_told (λ octets. IsRefusedAt octets place)
+IsEnd past faults told new_told from to from_after to_after (Unread side) = Unit {0}
+IsEnd past faults told new_told from to from_after to_after (UserGone name) =
+    OfBoth told new_told (λ old new. (user : ℕ) × IsUserGone old new user × (name ≡ user_name (directory_of old) user))
+IsEnd past faults told new_told from to from_after to_after (GroupGone name) =
+    OfBoth told new_told (λ old new. (group : ℕ) × IsGroupGone old new group × (name ≡ group_name (directory_of old) group))
+IsEnd past faults told new_told from to from_after to_after (Refused place) = OfBoth told new_told (λ old new. IsRefusedJournal old (past from) place)
+IsEnd past faults told new_told from to from_after to_after (Declined place) =
+    OfBoth told new_told (λ old new. (kept made : ℕ) × IsDeclined old new (option_map synced (past from)) place kept made)
+IsEnd past faults told new_told from to from_after to_after (NotEmpty count) = HasLength count (past to) × (count ≢ 0)
+IsEnd past faults told new_told from to from_after to_after (Fault Old) = Rose (faults from) (faults from_after)
+IsEnd past faults told new_told from to from_after to_after (Fault New) = Rose (faults to) (faults to_after)
+IsEnd past faults told new_told from to from_after to_after NoMemory = Unit {0}
 
--- the ends at which a users file was not read
-abbrev pub IsUnread : MigrateEnd → Type 0
-IsUnread (Unread side) = Unit {0}
-IsUnread other = ⊥
+-- where a users file could not be read, a call that reads it failed
+abbrev pub HasFailed : (files_failed new_files_failed : Type 0) → MigrateEnd → Type 0
+HasFailed files_failed new_files_failed (Unread Old) = files_failed
+HasFailed files_failed new_files_failed (Unread New) = new_files_failed
+HasFailed files_failed new_files_failed other = Unit {0}
 
 -- the ends at which the new journal may be written
 abbrev pub MayWrite : MigrateEnd → Type 0

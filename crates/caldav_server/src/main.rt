@@ -154,9 +154,10 @@ fn ended_migrate(rt: &HostRuntime, words: &List<Word>) -> ExitCode {
         return ended(rt, "migrate", WITHOUT_MEMORY);
     };
     let mut files = StdFiles::new(rt);
+    let mut new_files = StdFiles::new(rt);
     let from = FileDisk::new(rt, alloc, journal);
     let to = FileDisk::new(rt, alloc, to);
-    let (end, _from, _to) = run_migrate(alloc, words, &mut files, from, to);
+    let (end, _from, _to) = run_migrate(alloc, words, &mut files, &mut new_files, from, to);
     let _ = report_migrate(rt, &said, &end);
     ExitCode::from(end.status())
 }

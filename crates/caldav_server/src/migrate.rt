@@ -72,34 +72,37 @@ impl MigrateEnd {
     }
 }
 
-/// Runs the command: looks at its words, then at the old users file and the new one, and then carries the
-/// old journal over to the new users. Gives the disks back: the old journal's, and the new one's.
+/// Runs the command: looks at its words, then at the old users file by the first files and at the new one by
+/// the second, and then carries the old journal over to the new users. Gives the disks back: the old
+/// journal's, and the new one's.
 pub(crate) fn run_migrate<F: Files, D: Disk>(
     alloc: Global,
     words: &List<Word>,
     files: &mut F,
+    new_files: &mut F,
     from: D,
     to: D,
 ) -> (MigrateEnd, D, D)
     // The words, which are looked at first.
     ensures words_refused { result.0 ≡ MigrateEnd.Words → ¬ TakesMigrate words.now }
     ensures words_taken { (result.0 ≡ MigrateEnd.Words) ⊎ (result.0 ≡ MigrateEnd.NoMemory) ⊎ TakesMigrate words.now }
-    ensures words_first { result.0 ≡ MigrateEnd.Words → (files.new ≡ files.old) × (result.1 ≡ from) × (result.2 ≡ to) }
+    ensures words_first { result.0 ≡ MigrateEnd.Words → (files.new ≡ files.old) × (new_files.new ≡ new_files.old) × (result.1 ≡ from) × (result.2 ≡ to) }
 
     // The users files, and the journals.
-    ensures ended { (result.0 ≡ MigrateEnd.Words) ⊎ spec.IsEnd D.past D.faults (F.content files.old) (users_path words.now) (new_users_path words.now) from to result.1 result.2 result.0 }
-    ensures files_fault { spec.IsUnread result.0 → Rose (F.faults files.old) (F.faults files.new) }
+    ensures ended { (result.0 ≡ MigrateEnd.Words) ⊎ spec.IsEnd D.past D.faults (F.content files.old (users_path words.now)) (F.content new_files.old (new_users_path words.now)) from to result.1 result.2 result.0 }
+    ensures files_fault { spec.HasFailed (Rose (F.faults files.old) (F.faults files.new)) (Rose (F.faults new_files.old) (F.faults new_files.new)) result.0 }
     ensures only_read { IsUnwritten (D.past from) (D.past result.1) }
     ensures untouched { spec.MayWrite result.0 ⊎ (D.past result.2 ≡ D.past to) }
-    ensures stops { result.0 ≡ MigrateEnd.Done → spec.OfBoth (F.content files.old) (users_path words.now) (new_users_path words.now) (λ old new. IfSome (D.past result.2) (LeavesNoneOrWhole old new (D.past from))) }
+    ensures stops { result.0 ≡ MigrateEnd.Done → spec.OfBoth (F.content files.old (users_path words.now)) (F.content new_files.old (new_users_path words.now)) (λ old new. IfSome (D.past result.2) (LeavesNoneOrWhole old new (D.past from))) }
 
     // No count falls.
     ensures files_never_fall { F.faults files.old ≤ F.faults files.new }
+    ensures new_files_never_fall { F.faults new_files.old ≤ F.faults new_files.new }
     ensures old_never_falls { D.faults from ≤ D.faults result.1 }
     ensures new_never_falls { D.faults to ≤ D.faults result.2 }
 {
     match read_migrate(alloc, words.as_slice()) {
-        Ok(said) => migrate_files(alloc, &said, files, from, to),
+        Ok(said) => migrate_files(alloc, &said, files, new_files, from, to),
         Err(Untaken::Words) => (MigrateEnd::Words, from, to),
         Err(Untaken::NoMemory) => (MigrateEnd::NoMemory, from, to),
     }
@@ -110,20 +113,22 @@ fn migrate_files<F: Files, D: Disk>(
     alloc: Global,
     said: &MigrateWords<'_>,
     files: &mut F,
+    new_files: &mut F,
     from: D,
     to: D,
 ) -> (MigrateEnd, D, D)
-    ensures ended { spec.IsEnd D.past D.faults (F.content files.old) said.now.users.now said.now.new_users.now from to result.1 result.2 result.0 }
-    ensures files_fault { spec.IsUnread result.0 → Rose (F.faults files.old) (F.faults files.new) }
+    ensures ended { spec.IsEnd D.past D.faults (F.content files.old said.now.users.now) (F.content new_files.old said.now.new_users.now) from to result.1 result.2 result.0 }
+    ensures files_fault { spec.HasFailed (Rose (F.faults files.old) (F.faults files.new)) (Rose (F.faults new_files.old) (F.faults new_files.new)) result.0 }
     ensures only_read { IsUnwritten (D.past from) (D.past result.1) }
     ensures untouched { spec.MayWrite result.0 ⊎ (D.past result.2 ≡ D.past to) }
-    ensures stops { result.0 ≡ MigrateEnd.Done → spec.OfBoth (F.content files.old) said.now.users.now said.now.new_users.now (λ old new. IfSome (D.past result.2) (LeavesNoneOrWhole old new (D.past from))) }
+    ensures stops { result.0 ≡ MigrateEnd.Done → spec.OfBoth (F.content files.old said.now.users.now) (F.content new_files.old said.now.new_users.now) (λ old new. IfSome (D.past result.2) (LeavesNoneOrWhole old new (D.past from))) }
     ensures files_never_fall { F.faults files.old ≤ F.faults files.new }
+    ensures new_files_never_fall { F.faults new_files.old ≤ F.faults new_files.new }
     ensures old_never_falls { D.faults from ≤ D.faults result.1 }
     ensures new_never_falls { D.faults to ≤ D.faults result.2 }
 {
     match users_of(alloc, files, said.users, Side::Old) {
-        Ok(old_users) => match users_of(alloc, files, said.new_users, Side::New) {
+        Ok(old_users) => match users_of(alloc, new_files, said.new_users, Side::New) {
             Ok(new_users) => migrate_users(alloc, old_users, new_users, from, to),
             Err(end) => (end, from, to),
         },
@@ -140,7 +145,6 @@ fn users_of<F: Files>(
 ) -> Result<Arc<Users>, MigrateEnd>
     ensures taken { IfOk result (λ users. IfSome (F.content files.old path.now) (λ octets. AreUsersOf octets users)) }
     ensures refused { IfErr result (spec.IsNotRead (F.content files.old path.now) (F.faults files.old) (F.faults files.new) side) }
-    ensures same { F.content files.new ≡ F.content files.old }
     ensures never_falls { F.faults files.old ≤ F.faults files.new }
 {
     match take_users(alloc, files, path) {

@@ -104,9 +104,10 @@ fn octets_of(first: First) -> &'static [u8] {
     }
 }
 
-/// The new users file; the old journal; what the new one has at first; which calls of the files, of the old
-/// disk and of the new one fail; the status and its place; and what the new journal has then.
-type Case = (First, First, First, [&'static [u64]; 3], (u8, u64), First);
+/// The new users file; the old journal; what the new one has at first; which calls for the old users file, for
+/// the new one, of the old disk and of the new one fail; the status and its place; and what the new journal has
+/// then.
+type Case = (First, First, First, [&'static [u64]; 4], (u8, u64), First);
 
 const CASES: [Case; 16] = [
     // Carried over to users among whom others stand, and to the same ones.
@@ -114,7 +115,7 @@ const CASES: [Case; 16] = [
         First::NewUsers,
         First::Old,
         First::Nothing,
-        [&[], &[], &[]],
+        [&[], &[], &[], &[]],
         (0, 0),
         First::New,
     ),
@@ -122,7 +123,7 @@ const CASES: [Case; 16] = [
         First::OldUsers,
         First::Old,
         First::Nothing,
-        [&[], &[], &[]],
+        [&[], &[], &[], &[]],
         (0, 0),
         First::Old,
     ),
@@ -131,7 +132,7 @@ const CASES: [Case; 16] = [
         First::BadLine,
         First::Old,
         First::Nothing,
-        [&[], &[0], &[0]],
+        [&[], &[], &[0], &[0]],
         (3, 0),
         First::Nothing,
     ),
@@ -139,7 +140,7 @@ const CASES: [Case; 16] = [
         First::NewUsers,
         First::Old,
         First::Nothing,
-        [&[0], &[0], &[0]],
+        [&[0], &[], &[0], &[0]],
         (4, 0),
         First::Nothing,
     ),
@@ -147,7 +148,7 @@ const CASES: [Case; 16] = [
         First::NewUsers,
         First::Old,
         First::Nothing,
-        [&[1], &[0], &[0]],
+        [&[], &[0], &[0], &[0]],
         (4, 0),
         First::Nothing,
     ),
@@ -156,7 +157,7 @@ const CASES: [Case; 16] = [
         First::Alice,
         First::Old,
         First::Nothing,
-        [&[], &[0], &[0]],
+        [&[], &[], &[0], &[0]],
         (10, 0),
         First::Nothing,
     ),
@@ -164,7 +165,7 @@ const CASES: [Case; 16] = [
         First::AliceAndBob,
         First::Old,
         First::Nothing,
-        [&[], &[0], &[0]],
+        [&[], &[], &[0], &[0]],
         (10, 0),
         First::Nothing,
     ),
@@ -173,7 +174,7 @@ const CASES: [Case; 16] = [
         First::NewUsers,
         First::Nothing,
         First::Nothing,
-        [&[], &[], &[0]],
+        [&[], &[], &[], &[0]],
         (9, 0),
         First::Nothing,
     ),
@@ -181,7 +182,7 @@ const CASES: [Case; 16] = [
         First::NewUsers,
         First::X,
         First::Nothing,
-        [&[], &[], &[0]],
+        [&[], &[], &[], &[0]],
         (9, 0),
         First::Nothing,
     ),
@@ -189,7 +190,7 @@ const CASES: [Case; 16] = [
         First::NewUsers,
         First::OfAlice,
         First::Nothing,
-        [&[], &[], &[0]],
+        [&[], &[], &[], &[0]],
         (9, 11),
         First::Nothing,
     ),
@@ -198,7 +199,7 @@ const CASES: [Case; 16] = [
         First::LessUsers,
         First::Old,
         First::Nothing,
-        [&[], &[], &[0]],
+        [&[], &[], &[], &[0]],
         (9, 330),
         First::Nothing,
     ),
@@ -207,7 +208,7 @@ const CASES: [Case; 16] = [
         First::NewUsers,
         First::Old,
         First::X,
-        [&[], &[], &[]],
+        [&[], &[], &[], &[]],
         (12, 1),
         First::X,
     ),
@@ -216,7 +217,7 @@ const CASES: [Case; 16] = [
         First::NewUsers,
         First::Old,
         First::Nothing,
-        [&[], &[0], &[]],
+        [&[], &[], &[0], &[]],
         (8, 0),
         First::Nothing,
     ),
@@ -224,7 +225,7 @@ const CASES: [Case; 16] = [
         First::NewUsers,
         First::Old,
         First::Nothing,
-        [&[], &[5], &[]],
+        [&[], &[], &[5], &[]],
         (8, 0),
         First::Nothing,
     ),
@@ -232,7 +233,7 @@ const CASES: [Case; 16] = [
         First::NewUsers,
         First::Old,
         First::Nothing,
-        [&[], &[], &[0]],
+        [&[], &[], &[], &[0]],
         (8, 0),
         First::Nothing,
     ),
@@ -240,7 +241,7 @@ const CASES: [Case; 16] = [
         First::NewUsers,
         First::Old,
         First::Nothing,
-        [&[], &[], &[1]],
+        [&[], &[], &[], &[1]],
         (8, 0),
         First::Nothing,
     ),
@@ -288,9 +289,10 @@ fn is_right(alloc: Global, case: &Case) -> Result<bool, NoMemory> {
     let (new_users, old, first, failing, (status, place), written) = *case;
     let words = words_of(alloc)?;
     let mut files = files_of(alloc, octets_of(new_users), failing[0])?;
-    let from = disk_of(alloc, octets_of(old), failing[1])?;
-    let to = disk_of(alloc, octets_of(first), failing[2])?;
-    let (end, from, to) = run_migrate(alloc, &words, &mut files, from, to);
+    let mut new_files = files_of(alloc, octets_of(new_users), failing[1])?;
+    let from = disk_of(alloc, octets_of(old), failing[2])?;
+    let to = disk_of(alloc, octets_of(first), failing[3])?;
+    let (end, from, to) = run_migrate(alloc, &words, &mut files, &mut new_files, from, to);
     let is_so = end.status() == status && place_of(&end) == place;
     Ok(is_so && from.octets() == octets_of(old) && to.octets() == octets_of(written))
 }

@@ -14,7 +14,7 @@ returns-in-Ok-clause-stops g c = λ is.
       new = both.new;
       taken = record {
         old_are = subst (λ (path : List ℕ). IfSome (g.F.Files.content c.args.files.now path) (λ octets. AreUsersOf octets both.old)) users both.taken.old_are;
-        new_are = subst (λ (path : List ℕ). IfSome (g.F.Files.content c.args.files.now path) (λ octets. AreUsersOf octets both.new)) new_users both.taken.new_are;
+        new_are = subst (λ (path : List ℕ). IfSome (g.F.Files.content c.args.new_files.now path) (λ octets. AreUsersOf octets both.new)) new_users both.taken.new_are;
       };
       so = both.so;
     }
