@@ -5,6 +5,7 @@ mod FoundTexts
 mod LeastInstants
 mod MatchSteps
 mod ReadStamps
+mod ReadyNodes
 mod RowlessObjects
 mod SeenPlaces
 mod SkippedItems

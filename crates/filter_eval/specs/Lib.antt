@@ -4,5 +4,6 @@ pub mod Links
 pub mod NeededRows
 pub mod Passing
 pub mod Places
+pub mod ReadyTexts
 pub mod Tests
 pub mod Walks

@@ -10,8 +10,10 @@ ghost use Rattle.cal_model.specs.Ranges.Overlap.{is_in};
 ghost use Rattle.filter_eval.specs.Instants.{IsDated};
 ghost use Rattle.filter_eval.specs.Passing.{date_passes};
 ghost use Rattle.filter_eval.specs.Places.{IsReady, matched_of};
+ghost use Rattle.filter_eval.specs.ReadyTexts.{HasTexts, line_in, lines_in};
 ghost use Rattle.filter_eval.specs.Tests.{param_filter_of};
 
+use crate::asked::{AskedLine, Lines, Params};
 use crate::components::{is_named, line_is_named};
 use crate::dates::Dates;
 use crate::ends::end_of;
@@ -52,7 +54,8 @@ pub fn some_date_passes(
     subject: &Subject,
     spot: &Spot,
 ) -> Result<bool, NoMemory>
-    requires { IsReady subject.now }
+    requires ready { IsReady subject.now }
+    requires texts { HasTexts spot.now }
     ensures { IfOk result (λ passes. passes ≡ list_any (date_passes range (map param_filter_of params.now)) (spec.dates_named (date_reading (matched_of subject.now)) spot.now.in_timezone spot.now.node.now name.now)) }
 {
     if !is_date_name(name) {
@@ -74,11 +77,12 @@ fn some_date_read_passes(
     params: &List<ParamTester>,
     spot: &Spot,
 ) -> Result<bool, NoMemory>
-    requires { spec.is_date_name name.now ≡ true }
+    requires name { spec.is_date_name name.now ≡ true }
+    requires texts { HasTexts spot.now }
     ensures { IfOk result (λ passes. passes ≡ list_any (date_passes range (map param_filter_of params.now)) (spec.dates_named dates.now spot.now.in_timezone spot.now.node.now name.now)) }
 {
-    let lines = spot.node.lines.as_slice();
-    if some_written_date(alloc, dates, name, range, params, spot.in_timezone, lines)? {
+    let lines = Lines::of(spot);
+    if some_written_date(alloc, dates, name, range, params, spot.in_timezone, &lines)? {
         return Ok(true);
     }
     effective_passes(alloc, dates, name, range, params, spot)
@@ -92,20 +96,21 @@ fn date_passes(
     range: Range,
     params: &List<ParamTester>,
     in_timezone: bool,
-    line: &Line,
+    line: &AskedLine,
 ) -> Result<bool, NoMemory>
-    ensures { IfOk result (λ passes. passes ≡ (has_name name.now line.now && list_any (date_passes range (map param_filter_of params.now)) (option_to_list (spec.date_of_line dates.now in_timezone line.now)))) }
+    ensures { IfOk result (λ passes. passes ≡ (has_name name.now (line_in line.now) && list_any (date_passes range (map param_filter_of params.now)) (option_to_list (spec.date_of_line dates.now in_timezone (line_in line.now))))) }
 {
-    if !line_is_named(line, name) {
+    let written = line.written();
+    if !line_is_named(written, name) {
         return Ok(false);
     }
-    let Some(stamp) = dates.stamp(alloc, in_timezone, line)? else {
+    let Some(stamp) = dates.stamp(alloc, in_timezone, written)? else {
         return Ok(false);
     };
     if !is_in(range, dates.moment(stamp)) {
         return Ok(false);
     }
-    all_hold(alloc, params, line.params.as_slice())
+    all_hold(alloc, params, &line.params())
 }
 
 /// Whether some line of a name is such a date.
@@ -116,13 +121,13 @@ fn some_written_date(
     range: Range,
     params: &List<ParamTester>,
     in_timezone: bool,
-    lines: &[Line],
+    lines: &Lines,
 ) -> Result<bool, NoMemory>
-    ensures { IfOk result (λ passes. passes ≡ list_any (date_passes range (map param_filter_of params.now)) (filter_map (spec.date_of_line dates.now in_timezone) (all_of name.now lines.now))) }
+    ensures { IfOk result (λ passes. passes ≡ list_any (date_passes range (map param_filter_of params.now)) (filter_map (spec.date_of_line dates.now in_timezone) (all_of name.now (lines_in lines.now)))) }
 {
-    let mut rest = lines;
+    let mut rest = *lines;
     'lines: while let Some((line, behind)) = rest.split_first() {
-        if date_passes(alloc, dates, name, range, params, in_timezone, line)? {
+        if date_passes(alloc, dates, name, range, params, in_timezone, &line)? {
             return Ok(true);
         }
         rest = behind;
@@ -182,5 +187,5 @@ fn effective_passes(
     if !is_in(range, end_of(dates, start, length)) {
         return Ok(false);
     }
-    all_hold(alloc, params, &[])
+    all_hold(alloc, params, &Params::Written(&[]))
 }

@@ -6,6 +6,7 @@
 #![tactic(auto)]
 
 mod alarms;
+mod asked;
 mod components;
 mod dated;
 mod dates;
@@ -17,6 +18,7 @@ mod place;
 mod prepared;
 mod props;
 mod ranges;
+mod ready;
 mod stamps;
 mod subject;
 mod texts;

@@ -13,9 +13,11 @@ ghost use Rattle.filter_eval.specs.EnoughRows.{AreEnough};
 ghost use Rattle.filter_eval.specs.Links.{AreLinks};
 ghost use Rattle.filter_eval.specs.Places.{IsAt, IsReady, alarms_in, component_keys, is_child, matched_of, row_keys};
 ghost use Rattle.filter_eval.specs.Passing.{passes_itself, passes_whole};
+ghost use Rattle.filter_eval.specs.ReadyTexts.{HasTexts, node_of};
 ghost use Rattle.filter_eval.specs.Tests.{comp_filter_of};
 
 use crate::alarms::has_trigger;
+use crate::asked::inner_texts;
 use crate::components::{has_node, is_named, node_is_named};
 use crate::dates::Dates;
 use crate::links::Links;
@@ -23,6 +25,7 @@ use crate::place::Place;
 use crate::prepared::{CompTester, Prepared};
 use crate::props::all_props_hold;
 use crate::ranges::time_passes;
+use crate::ready::{ReadyNode, ready_node};
 use crate::subject::{Spot, Subject};
 use crate::walks::{component_links, row_links};
 use cal_base::{List, NoMemory, Node};
@@ -34,12 +37,15 @@ const FEW: usize = 4;
 
 /// A component in a component, at a place and behind so many alarms with a TRIGGER.
 fn inner_spot<'a>(spot: &Spot<'a>, place: usize, alarms: usize, node: &'a Node) -> Spot<'a>
-    ensures { (object : Whole) (site : Site) → IsAt object spot.now site → slice_get (children_of spot.now.node.now) place ≡ Some node.now → (is_child spot.now.place ≡ true → alarms ≡ alarms_in spot.now.node.now place) → IsAt object result (record { path = place ∷ site.path; in_timezone = site.in_timezone || is_named (codes "VTIMEZONE") node.now; node = node.now }) }
+    ensures stands { (object : Whole) (site : Site) → IsAt object spot.now site → slice_get (children_of spot.now.node.now) place ≡ Some node.now → (is_child spot.now.place ≡ true → alarms ≡ alarms_in spot.now.node.now place) → IsAt object result (record { path = place ∷ site.path; in_timezone = site.in_timezone || is_named (codes "VTIMEZONE") node.now; node = node.now }) }
+    ensures texts { HasTexts spot.now → slice_get (children_of spot.now.node.now) place ≡ Some node.now → HasTexts result }
 {
+    let texts = inner_texts(spot, place);
     Spot {
         node,
         place: spot.place.inner(place, alarms),
         in_timezone: spot.in_timezone || is_named(&node.name, b"VTIMEZONE"),
+        texts,
     }
 }
 
@@ -64,7 +70,8 @@ fn own_tests_pass(
     tester: &CompTester,
     spot: &Spot,
 ) -> Result<bool, NoMemory>
-    requires { IsReady subject.now }
+    requires ready { IsReady subject.now }
+    requires texts { HasTexts spot.now }
     ensures { IfOk result (λ pass. (site : Site) → IsAt subject.now.object.now spot.now site → pass ≡ passes_itself (matched_of subject.now) (comp_filter_of tester.now) site) }
 {
     if !node_is_named(spot.node, tester.name) {
@@ -84,7 +91,8 @@ fn passes(
     tester: &CompTester,
     spot: &Spot,
 ) -> Result<bool, NoMemory>
-    requires { IsReady subject.now }
+    requires ready { IsReady subject.now }
+    requires texts { HasTexts spot.now }
     ensures { IfOk result (λ passes. (site : Site) → IsAt subject.now.object.now spot.now site → passes ≡ passes_whole (matched_of subject.now) (comp_filter_of tester.now) site) }
 {
     let passed = own_tests_pass(alloc, subject, tester, spot)?;
@@ -109,7 +117,8 @@ fn some_inner_passes(
     tester: &CompTester,
     spot: &Spot,
 ) -> Result<bool, NoMemory>
-    requires { IsReady subject.now }
+    requires ready { IsReady subject.now }
+    requires texts { HasTexts spot.now }
     ensures { IfOk result (λ holds. (site : Site) → IsAt subject.now.object.now spot.now site → holds ≡ spec.comp_filter_holds (matched_of subject.now) (comp_filter_of tester.now) (sites_in site)) }
 {
     let mut rest = spot.node.children.as_slice();
@@ -141,6 +150,7 @@ fn outermost_holds(alloc: Global, subject: &Subject, tester: &CompTester) -> Res
         node: &subject.object.tree,
         place: Place::Outermost,
         in_timezone: false,
+        texts: subject.texts,
     };
     if tester.absent {
         return Ok(!node_is_named(&subject.object.tree, tester.name));
@@ -178,6 +188,36 @@ fn prepared_holds(alloc: Global, subject: &Subject, prepared: &Prepared) -> Resu
     dated_holds(alloc, subject, &dates, &prepared.top)
 }
 
+/// The same, with the texts of the object at hand.
+fn texted_holds<'a, 't>(
+    alloc: Global,
+    subject: &Subject<'a, '_, '_>,
+    texts: &'t ReadyNode<'a>,
+    prepared: &Prepared,
+) -> Result<bool, NoMemory>
+    requires ready { IsReady subject.now }
+    requires texts { node_of texts.now ≡ subject.now.object.now.tree }
+    ensures { IfOk result (λ holds. holds ≡ spec.comp_filter_holds (matched_of subject.now) prepared.now.top (whole_site subject.now.object.now ∷ [])) }
+{
+    let subject = Subject {
+        texts: Some(texts),
+        ..*subject
+    };
+    prepared_holds(alloc, &subject, prepared)
+}
+
+/// The same, with the texts of the object made ready where many are asked for.
+fn ready_holds(alloc: Global, subject: &Subject, prepared: &Prepared) -> Result<bool, NoMemory>
+    requires { IsReady subject.now }
+    ensures { IfOk result (λ holds. holds ≡ spec.comp_filter_holds (matched_of subject.now) prepared.now.top (whole_site subject.now.object.now ∷ [])) }
+{
+    if !prepared.many_texts {
+        return prepared_holds(alloc, subject, prepared);
+    }
+    let texts = ready_node(alloc, &subject.object.tree)?;
+    texted_holds(alloc, subject, &texts, prepared)
+}
+
 /// The same, with what leads to the rows and the components at hand.
 fn linked_holds<'a, 'l>(
     alloc: Global,
@@ -196,7 +236,7 @@ fn linked_holds<'a, 'l>(
         component_links: Some(component_links),
         ..*subject
     };
-    prepared_holds(alloc, &subject, prepared)
+    ready_holds(alloc, &subject, prepared)
 }
 
 impl<'f> Prepared<'f> {
@@ -223,9 +263,10 @@ impl<'f> Prepared<'f> {
             row_links: None,
             component_links: None,
             dates: None,
+            texts: None,
         };
         if object.components.len() <= FEW {
-            return prepared_holds(alloc, &subject, self);
+            return ready_holds(alloc, &subject, self);
         }
         let row_links = row_links(alloc, rows.as_slice(), object.components.len())?;
         let component_links = component_links(alloc, object)?;

@@ -4,8 +4,11 @@ ghost use Rattle.std.specs.Prelude.{◌≡◌, ◌&&◌, IfOk, map, bytes_eq};
 ghost use Rattle.std.specs.List.{list_any};
 ghost use Rattle.cal_base.specs.declared.line.Param.{Param};
 ghost use Rattle.cal_model.specs.Filters.TextTests as spec;
+ghost use Rattle.filter_eval.specs.ReadyTexts.{params_in};
 ghost use Rattle.filter_eval.specs.Tests.{param_filter_of, param_test_of};
 
+use crate::asked::Params;
+use crate::ready::ReadyParam;
 use crate::texts::TextTest;
 use cal_base::{List, Name, NoMemory, Octets, Param};
 use cal_model::{ParamFilter, ParamTest};
@@ -40,8 +43,8 @@ impl<'f> ParamTester<'f> {
 
     /// Whether the parameters of a line hold what is asked.
     #[tactic(auto, using(crate::proofs::FilteredTests::is_empty_filter, crate::proofs::FilteredTests::some_in_filter))]
-    pub fn holds(&self, alloc: Global, params: &[Param]) -> Result<bool, NoMemory>
-        ensures { IfOk result (λ holds. holds ≡ spec.param_filter_holds params.now (param_filter_of self.now)) }
+    pub fn holds(&self, alloc: Global, params: &Params) -> Result<bool, NoMemory>
+        ensures { IfOk result (λ holds. holds ≡ spec.param_filter_holds (params_in params.now) (param_filter_of self.now)) }
     {
         match &self.question {
             ParamQuestion::Absent => Ok(!has_param(params, self.name)),
@@ -87,10 +90,25 @@ fn is_named(param: &Param, name: &Name) -> bool
 }
 
 /// Whether some parameter has a name.
-fn has_param(params: &[Param], name: &Name) -> bool
+fn has_param(params: &Params, name: &Name) -> bool
+    ensures { result ≡ list_any (λ (param : Param). bytes_eq param.name name.now) (params_in params.now) }
+{
+    match *params {
+        Params::Written(params) => has_written(params, name),
+        Params::Ready(params) => has_ready(params, name),
+    }
+}
+
+fn has_written(params: &[Param], name: &Name) -> bool
     ensures { result ≡ list_any (λ (param : Param). bytes_eq param.name name.now) params.now }
 {
     params.iter().any(|param| is_named(param, name))
+}
+
+fn has_ready(params: &[ReadyParam], name: &Name) -> bool
+    ensures { result ≡ list_any (λ (param : Param). bytes_eq param.name name.now) params.now }
+{
+    params.iter().any(|param| is_named(param.written(), name))
 }
 
 /// Whether some value passes.
@@ -127,6 +145,20 @@ fn some_param_passes(
     alloc: Global,
     test: &TextTest,
     name: &Name,
+    params: &Params,
+) -> Result<bool, NoMemory>
+    ensures { IfOk result (λ passes. passes ≡ list_any (spec.param_passes test.now) (spec.params_named name.now (params_in params.now))) }
+{
+    match *params {
+        Params::Written(params) => some_written_passes(alloc, test, name, params),
+        Params::Ready(params) => Ok(some_ready_passes(test, name, params)),
+    }
+}
+
+fn some_written_passes(
+    alloc: Global,
+    test: &TextTest,
+    name: &Name,
     params: &[Param],
 ) -> Result<bool, NoMemory>
     ensures { IfOk result (λ passes. passes ≡ list_any (spec.param_passes test.now) (spec.params_named name.now params.now)) }
@@ -141,13 +173,26 @@ fn some_param_passes(
     Ok(false)
 }
 
+fn ready_passes(test: &TextTest, name: &Name, param: &ReadyParam) -> bool
+    ensures { result ≡ (bytes_eq param.now.name name.now && spec.param_passes test.now param.now) }
+{
+    is_named(param.written(), name) && param.passes(test)
+}
+
+#[tactic(auto, using(cal_model::proofs::Words::ListTests::any_filter))]
+fn some_ready_passes(test: &TextTest, name: &Name, params: &[ReadyParam]) -> bool
+    ensures { result ≡ list_any (spec.param_passes test.now) (spec.params_named name.now params.now) }
+{
+    params.iter().any(|param| ready_passes(test, name, param))
+}
+
 /// Whether the parameters of a line hold all that is asked.
 pub fn all_hold(
     alloc: Global,
     testers: &List<ParamTester>,
-    params: &[Param],
+    params: &Params,
 ) -> Result<bool, NoMemory>
-    ensures { IfOk result (λ hold. hold ≡ spec.param_filters_hold (map param_filter_of testers.now) params.now) }
+    ensures { IfOk result (λ hold. hold ≡ spec.param_filters_hold (map param_filter_of testers.now) (params_in params.now)) }
 {
     'testers: for tester in testers.as_slice() {
         let holds = tester.holds(alloc, params)?;

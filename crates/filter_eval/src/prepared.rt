@@ -8,9 +8,13 @@ ghost use Rattle.filter_eval.specs.Tests.{comp_filter_of};
 use crate::components::is_named;
 use crate::props::{PropTester, testers_of_props};
 use cal_base::{List, Name, NoMemory};
-use cal_model::{CompFilter, Filter, PropTest, Range};
+use cal_model::{CompFilter, Filter, ParamTest, PropFilter, PropTest, Range};
 use std::alloc::Global;
 use std::marker::Model;
+
+/// The most tests of texts in a filter for which the texts of an object are not made ready: each of
+/// them takes escapes away, and folds, by itself.
+const FEW_TEXTS: usize = 8;
 
 /// A comp-filter made ready.
 #[derive(Drop)]
@@ -30,6 +34,8 @@ pub struct Prepared<'f> {
     pub(crate) top: CompTester<'f>,
     /// Whether it asks for a date of some property.
     pub(crate) dated: bool,
+    /// Whether it has so many tests of texts that those of an object are worth being made ready.
+    pub(crate) many_texts: bool,
     /// Whether no object without rows matches it.
     pub(crate) needs_row: bool,
 }
@@ -60,6 +66,7 @@ impl<'f> Prepared<'f> {
             Ok(top) => Ok(Prepared {
                 top,
                 dated: asks_date(&filter.top),
+                many_texts: texts_with(&filter.top, 0) > FEW_TEXTS,
                 needs_row: needs_row(&filter.top),
             }),
             Err(fault) => Err(fault),
@@ -82,6 +89,32 @@ fn asks_date(filter: &CompFilter) -> bool {
         }
     }
     false
+}
+
+/// How many tests of texts a prop-filter has.
+fn texts_of(filter: &PropFilter) -> usize {
+    let params = filter.params.as_slice();
+    let texts = params
+        .iter()
+        .filter(|param| matches!(param.test, ParamTest::Text(_)))
+        .count();
+    if matches!(filter.test, PropTest::Text(_)) {
+        texts.saturating_add(1)
+    } else {
+        texts
+    }
+}
+
+/// How many tests of texts a comp-filter has, by itself and in those in it, and so many beside.
+fn texts_with(filter: &CompFilter, beside: usize) -> usize {
+    let mut texts = beside;
+    'props: for prop in filter.props.as_slice() {
+        texts = texts.saturating_add(texts_of(prop));
+    }
+    'comps: for inner in filter.comps.as_slice() {
+        texts = texts_with(inner, texts);
+    }
+    texts
 }
 
 /// Whether the comp-filter of the outermost component has one in it that some row alone lets pass, so

@@ -7,8 +7,10 @@ ghost use Rattle.cal_model.specs.Filters.Matching as spec;
 ghost use Rattle.cal_model.specs.Objects.ComponentLines.{has_name, all_of};
 ghost use Rattle.filter_eval.specs.Passing.{line_holds, line_passes};
 ghost use Rattle.filter_eval.specs.Places.{IsAt, IsReady, matched_of};
+ghost use Rattle.filter_eval.specs.ReadyTexts.{HasTexts, line_in, lines_in};
 ghost use Rattle.filter_eval.specs.Tests.{param_filter_of, prop_filter_of, prop_test_of};
 
+use crate::asked::{AskedLine, Lines};
 use crate::components::line_is_named;
 use crate::dated::some_date_passes;
 use crate::params::{ParamTester, all_hold, testers_of};
@@ -51,15 +53,17 @@ impl<'f> PropTester<'f> {
 
     /// Whether a component holds what is asked.
     pub fn holds(&self, alloc: Global, subject: &Subject, spot: &Spot) -> Result<bool, NoMemory>
-        requires { IsReady subject.now }
+        requires ready { IsReady subject.now }
+        requires texts { HasTexts spot.now }
         ensures { IfOk result (λ holds. (site : Site) → IsAt subject.now.object.now spot.now site → holds ≡ spec.prop_filter_holds (matched_of subject.now) site (prop_filter_of self.now)) }
     {
-        let lines = spot.node.lines.as_slice();
+        let written = spot.node.lines.as_slice();
+        let lines = Lines::of(spot);
         match &self.question {
-            PropQuestion::Absent => Ok(!has_line(lines, self.name)),
-            PropQuestion::Defined => some_line_holds(alloc, self.name, &self.params, lines),
+            PropQuestion::Absent => Ok(!has_line(written, self.name)),
+            PropQuestion::Defined => some_line_holds(alloc, self.name, &self.params, &lines),
             PropQuestion::Text(test) => {
-                some_line_passes(alloc, self.name, test, &self.params, lines)
+                some_line_passes(alloc, self.name, test, &self.params, &lines)
             }
             PropQuestion::Time(range) => {
                 some_date_passes(alloc, self.name, *range, &self.params, subject, spot)
@@ -104,7 +108,8 @@ pub fn all_props_hold(
     subject: &Subject,
     spot: &Spot,
 ) -> Result<bool, NoMemory>
-    requires { IsReady subject.now }
+    requires ready { IsReady subject.now }
+    requires texts { HasTexts spot.now }
     ensures { IfOk result (λ hold. (site : Site) → IsAt subject.now.object.now spot.now site → hold ≡ list_all (spec.prop_filter_holds (matched_of subject.now) site) (map prop_filter_of testers.now)) }
 {
     'testers: for tester in testers.as_slice() {
@@ -128,14 +133,14 @@ fn named_holds(
     alloc: Global,
     name: &Name,
     params: &List<ParamTester>,
-    line: &Line,
+    line: &AskedLine,
 ) -> Result<bool, NoMemory>
-    ensures { IfOk result (λ holds. holds ≡ (has_name name.now line.now && line_holds (map param_filter_of params.now) line.now)) }
+    ensures { IfOk result (λ holds. holds ≡ (has_name name.now (line_in line.now) && line_holds (map param_filter_of params.now) (line_in line.now))) }
 {
-    if !line_is_named(line, name) {
+    if !line_is_named(line.written(), name) {
         return Ok(false);
     }
-    all_hold(alloc, params, line.params.as_slice())
+    all_hold(alloc, params, &line.params())
 }
 
 /// Whether some line of a name has all that is asked of its parameters.
@@ -143,13 +148,13 @@ fn some_line_holds(
     alloc: Global,
     name: &Name,
     params: &List<ParamTester>,
-    lines: &[Line],
+    lines: &Lines,
 ) -> Result<bool, NoMemory>
-    ensures { IfOk result (λ holds. holds ≡ list_any (line_holds (map param_filter_of params.now)) (all_of name.now lines.now)) }
+    ensures { IfOk result (λ holds. holds ≡ list_any (line_holds (map param_filter_of params.now)) (all_of name.now (lines_in lines.now))) }
 {
-    let mut rest = lines;
+    let mut rest = *lines;
     'lines: while let Some((line, behind)) = rest.split_first() {
-        if named_holds(alloc, name, params, line)? {
+        if named_holds(alloc, name, params, &line)? {
             return Ok(true);
         }
         rest = behind;
@@ -163,17 +168,17 @@ fn named_passes(
     name: &Name,
     test: &TextTest,
     params: &List<ParamTester>,
-    line: &Line,
+    line: &AskedLine,
 ) -> Result<bool, NoMemory>
-    ensures { IfOk result (λ passes. passes ≡ (has_name name.now line.now && line_passes test.now (map param_filter_of params.now) line.now)) }
+    ensures { IfOk result (λ passes. passes ≡ (has_name name.now (line_in line.now) && line_passes test.now (map param_filter_of params.now) (line_in line.now))) }
 {
-    if !line_is_named(line, name) {
+    if !line_is_named(line.written(), name) {
         return Ok(false);
     }
-    if !test.passes(alloc, line.value.as_slice())? {
+    if !line.passes(alloc, test)? {
         return Ok(false);
     }
-    all_hold(alloc, params, line.params.as_slice())
+    all_hold(alloc, params, &line.params())
 }
 
 /// Whether some line of a name has a value that passes and all that is asked of its parameters.
@@ -182,13 +187,13 @@ fn some_line_passes(
     name: &Name,
     test: &TextTest,
     params: &List<ParamTester>,
-    lines: &[Line],
+    lines: &Lines,
 ) -> Result<bool, NoMemory>
-    ensures { IfOk result (λ passes. passes ≡ list_any (line_passes test.now (map param_filter_of params.now)) (all_of name.now lines.now)) }
+    ensures { IfOk result (λ passes. passes ≡ list_any (line_passes test.now (map param_filter_of params.now)) (all_of name.now (lines_in lines.now))) }
 {
-    let mut rest = lines;
+    let mut rest = *lines;
     'lines: while let Some((line, behind)) = rest.split_first() {
-        if named_passes(alloc, name, test, params, line)? {
+        if named_passes(alloc, name, test, params, &line)? {
             return Ok(true);
         }
         rest = behind;

@@ -3,6 +3,7 @@
 use crate::dates::Dates;
 use crate::links::Links;
 use crate::place::Place;
+use crate::ready::ReadyNode;
 use cal_base::Node;
 use cal_model::{Object, Row, ZoneTable};
 
@@ -18,6 +19,8 @@ pub struct Subject<'a, 'l, 'd> {
     pub component_links: Option<&'l Links>,
     /// How its dates are read, where that was made ready for all tests of it.
     pub dates: Option<&'d Dates<'a>>,
+    /// Its texts, where they were made ready for all tests of it.
+    pub texts: Option<&'d ReadyNode<'a>>,
 }
 
 /// A component of the tree.
@@ -27,4 +30,6 @@ pub struct Spot<'a> {
     pub place: Place,
     /// Whether it is a VTIMEZONE or stands in one.
     pub in_timezone: bool,
+    /// Its texts, where they were made ready.
+    pub texts: Option<&'a ReadyNode<'a>>,
 }

@@ -4,6 +4,7 @@
 ghost use Rattle.std.specs.Prelude.{◌≡◌, IfOk};
 ghost use Rattle.cal_base.specs.Texts.Text.{raised_all};
 ghost use Rattle.cal_model.specs.Filters.TextTests as spec;
+ghost use Rattle.cal_model.specs.Values.ValueTexts.{unescaped};
 
 use cal_base::{NoMemory, Octets, raised_all};
 use cal_model::{Collation, TextMatch};
@@ -32,6 +33,44 @@ impl<'f> Model for TextTest<'f> {
     ghost invariant = { λ t. t.finder ≡ collated t.test.now.collation t.test.now.text };
 }
 
+/// The text of a value made ready for many tests: without its escapes, and that folded beside.
+/// Contracts see the value.
+#[derive(Drop)]
+pub struct ReadyText<'a> {
+    value: &'a Octets,
+    /// The value without its escapes.
+    plain: Octets,
+    /// The same with its ASCII letters in upper case.
+    folded: Octets,
+}
+
+impl<'a> Model for ReadyText<'a> {
+    ghost use Rattle.std.specs.Prelude.{◌≡◌, ℕ, List};
+    ghost use Rattle.cal_base.specs.Texts.Text.{raised_all};
+    ghost use Rattle.cal_model.specs.Values.ValueTexts.{unescaped};
+
+    ghost Value = { List ℕ };
+
+    ghost view = { λ t. t.value.now };
+
+    ghost invariant = { λ t. (t.plain ≡ unescaped t.value.now) × (t.folded ≡ raised_all (unescaped t.value.now)) };
+}
+
+impl<'a> ReadyText<'a> {
+    /// The text of a value made ready, in twice the octets of the value at most.
+    pub fn of(alloc: Global, value: &'a Octets) -> Result<ReadyText<'a>, NoMemory>
+        ensures { IfOk result (λ text. text ≡ value.now) }
+    {
+        let plain = unescape(alloc, value.as_slice())?;
+        let folded = raised_all(alloc, plain.as_slice())?;
+        Ok(ReadyText {
+            value,
+            plain,
+            folded,
+        })
+    }
+}
+
 impl<'f> TextTest<'f> {
     /// A text-match made ready.
     pub fn of(alloc: Global, test: &'f TextMatch) -> Result<TextTest<'f>, NoMemory>
@@ -52,6 +91,23 @@ impl<'f> TextTest<'f> {
         let plain = unescape(alloc, value)?;
         let found = self.finds(alloc, plain.as_slice())?;
         Ok(found != self.test.negate)
+    }
+
+    /// Whether a value passes whose text was made ready. It takes no memory.
+    pub fn passes_ready(&self, text: &ReadyText) -> bool
+        ensures { result ≡ spec.text_passes self.now text.now }
+    {
+        self.finds_ready(text) != self.test.negate
+    }
+
+    /// Whether the text stands in one that was made ready.
+    fn finds_ready(&self, text: &ReadyText) -> bool
+        ensures { result ≡ spec.stands_in (spec.collated self.now.collation self.now.text) (spec.collated self.now.collation (unescaped text.now)) }
+    {
+        match self.test.collation {
+            Collation::Octet => has_within(&self.finder, text.plain.as_slice()),
+            Collation::AsciiCasemap => has_within(&self.finder, text.folded.as_slice()),
+        }
     }
 
     /// Whether the text stands in a plain text.

@@ -49,7 +49,7 @@ fn alarm_node(alloc: Global) -> Result<Node, NoMemory> {
     node(alloc, b"VALARM", lines, List::new(alloc))
 }
 
-/// From nine to ten, with two attendees.
+/// From nine to ten, with two attendees, a comment without text and a description with escapes.
 fn event_lines(alloc: Global) -> Result<List<Line>, NoMemory> {
     let mut lines = List::new(alloc);
     lines.push(line(alloc, b"DTSTART", &[], b"20250102T090000Z")?)?;
@@ -63,6 +63,14 @@ fn event_lines(alloc: Global) -> Result<List<Line>, NoMemory> {
     )?;
     lines.push(anna)?;
     lines.push(line(alloc, b"ATTENDEE", &[], b"mailto:ben@example.org")?)?;
+    lines.push(line(alloc, b"COMMENT", &[(b"LANGUAGE", b"")], b"")?)?;
+    let description = line(
+        alloc,
+        b"DESCRIPTION",
+        &[(b"ALTREP", b"A\\,b")],
+        b"One\\nTwo\\Nthree\\;\\\\\\x",
+    )?;
+    lines.push(description)?;
     Ok(lines)
 }
 

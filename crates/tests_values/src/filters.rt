@@ -46,14 +46,32 @@ pub fn calendar(alloc: Global, inner: CompFilter) -> Result<Filter, NoMemory> {
     Ok(Filter { top })
 }
 
-/// A filter of the events with one test of a property.
+/// So many tests of texts that those of the event are made ready. It passes each.
+fn passed_tests(alloc: Global) -> Result<List<PropFilter>, NoMemory> {
+    let mut props = List::new(alloc);
+    for _ in 0..20 {
+        props.push(PropFilter {
+            name: Name::of(alloc, b"SUMMARY")?,
+            test: PropTest::Text(text(alloc, b"", Collation::Octet, false)?),
+            params: List::new(alloc),
+        })?;
+    }
+    Ok(props)
+}
+
+/// A filter of the events with one test of a property, behind many others that the event passes or
+/// alone.
 fn property(
     alloc: Global,
     name: &[u8],
     test: PropTest,
     params: List<ParamFilter>,
+    many: bool,
 ) -> Result<Filter, NoMemory> {
     let mut inner = comp(alloc, b"VEVENT", false, None)?;
+    if many {
+        inner.props = passed_tests(alloc)?;
+    }
     let name = Name::of(alloc, name)?;
     inner.props.push(PropFilter { name, test, params })?;
     calendar(alloc, inner)
@@ -169,7 +187,7 @@ fn alarm_in_range(rt: HostRuntime) -> Result<(), Fail> {
 
 /// Texts of properties: the name, the text, how it is compared, whether the test is negated, the
 /// answer.
-const TEXTS: [(&[u8], &[u8], Collation, bool, bool); 9] = [
+const TEXTS: [(&[u8], &[u8], Collation, bool, bool); 23] = [
     (
         b"SUMMARY",
         b"lunch, CAF",
@@ -197,14 +215,100 @@ const TEXTS: [(&[u8], &[u8], Collation, bool, bool); 9] = [
     (b"ATTENDEE", b"BEN", Collation::AsciiCasemap, false, true),
     (b"ATTENDEE", b"ben", Collation::AsciiCasemap, true, true),
     (b"LOCATION", b"ben", Collation::AsciiCasemap, true, false),
+    (b"SUMMARY", b"LUNCH", Collation::Octet, false, false),
+    (b"SUMMARY", b"LUNCH", Collation::Octet, true, true),
+    (b"SUMMARY", b"\\", Collation::Octet, false, false),
+    (b"COMMENT", b"", Collation::AsciiCasemap, false, true),
+    (b"COMMENT", b"", Collation::Octet, true, false),
+    (b"COMMENT", b"x", Collation::AsciiCasemap, false, false),
+    (b"COMMENT", b"x", Collation::Octet, true, true),
+    (b"DESCRIPTION", b"e\nTwo\nt", Collation::Octet, false, true),
+    (b"DESCRIPTION", b"E\ntwo\nT", Collation::Octet, false, false),
+    (
+        b"DESCRIPTION",
+        b"E\ntwo\nT",
+        Collation::AsciiCasemap,
+        false,
+        true,
+    ),
+    (
+        b"DESCRIPTION",
+        b"three;\\\\x",
+        Collation::Octet,
+        false,
+        true,
+    ),
+    (
+        b"DESCRIPTION",
+        b"THREE\\;",
+        Collation::AsciiCasemap,
+        false,
+        false,
+    ),
+    (b"DESCRIPTION", b"\\n", Collation::Octet, true, true),
+    (
+        b"DESCRIPTION",
+        b"\\X",
+        Collation::AsciiCasemap,
+        true,
+        false,
+    ),
 ];
+
+/// Whether a text of a property is answered as it is said, alone and behind many others.
+fn text_answers(
+    alloc: Global,
+    name: &[u8],
+    wanted: &[u8],
+    collation: Collation,
+    negate: bool,
+    expected: bool,
+) -> Result<bool, NoMemory> {
+    let test = PropTest::Text(text(alloc, wanted, collation, negate)?);
+    let alone = property(alloc, name, test, List::new(alloc), false)?;
+    if !answers(alloc, alone, expected)? {
+        return Ok(false);
+    }
+    let test = PropTest::Text(text(alloc, wanted, collation, negate)?);
+    let behind = property(alloc, name, test, List::new(alloc), true)?;
+    answers(alloc, behind, expected)
+}
 
 #[test]
 fn text_of_property(rt: HostRuntime) -> Result<(), Fail> {
     let alloc = rt.alloc();
     for (name, wanted, collation, negate, expected) in TEXTS {
-        let test = PropTest::Text(text(alloc, wanted, collation, negate)?);
-        let filter = property(alloc, name, test, List::new(alloc))?;
+        assert!(rt; text_answers(alloc, name, wanted, collation, negate, expected)?);
+    }
+    Ok(())
+}
+
+/// Texts of a line of an alarm in the event, and the answer.
+const TRIGGERS: [(&[u8], Collation, bool); 3] = [
+    (b"pt15m", Collation::AsciiCasemap, true),
+    (b"pt15m", Collation::Octet, false),
+    (b"PT15M", Collation::Octet, true),
+];
+
+/// A filter of the events with an alarm whose trigger has a text, behind many tests of the event.
+fn trigger(alloc: Global, wanted: &[u8], collation: Collation) -> Result<Filter, NoMemory> {
+    let mut alarm = comp(alloc, b"VALARM", false, None)?;
+    alarm.props.push(PropFilter {
+        name: Name::of(alloc, b"TRIGGER")?,
+        test: PropTest::Text(text(alloc, wanted, collation, false)?),
+        params: List::new(alloc),
+    })?;
+    let mut event = comp(alloc, b"VEVENT", false, None)?;
+    event.props = passed_tests(alloc)?;
+    event.comps.push(alarm)?;
+    calendar(alloc, event)
+}
+
+#[test]
+fn text_of_alarm(rt: HostRuntime) -> Result<(), Fail> {
+    let alloc = rt.alloc();
+    for (wanted, collation, expected) in TRIGGERS {
+        let filter = trigger(alloc, wanted, collation)?;
         assert!(rt; answers(alloc, filter, expected)?);
     }
     Ok(())
@@ -223,20 +327,35 @@ const DATES: [(&[u8], (u16, u16), bool); 5] = [
 fn date_in_range(rt: HostRuntime) -> Result<(), Fail> {
     let alloc = rt.alloc();
     for (name, range, expected) in DATES {
-        let test = PropTest::Time(minutes(range.0, range.1));
-        let filter = property(alloc, name, test, List::new(alloc))?;
-        assert!(rt; answers(alloc, filter, expected)?);
+        for many in [false, true] {
+            let test = PropTest::Time(minutes(range.0, range.1));
+            let filter = property(alloc, name, test, List::new(alloc), many)?;
+            assert!(rt; answers(alloc, filter, expected)?);
+        }
     }
     Ok(())
 }
 
-/// An attendee with `ben` in its value, whose PARTSTAT holds a test.
-fn ben(alloc: Global, test: ParamTest) -> Result<Filter, NoMemory> {
+/// A line of a name with a text in its value and one of whose parameters holds a test, behind many
+/// tests or alone.
+fn parameter(
+    alloc: Global,
+    name: &[u8],
+    wanted: &[u8],
+    param: &[u8],
+    test: ParamTest,
+    many: bool,
+) -> Result<Filter, NoMemory> {
     let mut params = List::new(alloc);
-    let name = Name::of(alloc, b"PARTSTAT")?;
-    params.push(ParamFilter { name, test })?;
-    let test = PropTest::Text(text(alloc, b"ben", Collation::AsciiCasemap, false)?);
-    property(alloc, b"ATTENDEE", test, params)
+    let param = Name::of(alloc, param)?;
+    params.push(ParamFilter { name: param, test })?;
+    let test = PropTest::Text(text(alloc, wanted, Collation::AsciiCasemap, false)?);
+    property(alloc, name, test, params, many)
+}
+
+/// An attendee with `ben` in its value, whose PARTSTAT holds a test.
+fn ben(alloc: Global, test: ParamTest, many: bool) -> Result<Filter, NoMemory> {
+    parameter(alloc, b"ATTENDEE", b"ben", b"PARTSTAT", test, many)
 }
 
 /// The attendee whose value passes has no PARTSTAT, and the other one's counts for nothing. A
@@ -244,12 +363,104 @@ fn ben(alloc: Global, test: ParamTest) -> Result<Filter, NoMemory> {
 #[test]
 fn parameter_of_the_same_line(rt: HostRuntime) -> Result<(), Fail> {
     let alloc = rt.alloc();
-    let defined = ben(alloc, ParamTest::Defined)?;
-    assert!(rt; answers(alloc, defined, false)?);
-    let absent = ben(alloc, ParamTest::Absent)?;
-    assert!(rt; answers(alloc, absent, true)?);
-    let test = text(alloc, b"declined", Collation::AsciiCasemap, true)?;
-    let negated = ben(alloc, ParamTest::Text(test))?;
-    assert!(rt; answers(alloc, negated, false)?);
+    for many in [false, true] {
+        let defined = ben(alloc, ParamTest::Defined, many)?;
+        assert!(rt; answers(alloc, defined, false)?);
+        let absent = ben(alloc, ParamTest::Absent, many)?;
+        assert!(rt; answers(alloc, absent, true)?);
+        let test = text(alloc, b"declined", Collation::AsciiCasemap, true)?;
+        let negated = ben(alloc, ParamTest::Text(test), many)?;
+        assert!(rt; answers(alloc, negated, false)?);
+    }
+    Ok(())
+}
+
+/// Texts of parameters: the name of the line, a text in its value, the parameter, the text in its
+/// value, how that is compared, whether the test is negated, the answer.
+const PARAMETERS: [(&[u8], &[u8], &[u8], &[u8], Collation, bool, bool); 8] = [
+    (
+        b"ATTENDEE",
+        b"anna",
+        b"PARTSTAT",
+        b"accepted",
+        Collation::AsciiCasemap,
+        false,
+        true,
+    ),
+    (
+        b"ATTENDEE",
+        b"anna",
+        b"PARTSTAT",
+        b"accepted",
+        Collation::Octet,
+        false,
+        false,
+    ),
+    (
+        b"ATTENDEE",
+        b"anna",
+        b"PARTSTAT",
+        b"ACCEPTED",
+        Collation::Octet,
+        true,
+        false,
+    ),
+    (
+        b"ATTENDEE",
+        b"anna",
+        b"PARTSTAT",
+        b"declined",
+        Collation::AsciiCasemap,
+        true,
+        true,
+    ),
+    (
+        b"COMMENT",
+        b"",
+        b"LANGUAGE",
+        b"",
+        Collation::Octet,
+        false,
+        true,
+    ),
+    (
+        b"COMMENT",
+        b"",
+        b"LANGUAGE",
+        b"en",
+        Collation::AsciiCasemap,
+        false,
+        false,
+    ),
+    (
+        b"DESCRIPTION",
+        b"three",
+        b"ALTREP",
+        b"a,B",
+        Collation::AsciiCasemap,
+        false,
+        true,
+    ),
+    (
+        b"DESCRIPTION",
+        b"three",
+        b"ALTREP",
+        b"\\",
+        Collation::Octet,
+        false,
+        false,
+    ),
+];
+
+#[test]
+fn text_of_parameter(rt: HostRuntime) -> Result<(), Fail> {
+    let alloc = rt.alloc();
+    for (name, value, param, wanted, collation, negate, expected) in PARAMETERS {
+        for many in [false, true] {
+            let test = ParamTest::Text(text(alloc, wanted, collation, negate)?);
+            let filter = parameter(alloc, name, value, param, test, many)?;
+            assert!(rt; answers(alloc, filter, expected)?);
+        }
+    }
     Ok(())
 }

@@ -5,13 +5,14 @@ use Rattle.cal_base.specs.declared.line.Line.{Line}
 use Rattle.cal_model.specs.Filters.DateProperties.{date_of_line}
 use Rattle.cal_model.specs.Objects.ComponentLines.{has_name, all_of}
 use Rattle.filter_eval.specs.Passing.{date_passes}
+use Rattle.filter_eval.specs.ReadyTexts.{lines_in}
 use Rattle.filter_eval.specs.Tests.{param_filter_of}
 use Rattle.filter_eval.proofs.dated.some_written_date.Given as goal
 
 -- the lines to come tell as much as those of the name
 abbrev pub invariant-lines : goal.invariant-lines
-invariant-lines l = list_any (λ (line : Line). has_name l.name line && list_any (date_passes l.range (map param_filter_of l.params)) (option_to_list (date_of_line l.dates l.in_timezone line))) l.rest
-    ≡ list_any (date_passes l.range (map param_filter_of l.params)) (filter_map (date_of_line l.dates l.in_timezone) (all_of l.name l.lines))
+invariant-lines l = list_any (λ (line : Line). has_name l.name line && list_any (date_passes l.range (map param_filter_of l.params)) (option_to_list (date_of_line l.dates l.in_timezone line))) (lines_in l.rest)
+    ≡ list_any (date_passes l.range (map param_filter_of l.params)) (filter_map (date_of_line l.dates l.in_timezone) (all_of l.name (lines_in l.lines)))
 
 abbrev pub decreases-lines : goal.decreases-lines
-decreases-lines l = length l.rest
+decreases-lines l = length (lines_in l.rest)

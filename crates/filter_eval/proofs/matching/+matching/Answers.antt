@@ -49,14 +49,14 @@ some_inner_passes-children-preserved t c =
       same = λ site at.
           any_missed (passes_whole (matched_of c.args.subject.now) (comp_filter_of c.args.tester.now)) (site_in site (place, child)) (map (site_in site) (enumerate_from (place + 1) c.in-Some.behind.now)) _
           ((rw e at c.children.invariant.same) site at)
-          (sym (c.in_ok-passed.ensures (site_in site (place, child)) (c.inner_spot-inner.ensures c.args.subject.now.object.now site at here.found (λ child. c.children.invariant.before (c.is_child-counts.ensures ∙ child)))) ∙ c.if-passed.false);
+          (sym (c.in_ok-passed.ensures (site_in site (place, child)) (c.inner_spot-inner.ensures.stands c.args.subject.now.object.now site at here.found (λ child. c.children.invariant.before (c.is_child-counts.ensures ∙ child)))) ∙ c.if-passed.false);
     }
 
 pub some_inner_passes-returns-then-passed : goal.some_inner_passes-returns-then-passed
 some_inner_passes-returns-then-passed t c = λ site at.
     let e = c.in-Some.ensures.cases.0 in
     any_met (passes_whole (matched_of c.args.subject.now) (comp_filter_of c.args.tester.now)) (site_in site (c.children.place, c.in-Some.child.now)) (map (site_in site) (enumerate_from (c.children.place + 1) c.in-Some.behind.now)) _
-    ((rw e at c.children.invariant.same) site at) (sym (c.in_ok-passed.ensures (site_in site (c.children.place, c.in-Some.child.now)) (c.inner_spot-inner.ensures c.args.subject.now.object.now site at (at_front (children_of c.args.spot.now.node.now) c.children.place c.in-Some.child.now c.in-Some.behind.now (rw e at c.children.invariant.front)).found (λ child. c.children.invariant.before (c.is_child-counts.ensures ∙ child)))) ∙ c.if-passed.true)
+    ((rw e at c.children.invariant.same) site at) (sym (c.in_ok-passed.ensures (site_in site (c.children.place, c.in-Some.child.now)) (c.inner_spot-inner.ensures.stands c.args.subject.now.object.now site at (at_front (children_of c.args.spot.now.node.now) c.children.place c.in-Some.child.now c.in-Some.behind.now (rw e at c.children.invariant.front)).found (λ child. c.children.invariant.before (c.is_child-counts.ensures ∙ child)))) ∙ c.if-passed.true)
     ∙ sym (holds_present (matched_of c.args.subject.now) c.args.tester.now (sites_in site) c.if-tester.false)
 
 pub some_inner_passes-returns : goal.some_inner_passes-returns

@@ -9,4 +9,4 @@ use Rattle.filter_eval.proofs.props.PropTester.holds.Goals as goal
 pub returns-in-Absent : goal.returns-in-Absent
 returns-in-Absent c = λ site at.
     prop_absent (matched_of c.args.subject.now) site c.args.self.now c.args.spot.now.node.now c.has_line.result c.in-Absent.is at.node
-    (c.has_line.ensures ∙ ap (λ (lines : List Line). list_any (has_name c.args.self.now.name.now) lines) c.as_slice-lines.ensures)
+    (c.has_line.ensures ∙ ap (λ (lines : List Line). list_any (has_name c.args.self.now.name.now) lines) c.as_slice-written.ensures)

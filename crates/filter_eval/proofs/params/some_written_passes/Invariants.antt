@@ -3,7 +3,7 @@ use Rattle.std.specs.Prelude.{bytes_eq}
 use Rattle.std.specs.List.{list_any}
 use Rattle.cal_base.specs.declared.line.Param.{Param}
 use Rattle.cal_model.specs.Filters.TextTests.{param_passes, params_named}
-use Rattle.filter_eval.proofs.params.some_param_passes.Given as goal
+use Rattle.filter_eval.proofs.params.some_written_passes.Given as goal
 
 -- the parameters to come tell as much as those of the name
 abbrev pub invariant-params : goal.invariant-params
