@@ -16,26 +16,26 @@ use std::alloc::Global;
 
 /// The parameters of a line.
 #[derive(Clone, Copy)]
-pub enum Params<'a> {
+pub enum Params<'a, 't> {
     Written(&'a [Param]),
-    Ready(&'a [ReadyParam<'a>]),
+    Ready(&'t [ReadyParam<'a>]),
 }
 
 /// A line.
 #[derive(Clone, Copy)]
-pub enum AskedLine<'a> {
+pub enum AskedLine<'a, 't> {
     Written(&'a Line),
-    Ready(&'a ReadyLine<'a>),
+    Ready(&'t ReadyLine<'a>),
 }
 
 /// The lines of a component.
 #[derive(Clone, Copy)]
-pub enum Lines<'a> {
+pub enum Lines<'a, 't> {
     Written(&'a [Line]),
-    Ready(&'a [ReadyLine<'a>]),
+    Ready(&'t [ReadyLine<'a>]),
 }
 
-impl<'a> AskedLine<'a> {
+impl<'a, 't> AskedLine<'a, 't> {
     /// The line as it was written.
     pub fn written(&self) -> &'a Line
         ensures { result.now ≡ line_in self.now }
@@ -47,7 +47,7 @@ impl<'a> AskedLine<'a> {
     }
 
     /// Its parameters.
-    pub fn params(&self) -> Params<'a>
+    pub fn params(&self) -> Params<'a, 't>
         ensures { params_in result ≡ (line_in self.now).params }
     {
         match *self {
@@ -67,9 +67,9 @@ impl<'a> AskedLine<'a> {
     }
 }
 
-impl<'a> Lines<'a> {
+impl<'a, 't> Lines<'a, 't> {
     /// Those of the component at a spot.
-    pub fn of(spot: &Spot<'a>) -> Lines<'a>
+    pub fn of(spot: &Spot<'a, 't>) -> Lines<'a, 't>
         requires { HasTexts spot.now }
         ensures { lines_in result ≡ lines_of spot.now.node.now }
     {
@@ -80,7 +80,7 @@ impl<'a> Lines<'a> {
     }
 
     /// The first line, and those behind it.
-    pub fn split_first(&self) -> Option<(AskedLine<'a>, Lines<'a>)>
+    pub fn split_first(&self) -> Option<(AskedLine<'a, 't>, Lines<'a, 't>)>
         ensures { MatchOption result (length (lines_in self.now) ≡ 0) (λ parts. IsFirstAndRest (lines_in self.now) (line_in parts.0) (lines_in parts.1)) }
     {
         match *self {
@@ -90,7 +90,7 @@ impl<'a> Lines<'a> {
     }
 }
 
-fn split_written<'a>(lines: &'a [Line]) -> Option<(AskedLine<'a>, Lines<'a>)>
+fn split_written<'a, 't>(lines: &'a [Line]) -> Option<(AskedLine<'a, 't>, Lines<'a, 't>)>
     ensures { MatchOption result (length lines.now ≡ 0) (λ parts. IsFirstAndRest lines.now (line_in parts.0) (lines_in parts.1)) }
 {
     match lines.split_first() {
@@ -99,7 +99,7 @@ fn split_written<'a>(lines: &'a [Line]) -> Option<(AskedLine<'a>, Lines<'a>)>
     }
 }
 
-fn split_ready<'a>(lines: &'a [ReadyLine<'a>]) -> Option<(AskedLine<'a>, Lines<'a>)>
+fn split_ready<'a, 't>(lines: &'t [ReadyLine<'a>]) -> Option<(AskedLine<'a, 't>, Lines<'a, 't>)>
     ensures { MatchOption result (length lines.now ≡ 0) (λ parts. IsFirstAndRest lines.now (line_in parts.0) (lines_in parts.1)) }
 {
     match lines.split_first() {
@@ -109,7 +109,7 @@ fn split_ready<'a>(lines: &'a [ReadyLine<'a>]) -> Option<(AskedLine<'a>, Lines<'
 }
 
 /// The texts that were made ready of the component at a place in the one at a spot, where they were.
-pub fn inner_texts<'a>(spot: &Spot<'a>, place: usize) -> Option<&'a ReadyNode<'a>>
+pub fn inner_texts<'a, 't>(spot: &Spot<'a, 't>, place: usize) -> Option<&'t ReadyNode<'a>>
     ensures { (inner : Tree) → HasTexts spot.now → slice_get (children_of spot.now.node.now) place ≡ Some inner → IfSome result (λ texts. node_of texts.now ≡ inner) }
 {
     match spot.texts {

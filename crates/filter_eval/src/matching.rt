@@ -36,7 +36,12 @@ use std::alloc::Global;
 const FEW: usize = 4;
 
 /// A component in a component, at a place and behind so many alarms with a TRIGGER.
-fn inner_spot<'a>(spot: &Spot<'a>, place: usize, alarms: usize, node: &'a Node) -> Spot<'a>
+fn inner_spot<'a, 't>(
+    spot: &Spot<'a, 't>,
+    place: usize,
+    alarms: usize,
+    node: &'a Node,
+) -> Spot<'a, 't>
     ensures stands { (object : Whole) (site : Site) → IsAt object spot.now site → slice_get (children_of spot.now.node.now) place ≡ Some node.now → (is_child spot.now.place ≡ true → alarms ≡ alarms_in spot.now.node.now place) → IsAt object result (record { path = place ∷ site.path; in_timezone = site.in_timezone || is_named (codes "VTIMEZONE") node.now; node = node.now }) }
     ensures texts { HasTexts spot.now → slice_get (children_of spot.now.node.now) place ≡ Some node.now → HasTexts result }
 {
@@ -161,7 +166,7 @@ fn outermost_holds(alloc: Global, subject: &Subject, tester: &CompTester) -> Res
 /// The same, with the reading of the dates of the object at hand.
 fn dated_holds<'a, 'd>(
     alloc: Global,
-    subject: &Subject<'a, '_, '_>,
+    subject: &Subject<'a, '_, '_, '_>,
     dates: &'d Dates<'a>,
     tester: &CompTester,
 ) -> Result<bool, NoMemory>
@@ -191,7 +196,7 @@ fn prepared_holds(alloc: Global, subject: &Subject, prepared: &Prepared) -> Resu
 /// The same, with the texts of the object at hand.
 fn texted_holds<'a, 't>(
     alloc: Global,
-    subject: &Subject<'a, '_, '_>,
+    subject: &Subject<'a, '_, '_, '_>,
     texts: &'t ReadyNode<'a>,
     prepared: &Prepared,
 ) -> Result<bool, NoMemory>
@@ -221,7 +226,7 @@ fn ready_holds(alloc: Global, subject: &Subject, prepared: &Prepared) -> Result<
 /// The same, with what leads to the rows and the components at hand.
 fn linked_holds<'a, 'l>(
     alloc: Global,
-    subject: &Subject<'a, '_, '_>,
+    subject: &Subject<'a, '_, '_, '_>,
     row_links: &'l Links,
     component_links: &'l Links,
     prepared: &Prepared,

@@ -9,7 +9,7 @@ use cal_model::{Object, Row, ZoneTable};
 
 /// An object, rows of it, and the zone in which floating times are read.
 #[derive(Clone, Copy)]
-pub struct Subject<'a, 'l, 'd> {
+pub struct Subject<'a, 'l, 'd, 't> {
     pub object: &'a Object,
     pub rows: &'a [Row],
     pub zone: &'a ZoneTable,
@@ -20,16 +20,16 @@ pub struct Subject<'a, 'l, 'd> {
     /// How its dates are read, where that was made ready for all tests of it.
     pub dates: Option<&'d Dates<'a>>,
     /// Its texts, where they were made ready for all tests of it.
-    pub texts: Option<&'d ReadyNode<'a>>,
+    pub texts: Option<&'t ReadyNode<'a>>,
 }
 
 /// A component of the tree.
 #[derive(Clone, Copy)]
-pub struct Spot<'a> {
+pub struct Spot<'a, 't> {
     pub node: &'a Node,
     pub place: Place,
     /// Whether it is a VTIMEZONE or stands in one.
     pub in_timezone: bool,
     /// Its texts, where they were made ready.
-    pub texts: Option<&'a ReadyNode<'a>>,
+    pub texts: Option<&'t ReadyNode<'a>>,
 }
