@@ -179,9 +179,8 @@ fn ready_passes(test: &TextTest, name: &Name, param: &ReadyParam) -> bool
     is_named(param.written(), name) && param.passes(test)
 }
 
-#[tactic(auto, using(cal_model::proofs::Words::ListTests::any_filter))]
 fn some_ready_passes(test: &TextTest, name: &Name, params: &[ReadyParam]) -> bool
-    ensures { result ≡ list_any (spec.param_passes test.now) (spec.params_named name.now params.now) }
+    ensures { result ≡ list_any (λ (param : Param). bytes_eq param.name name.now && spec.param_passes test.now param) params.now }
 {
     params.iter().any(|param| ready_passes(test, name, param))
 }

@@ -1,4 +1,4 @@
-use Rattle.std.proofs.Common.{◌+◌, List, cond, length, map, take, ap, sym, ◌∙◌, arith}
+use Rattle.std.proofs.Common.{◌+◌, List, cond, length, map, take, ap, sym, ◌∙◌, arith, rules}
 use Rattle.std.specs.List.{list_any, list_all, enumerate_from}
 use Rattle.std.proofs.lemmas.List.{take_all}
 use Rattle.cal_base.specs.declared.line.Node.{Node}
@@ -51,6 +51,12 @@ some_inner_passes-children-preserved t c =
           ((rw e at c.children.invariant.same) site at)
           (sym (c.in_ok-passed.ensures (site_in site (place, child)) (c.inner_spot-inner.ensures.stands c.args.subject.now.object.now site at here.found (λ child. c.children.invariant.before (c.is_child-counts.ensures ∙ child)))) ∙ c.if-passed.false);
     }
+
+pub some_inner_passes-passes-requires : goal.some_inner_passes-passes-requires
+some_inner_passes-passes-requires t c =
+    let e = c.in-Some.ensures.cases.0 in
+    let here = at_front (children_of c.args.spot.now.node.now) c.children.place c.in-Some.child.now c.in-Some.behind.now (rw e at c.children.invariant.front) in
+    (search rules, (c.requires.ready, c.inner_spot-inner.ensures.texts c.requires.texts here.found))
 
 pub some_inner_passes-returns-then-passed : goal.some_inner_passes-returns-then-passed
 some_inner_passes-returns-then-passed t c = λ site at.
