@@ -100,6 +100,9 @@ fn start_book(alloc: Global, users: &Arc<Users>) -> Result<Book, NoMemory>
     Book::start(alloc, shared)
 }
 
+/// Lets a book go that was not filled whole.
+fn let_go(_book: Book) {}
+
 /// The end of a loading, by that of the filling of its book.
 fn loading_end<D: Disk>(book: Book, filled: Filled<D>) -> Loaded<D>
     requires { KeepsWhole D.past book filled }
@@ -107,10 +110,22 @@ fn loading_end<D: Disk>(book: Book, filled: Filled<D>) -> Loaded<D>
 {
     match filled {
         Filled::Whole(keeper) => Loaded::Ready(Kept::over(book, keeper)),
-        Filled::Refused(disk, place) => Loaded::Refused(disk, place),
-        Filled::Mismatch(disk, place, kept, made) => Loaded::Mismatch(disk, place, kept, made),
-        Filled::Failed(disk) => Loaded::Failed(disk),
-        Filled::NoMemory(disk) => Loaded::NoMemory(disk),
+        Filled::Refused(disk, place) => {
+            let_go(book);
+            Loaded::Refused(disk, place)
+        }
+        Filled::Mismatch(disk, place, kept, made) => {
+            let_go(book);
+            Loaded::Mismatch(disk, place, kept, made)
+        }
+        Filled::Failed(disk) => {
+            let_go(book);
+            Loaded::Failed(disk)
+        }
+        Filled::NoMemory(disk) => {
+            let_go(book);
+            Loaded::NoMemory(disk)
+        }
     }
 }
 
