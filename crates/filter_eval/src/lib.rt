@@ -12,6 +12,7 @@ mod dates;
 mod ends;
 mod links;
 mod matching;
+mod moments;
 mod params;
 mod place;
 mod prepared;

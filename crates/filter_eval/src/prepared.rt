@@ -30,6 +30,8 @@ pub struct Prepared<'f> {
     pub(crate) top: CompTester<'f>,
     /// Whether it asks for a date of some property.
     pub(crate) dated: bool,
+    /// Whether it asks a range of an alarm.
+    pub(crate) alarmed: bool,
     /// Whether no object without rows matches it.
     pub(crate) needs_row: bool,
 }
@@ -60,6 +62,7 @@ impl<'f> Prepared<'f> {
             Ok(top) => Ok(Prepared {
                 top,
                 dated: asks_date(&filter.top),
+                alarmed: asks_alarm(&filter.top),
                 needs_row: needs_row(&filter.top),
             }),
             Err(fault) => Err(fault),
@@ -78,6 +81,19 @@ fn asks_date(filter: &CompFilter) -> bool {
     }
     'comps: for inner in filter.comps.as_slice() {
         if asks_date(inner) {
+            return true;
+        }
+    }
+    false
+}
+
+/// Whether a comp-filter asks a range of a VALARM, by itself or by one in it.
+fn asks_alarm(filter: &CompFilter) -> bool {
+    if filter.time.is_some() && is_named(&filter.name, b"VALARM") {
+        return true;
+    }
+    'comps: for inner in filter.comps.as_slice() {
+        if asks_alarm(inner) {
             return true;
         }
     }
