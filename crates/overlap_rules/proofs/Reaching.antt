@@ -1,5 +1,5 @@
 -- The first moment from one on, from which moments that rise by a gap come to lie in a range, and what it says of a test.
-use Rattle.std.proofs.Common.{◌≡◌, ℕ, ◌+◌, ◌-◌, ◌*◌, ◌<◌, ◌≤◌, nat_lt, Bool, true, false, IsTrue, refl, sym, ap, subst, arith, inl, inr, mul-zero, ℤ, pos, ◌+ℤ◌, ◌-ℤ◌, ◌≤ℤ◌, ◌<ℤ◌}
+use Rattle.std.proofs.Common.{◌≡◌, ℕ, ◌*◌, ◌<◌, ◌≤◌, nat_lt, Bool, true, false, IsTrue, refl, sym, subst, arith, inl, inr, mul-zero, ℤ, pos, ◌+ℤ◌, ◌-ℤ◌, ◌≤ℤ◌, ◌<ℤ◌}
 use Rattle.std.proofs.lemmas.Bool.{cases_Bool, false≢true, ltb-true, ltb-false}
 use Rattle.std.proofs.lemmas.Int.{ints}
 use Rattle.std.proofs.Math.Nat.{mul-le-mul_right}
@@ -74,7 +74,7 @@ beyond_more gap number k high from more past =
 -- A test of moments by what is so far behind each: it passes one exactly where moments that rise from there come to lie in a range.
 pub record Reads (test : ℤ → Bool) (gap last : ℕ) (low high lead : ℤ) : Type 0 where
   pub at : (b : Bool) (moment : ℤ) → (IsTrue b → (k : ℕ) × (k ≤ last) × IsRepeatIn (moment +ℤ lead) gap low high k)
-    → ((k : ℕ) → k ≤ last → IsRepeatIn (moment +ℤ lead) gap low high k → IsTrue b) → b ≡ test moment
+      → ((k : ℕ) → k ≤ last → IsRepeatIn (moment +ℤ lead) gap low high k → IsTrue b) → b ≡ test moment
 
 none_at : (test : ℤ → Bool) (gap last : ℕ) (low high lead moment : ℤ) → Reads test gap last low high lead
     → ((k : ℕ) → k ≤ last → IsRepeatIn (moment +ℤ lead) gap low high k → ⊥) → test moment ≡ false
