@@ -1,5 +1,5 @@
 -- How an alarm and a component pass a range, in the forms in which they are looked at.
-use Rattle.std.proofs.Common.{◌≡◌, ℕ, ◌+◌, Bool, true, false, ◌||◌, cond, List, [], ◌∷◌, sym, ap, ◌∙◌, arith, drop, Option, None, Some}
+use Rattle.std.proofs.Common.{◌≡◌, ℕ, ◌+◌, Bool, true, false, ◌||◌, cond, List, [], ◌∷◌, refl, sym, ap, ◌∙◌, arith, drop, Option, None, Some}
 use Rattle.std.specs.Prelude.{◌==◌, filter, map, option_map, option_to_list, ℤ, ◌+ℤ◌}
 use Rattle.std.specs.List.{list_any, slice_get}
 use Rattle.cal_model.specs.declared.object.Alarm.{Alarm}
