@@ -4,6 +4,8 @@ mod FilteredTests
 mod FoundTexts
 mod LeastInstants
 mod MatchSteps
+mod MomentLists
+mod MomentSearch
 mod ReadStamps
 mod ReadyNodes
 mod RowlessObjects

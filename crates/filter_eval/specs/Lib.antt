@@ -1,3 +1,4 @@
+pub mod AlarmMoments
 pub mod EnoughRows
 pub mod Instants
 pub mod Links

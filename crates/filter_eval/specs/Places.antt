@@ -14,6 +14,7 @@ use Rattle.cal_model.specs.Filters.Matching.{date_reading}
 use Rattle.cal_model.specs.Objects.ComponentLines.{children_of}
 use Rattle.cal_model.specs.TimeZones.TableBounds.{IsTable}
 use Rattle.overlap_rules.specs.Bounds.{IsNearRow}
+use Rattle.filter_eval.specs.AlarmMoments.{AreAllMoments}
 use Rattle.filter_eval.specs.Links.{AreLinks}
 use Rattle.filter_eval.specs.ReadyTexts.{node_of}
 
@@ -58,12 +59,13 @@ row_keys rows = map (λ (row : Row). row.component) rows
 abbrev pub component_keys : List Component → List ℕ
 component_keys components = map (λ (component : Component). component.child) components
 
--- zones with offsets below a day, rows within some three million years, links by these numbers and children, dates that are read by these zones, and the texts of the object
+-- zones with offsets below a day, rows within some three million years, links by these numbers and children, moments of these rows, dates that are read by these zones, and the texts of the object
 pub record IsReady (subject : Subject) : Type 0 where
   pub zone : IsTable subject.zone.now
   pub zones : All IsTable subject.object.now.zones
   pub rows : All IsNearRow subject.rows.now
   pub row_links : IfSome subject.row_links (λ links. AreLinks links.now (row_keys subject.rows.now))
   pub component_links : IfSome subject.component_links (λ links. AreLinks links.now (component_keys subject.object.now.components))
+  pub moments : IfSome subject.moments (λ all. AreAllMoments (matched_of subject) all.now)
   pub dates : IfSome subject.dates (λ dates. dates.now ≡ date_reading (matched_of subject))
   pub texts : IfSome subject.texts (λ texts. node_of texts.now ≡ subject.object.now.tree)

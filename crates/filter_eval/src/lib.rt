@@ -13,6 +13,7 @@ mod dates;
 mod ends;
 mod links;
 mod matching;
+mod moments;
 mod params;
 mod place;
 mod prepared;

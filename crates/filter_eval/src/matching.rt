@@ -9,6 +9,7 @@ ghost use Rattle.cal_model.specs.Objects.ComponentLines.{children_of, is_named};
 ghost use Rattle.cal_model.specs.declared.object.Object.{Object as Whole};
 ghost use Rattle.cal_model.specs.TimeZones.TableBounds.{IsTable};
 ghost use Rattle.overlap_rules.specs.Bounds.{IsNearRow};
+ghost use Rattle.filter_eval.specs.AlarmMoments.{AreAllMoments};
 ghost use Rattle.filter_eval.specs.EnoughRows.{AreEnough};
 ghost use Rattle.filter_eval.specs.Links.{AreLinks};
 ghost use Rattle.filter_eval.specs.Places.{IsAt, IsReady, alarms_in, component_keys, is_child, matched_of, row_keys};
@@ -21,6 +22,7 @@ use crate::asked::inner_texts;
 use crate::components::{has_node, is_named, node_is_named};
 use crate::dates::Dates;
 use crate::links::Links;
+use crate::moments::{AlarmMoments, all_moments};
 use crate::place::Place;
 use crate::prepared::{CompTester, Prepared};
 use crate::props::all_props_hold;
@@ -34,6 +36,9 @@ use std::alloc::Global;
 
 /// The most components of an object for which nothing is made ready.
 const FEW: usize = 4;
+
+/// The most rows that are gone over for each range of an alarm.
+const FEW_ROWS: usize = 16;
 
 /// A component in a component, at a place and behind so many alarms with a TRIGGER.
 fn inner_spot<'a, 't>(
@@ -166,7 +171,7 @@ fn outermost_holds(alloc: Global, subject: &Subject, tester: &CompTester) -> Res
 /// The same, with the reading of the dates of the object at hand.
 fn dated_holds<'a, 'd>(
     alloc: Global,
-    subject: &Subject<'a, '_, '_, '_>,
+    subject: &Subject<'a, '_, '_, '_, '_>,
     dates: &'d Dates<'a>,
     tester: &CompTester,
 ) -> Result<bool, NoMemory>
@@ -182,7 +187,7 @@ fn dated_holds<'a, 'd>(
 }
 
 /// The same, with the reading of the dates made where it is wanted.
-fn prepared_holds(alloc: Global, subject: &Subject, prepared: &Prepared) -> Result<bool, NoMemory>
+fn read_holds(alloc: Global, subject: &Subject, prepared: &Prepared) -> Result<bool, NoMemory>
     requires { IsReady subject.now }
     ensures { IfOk result (λ holds. holds ≡ spec.comp_filter_holds (matched_of subject.now) prepared.now.top (whole_site subject.now.object.now ∷ [])) }
 {
@@ -196,7 +201,7 @@ fn prepared_holds(alloc: Global, subject: &Subject, prepared: &Prepared) -> Resu
 /// The same, with the texts of the object at hand.
 fn texted_holds<'a, 't>(
     alloc: Global,
-    subject: &Subject<'a, '_, '_, '_>,
+    subject: &Subject<'a, '_, '_, '_, '_>,
     texts: &'t ReadyNode<'a>,
     prepared: &Prepared,
 ) -> Result<bool, NoMemory>
@@ -223,10 +228,40 @@ fn ready_holds(alloc: Global, subject: &Subject, prepared: &Prepared) -> Result<
     texted_holds(alloc, subject, &texts, prepared)
 }
 
+/// The same, with the moments from which alarms count at hand.
+fn timed_holds<'a, 'm>(
+    alloc: Global,
+    subject: &Subject<'a, '_, '_, '_, '_>,
+    moments: &'m List<AlarmMoments>,
+    prepared: &Prepared,
+) -> Result<bool, NoMemory>
+    requires ready { IsReady subject.now }
+    requires moments { AreAllMoments (matched_of subject.now) moments.now }
+    ensures { IfOk result (λ holds. holds ≡ spec.comp_filter_holds (matched_of subject.now) prepared.now.top (whole_site subject.now.object.now ∷ [])) }
+{
+    let subject = Subject {
+        moments: Some(moments),
+        ..*subject
+    };
+    read_holds(alloc, &subject, prepared)
+}
+
+/// The same, with these moments made ready where ranges of alarms are asked of many rows.
+fn prepared_holds(alloc: Global, subject: &Subject, prepared: &Prepared) -> Result<bool, NoMemory>
+    requires { IsReady subject.now }
+    ensures { IfOk result (λ holds. holds ≡ spec.comp_filter_holds (matched_of subject.now) prepared.now.top (whole_site subject.now.object.now ∷ [])) }
+{
+    if !prepared.alarmed || subject.rows.len() <= FEW_ROWS {
+        return read_holds(alloc, subject, prepared);
+    }
+    let moments = all_moments(alloc, subject)?;
+    timed_holds(alloc, subject, &moments, prepared)
+}
+
 /// The same, with what leads to the rows and the components at hand.
 fn linked_holds<'a, 'l>(
     alloc: Global,
-    subject: &Subject<'a, '_, '_, '_>,
+    subject: &Subject<'a, '_, '_, '_, '_>,
     row_links: &'l Links,
     component_links: &'l Links,
     prepared: &Prepared,
@@ -267,6 +302,7 @@ impl<'f> Prepared<'f> {
             zone,
             row_links: None,
             component_links: None,
+            moments: None,
             dates: None,
             texts: None,
         };
@@ -282,8 +318,9 @@ impl<'f> Prepared<'f> {
     ///
     /// Floating times are read in the given zone. Where the rows are rows of the object, and among
     /// them are all that meet a range of the filter, they tell as much as all rows of the object.
-    /// Memory may be wanting only where the filter looks at a text or a date, or the object has more
-    /// than four components.
+    /// Memory may be wanting only where the filter looks at a text or a date, where it asks a range of
+    /// an alarm and there are more than sixteen rows, or where the object has more than four
+    /// components.
     pub fn matches(
         &self,
         alloc: Global,

@@ -36,6 +36,8 @@ pub struct Prepared<'f> {
     pub(crate) dated: bool,
     /// Whether it has so many tests of texts that those of an object are worth being made ready.
     pub(crate) many_texts: bool,
+    /// Whether it asks a range of an alarm.
+    pub(crate) alarmed: bool,
     /// Whether no object without rows matches it.
     pub(crate) needs_row: bool,
 }
@@ -67,6 +69,7 @@ impl<'f> Prepared<'f> {
                 top,
                 dated: asks_date(&filter.top),
                 many_texts: texts_with(&filter.top, 0) > FEW_TEXTS,
+                alarmed: asks_alarm(&filter.top),
                 needs_row: needs_row(&filter.top),
             }),
             Err(fault) => Err(fault),
@@ -115,6 +118,19 @@ fn texts_with(filter: &CompFilter, beside: usize) -> usize {
         texts = texts_with(inner, texts);
     }
     texts
+}
+
+/// Whether a comp-filter asks a range of a VALARM, by itself or by one in it.
+fn asks_alarm(filter: &CompFilter) -> bool {
+    if filter.time.is_some() && is_named(&filter.name, b"VALARM") {
+        return true;
+    }
+    'comps: for inner in filter.comps.as_slice() {
+        if asks_alarm(inner) {
+            return true;
+        }
+    }
+    false
 }
 
 /// Whether the comp-filter of the outermost component has one in it that some row alone lets pass, so

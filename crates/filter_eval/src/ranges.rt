@@ -1,26 +1,27 @@
 //! Whether a component passes a range by its rows, and an alarm by its triggers (RFC 4791, 9.7.1 and
-//! 9.9; RFC 5545, 3.6.6). Each test asks for itself for some row of all that are given.
+//! 9.9; RFC 5545, 3.6.6). Each test asks for itself for some row of all that are given: row by row, or of
+//! an alarm by the moments of the rows where these were made ready.
 
-ghost use Rattle.std.specs.Prelude.{◌≡◌, ◌&&◌, ◌==◌, ◌∷◌, [], ℕ, List, All, option_to_list};
-ghost use Rattle.std.specs.List.{list_any};
+ghost use Rattle.std.specs.Prelude.{◌≡◌, ◌&&◌, ◌==◌, ◌∷◌, [], ℕ, List, All, Some, option_to_list};
+ghost use Rattle.std.specs.List.{list_any, slice_get};
 ghost use Rattle.cal_model.specs.Instances.Rows.{Numbered};
 ghost use Rattle.cal_model.specs.Filters.ComponentRanges as spec;
 ghost use Rattle.cal_model.specs.Filters.ComponentRanges.{Site};
 ghost use Rattle.cal_model.specs.Objects.ComponentReading as reading;
 ghost use Rattle.cal_model.specs.Ranges.Overlap as overlap;
 ghost use Rattle.cal_model.specs.declared.row.Row.{Row as Instance};
-ghost use Rattle.cal_model.specs.TimeZones.TableBounds.{IsTable};
 ghost use Rattle.overlap_rules.specs.Bounds.{IsNearRow};
 ghost use Rattle.filter_eval.specs.Places.{IsAt, IsReady, matched_of};
 
 use crate::alarms::has_trigger;
+use crate::moments::{dated_fixed, ready_moments, some_goes_off};
 use crate::place::Place;
 use crate::subject::{Spot, Subject};
 use crate::walks::{first_component, first_row, next_component, next_row};
 use cal_base::Node;
-use cal_model::{Alarm, Component, Fixed, Range, Row, RowKind, ZoneTable};
+use cal_model::{Alarm, Component, Range, Row, Trigger};
 use ical_values::{alarm_of, is_alarm};
-use overlap_rules::{alarm_overlaps, fixed, lone_alarm_overlaps, row_overlaps};
+use overlap_rules::{alarm_overlaps, lone_alarm_overlaps, row_overlaps};
 
 /// Whether a row is one of a component and overlaps a range.
 fn row_passes(
@@ -85,19 +86,6 @@ fn child_passes(subject: &Subject, range: Range, child: usize) -> bool
     false
 }
 
-/// The start and the end of a row with a date.
-fn dated_fixed(row: &Row, zone: &ZoneTable) -> Option<Fixed>
-    requires zone { IsTable zone.now }
-    requires near { IsNearRow row.now }
-    ensures { result ≡ overlap.dated_fixed row.now zone.now }
-{
-    if row.kind == RowKind::Undated {
-        None
-    } else {
-        Some(fixed(row, zone))
-    }
-}
-
 /// Whether a row is one of a component, and an alarm of that goes off in a range by it.
 fn alarm_passes_by_row(
     subject: &Subject,
@@ -139,7 +127,7 @@ fn alarm_passes_by_rows(
     false
 }
 
-/// Whether an alarm of a component goes off in a range, by no row or by some row.
+/// Whether an alarm of a component goes off in a range: an absolute one by no row, another by some row.
 fn alarm_passes(
     subject: &Subject,
     range: Range,
@@ -147,11 +135,17 @@ fn alarm_passes(
     component: &Component,
     alarm: &Alarm,
 ) -> bool
-    requires { IsReady subject.now }
+    requires ready { IsReady subject.now }
+    requires component { slice_get subject.now.object.now.components number ≡ Some component.now }
     ensures { result ≡ spec.alarm_passes (matched_of subject.now) range (record { number = number; component = component.now }) alarm.now }
 {
-    alarm_overlaps(alarm, component, None, range)
-        || alarm_passes_by_rows(subject, range, number, component, alarm)
+    match alarm.trigger {
+        Trigger::At(_) => alarm_overlaps(alarm, component, None, range),
+        Trigger::From(related, after) => match ready_moments(subject, number, related) {
+            Some(moments) => some_goes_off(moments, alarm, after, range),
+            None => alarm_passes_by_rows(subject, range, number, component, alarm),
+        },
+    }
 }
 
 /// Whether an alarm that stands directly in a component, behind so many others, passes a range.
@@ -163,7 +157,8 @@ fn held_alarm_passes(
     component: &Component,
     before: usize,
 ) -> bool
-    requires { IsReady subject.now }
+    requires ready { IsReady subject.now }
+    requires component { slice_get subject.now.object.now.components number ≡ Some component.now }
     ensures { (site : Site) (place : ℕ) (more : List Numbered) → site.node ≡ node.now → before ≡ spec.alarms_before subject.now.object.now place component.now.child → result ≡ spec.valarm_passes (matched_of subject.now) range (record site { path = place ∷ component.now.child ∷ [] }) (record { number = number; component = component.now } ∷ more) }
 {
     if !has_trigger(node) {

@@ -1,3 +1,4 @@
 mod Covering
+mod Reaching
 mod Triggers
 mod UtcMoments

@@ -2,7 +2,7 @@
 use Rattle.std.proofs.Common.{◌≡◌, ℕ, zero, suc, ◌+◌, ◌-◌, ◌*◌, ◌<◌, ◌≤◌, Bool, true, false, IsTrue, ◌&&◌, ◌||◌, refl, sym, ◌∙◌, arith, inl, inr, ℤ, pos, negsuc, neg_ℤ, ◌+ℤ◌, ◌-ℤ◌, ◌*ℤ◌, ◌≤ℤ◌, ◌<ℤ◌, int_le, int_lt}
 use Rattle.std.specs.List.{list_any}
 use Rattle.std.specs.Prelude.{◌==◌, ◌≢◌}
-use Rattle.std.proofs.Common.{ap, eqb-true, subst}
+use Rattle.std.proofs.Common.{ap, add-mul, eqb-true, subst}
 use Rattle.std.proofs.lemmas.Bool.{cases_Bool, false≢true, eqb-false}
 use Rattle.std.proofs.lemmas.Int.{ints}
 use Rattle.cal_model.specs.Words.Lists.{counted_from, numbers_between}
@@ -15,7 +15,10 @@ use Rattle.cal_model.specs.declared.object.Trigger.TheVariants.{From}
 use Rattle.cal_model.specs.declared.row.Fixed.{Fixed}
 use Rattle.cal_model.specs.declared.row.Range.{Range}
 use Rattle.cal_model.specs.Ranges.Overlap.{seconds_of, moment_related, some_trigger, alarm_overlaps}
-use Rattle.overlap_rules.specs.Repeats.{IsRepeatIn}
+use Rattle.std.specs.Prelude.{unsigned_abs}
+use Rattle.overlap_rules.specs.NextMoments.{goes_off, NonePasses, IsFirstToPass}
+use Rattle.overlap_rules.specs.Repeats.{IsRepeatIn, NoneReaches, IsFirstToReach, way_back}
+use Rattle.overlap_rules.proofs.Reaching.{Reads, none_passes, first_passes}
 
 or_left : (b more : Bool) → b ≡ true → (b || more) ≡ true
 or_left true more is = refl
@@ -131,3 +134,71 @@ pub relative_is : (alarm : Alarm) (c : Component) (at : Option Fixed) (range : R
     some_trigger alarm range (moment +ℤ seconds_of length) ≡ alarm_overlaps alarm c at range
 relative_is alarm c at range related length moments moment trigger there from =
     rw (trigger, there, from) (or_none (some_trigger alarm range (moment +ℤ seconds_of length)))
+
+-- repeats that go backwards, from the last one on
+
+turned_low : (first low f : ℤ) (a b c : ℕ) → a + b ≡ c → f ≡ first -ℤ pos c → low ≤ℤ (f +ℤ pos b) → low ≤ℤ (first +ℤ neg_ℤ (pos a))
+turned_low first low f a b c sum is from = omega (arith, ints)
+
+turned_high : (first high f : ℤ) (a b c : ℕ) → a + b ≡ c → f ≡ first -ℤ pos c → (f +ℤ pos b) <ℤ high → (first +ℤ neg_ℤ (pos a)) <ℤ high
+turned_high first high f a b c sum is before = omega (arith, ints)
+
+back_low : (first low f : ℤ) (a b c : ℕ) → a + b ≡ c → f ≡ first -ℤ pos c → low ≤ℤ (first +ℤ neg_ℤ (pos a)) → low ≤ℤ (f +ℤ pos b)
+back_low first low f a b c sum is from = omega (arith, ints)
+
+back_high : (first high f : ℤ) (a b c : ℕ) → a + b ≡ c → f ≡ first -ℤ pos c → (first +ℤ neg_ℤ (pos a)) <ℤ high → (f +ℤ pos b) <ℤ high
+back_high first high f a b c sum is before = omega (arith, ints)
+
+-- so many gaps forward from the last one are the others back from the first
+turned : (k last gap : ℕ) → k ≤ last → (last - k) * gap + k * gap ≡ last * gap
+turned k last gap few =
+    let whole : last - k + k ≡ last = omega arith in
+    sym (add-mul (last - k) k gap) ∙ ap (λ (n : ℕ). n * gap) whole
+
+turned_is : (b : Bool) (first : ℤ) (gap last : ℕ) (low high f : ℤ) → f ≡ first -ℤ pos (last * suc gap) →
+    (IsTrue b → (k : ℕ) × (k ≤ last) × IsRepeatIn f (suc gap) low high k) →
+    ((k : ℕ) → k ≤ last → IsRepeatIn f (suc gap) low high k → IsTrue b) → b ≡ some_repeat first (negsuc gap) last low high
+turned_is b first gap last low high f is met all =
+    some_passes (λ k. int_le low (first +ℤ pos k *ℤ negsuc gap) && int_lt (first +ℤ pos k *ℤ negsuc gap) high) last b
+    (λ passes. let found = met passes in let sum = turned found.0 last (suc gap) found.1 in (
+      last - found.0,
+      omega arith,
+      in_range low high (first +ℤ neg_ℤ (pos ((last - found.0) * suc gap)))
+          (turned_low first low f _ _ _ sum is found.2.from_low) (turned_high first high f _ _ _ sum is found.2.before_high),
+    ))
+    (λ k few passes. let inside = from_in_range low high (first +ℤ neg_ℤ (pos (k * suc gap))) passes in
+    let sum : k * suc gap + (last - k) * suc gap ≡ last * suc gap = omega (arith, turned k last (suc gap) few) in
+    all (last - k) (omega arith) (record { from_low = back_low first low f _ _ _ sum is inside.0; before_high = back_high first high f _ _ _ sum is inside.1 }))
+
+reads_gap : (gap : ℤ) (last : ℕ) (low high lead : ℤ) → Reads (λ moment. some_repeat (moment +ℤ lead) gap last low high) (unsigned_abs gap) last low high (lead -ℤ pos (way_back gap last))
+reads_gap (pos g) last low high lead = record { at = λ b moment met all. forward_is b (moment +ℤ lead) (pos g) last low high met all (omega (arith, ints)) refl refl refl }
+reads_gap (negsuc g) last low high lead = record { at = λ b moment met all. turned_is b (moment +ℤ lead) g last low high (moment +ℤ (lead -ℤ pos (last * suc g))) (omega (arith, ints)) met all }
+
+-- what an alarm does at a moment from which it counts
+pub reads_alarm : (alarm : Alarm) (after : Length) (range : Range) →
+    Reads (goes_off alarm after range) (unsigned_abs (seconds_of alarm.gap)) alarm.repeat range.start.0 range.end.0 (seconds_of after -ℤ pos (way_back (seconds_of alarm.gap) alarm.repeat))
+reads_alarm alarm after range = reads_gap (seconds_of alarm.gap) alarm.repeat range.start.0 range.end.0 (seconds_of after)
+
+pub none_of_alarm : (alarm : Alarm) (after : Length) (range : Range) (from lead : ℤ) (gap : ℕ) (low high start : ℤ) →
+    lead ≡ seconds_of after -ℤ pos (way_back (seconds_of alarm.gap) alarm.repeat) → gap ≡ unsigned_abs (seconds_of alarm.gap) → low ≡ range.start.0 → high ≡ range.end.0 → start ≡ from +ℤ lead →
+    NoneReaches gap alarm.repeat low high start → NonePasses (goes_off alarm after range) from
+none_of_alarm alarm after range from lead gap low high start is size first last begins none =
+    let at : start ≡ from +ℤ (seconds_of after -ℤ pos (way_back (seconds_of alarm.gap) alarm.repeat)) = omega (arith, ints) in
+    none_passes (goes_off alarm after range) (unsigned_abs (seconds_of alarm.gap)) alarm.repeat range.start.0 range.end.0 (seconds_of after -ℤ pos (way_back (seconds_of alarm.gap) alarm.repeat)) from start
+    (reads_alarm alarm after range) at
+    (subst (λ (g : ℕ). NoneReaches g alarm.repeat range.start.0 range.end.0 start) size
+    (subst (λ (z : ℤ). NoneReaches gap alarm.repeat z range.end.0 start) first
+    (subst (λ (z : ℤ). NoneReaches gap alarm.repeat low z start) last none)))
+
+pub first_of_alarm : (alarm : Alarm) (after : Length) (range : Range) (from lead at : ℤ) {gap : ℕ} {low high start reached : ℤ} →
+    IsFirstToReach gap alarm.repeat low high start reached →
+    lead ≡ seconds_of after -ℤ pos (way_back (seconds_of alarm.gap) alarm.repeat) → gap ≡ unsigned_abs (seconds_of alarm.gap) → low ≡ range.start.0 → high ≡ range.end.0 → start ≡ from +ℤ lead →
+    reached ≡ at +ℤ lead → IsFirstToPass (goes_off alarm after range) from at
+first_of_alarm alarm after range from lead at {gap} {low} {high} {start} {reached} one is size first last begins back =
+    let begun : start ≡ from +ℤ (seconds_of after -ℤ pos (way_back (seconds_of alarm.gap) alarm.repeat)) = omega (arith, ints) in
+    let found : reached ≡ at +ℤ (seconds_of after -ℤ pos (way_back (seconds_of alarm.gap) alarm.repeat)) = omega (arith, ints) in
+    first_passes (goes_off alarm after range) (unsigned_abs (seconds_of alarm.gap)) alarm.repeat range.start.0 range.end.0 (seconds_of after -ℤ pos (way_back (seconds_of alarm.gap) alarm.repeat)) from start at reached
+    (reads_alarm alarm after range) begun found
+    (subst (λ (g : ℕ). IsFirstToReach g alarm.repeat range.start.0 range.end.0 start reached) size
+    (subst (λ (z : ℤ). IsFirstToReach gap alarm.repeat z range.end.0 start reached) first
+    (subst (λ (z : ℤ). IsFirstToReach gap alarm.repeat low z start reached) last one)))

@@ -23,3 +23,7 @@ pub record HasDays (row : Row) : Type 0 where
 -- what sums of a moment and a length reach
 abbrev pub IsOfSeconds : ℤ → Type 0
 IsOfSeconds = IsBetween (neg_ℤ (pos 2_000_000_000_000_000_000_000_000)) (pos 2_000_000_000_000_000_000_000_000)
+
+-- what such a sum reaches, less all gaps of an alarm that goes backwards
+abbrev pub IsFar : ℤ → Type 0
+IsFar = IsBetween (neg_ℤ (pos 100_000_000_000_000_000_000_000_000_000_000_000)) (pos 100_000_000_000_000_000_000_000_000_000_000_000)

@@ -13,9 +13,10 @@ use cal_model::{Alarm, Component, Extent, Fixed, Range, Related, Trigger};
 
 /// How many gaps it takes to cover a distance.
 #[tactic(auto, using(crate::proofs::Covering::less_is_covered))]
-fn gaps_over(distance: u128, gap: u128) -> u128
+pub(crate) fn gaps_over(distance: u128, gap: u128) -> u128
     requires some { 0 < distance }
     requires rises { 0 < gap }
+    ensures positive { 0 < result }
     ensures covers { distance ≤ result * gap }
     ensures within { result * gap < distance + gap }
     ensures least { (k : ℕ) → k < result → k * gap < distance }
@@ -67,8 +68,9 @@ fn has_end(extent: Extent) -> bool
     matches!(extent, Extent::End(_) | Extent::Due(_) | Extent::Lasting(_))
 }
 
-/// The moment from which an alarm counts; an absent start or end gives none.
-fn moment_related(related: Related, component: &Component, at: Fixed) -> Option<i64>
+/// The moment from which an alarm of a component counts, of the start and the end of an instance, in
+/// seconds since 1970 in UTC; where the component has no start, or no end, there is none by it.
+pub fn moment_related(related: Related, component: &Component, at: Fixed) -> Option<i64>
     ensures { result ≡ spec.moment_related related component.now (Some at) }
 {
     match related {

@@ -74,7 +74,7 @@ fn event_lines(alloc: Global) -> Result<List<Line>, NoMemory> {
     Ok(lines)
 }
 
-fn event_node(alloc: Global) -> Result<Node, NoMemory> {
+pub fn event_node(alloc: Global) -> Result<Node, NoMemory> {
     let lines = event_lines(alloc)?;
     let mut alarms = List::new(alloc);
     alarms.push(alarm_node(alloc)?)?;
@@ -85,16 +85,13 @@ fn seconds(seconds: i64) -> Length {
     Length { days: 0, seconds }
 }
 
-fn event(alloc: Global) -> Result<Component, NoMemory> {
+/// The event as the component of a child of its calendar, with an alarm.
+pub fn event(alloc: Global, child: u32, alarm: Alarm) -> Result<Component, NoMemory> {
     let mut alarms = List::new(alloc);
-    alarms.push(Alarm {
-        trigger: Trigger::From(Related::Start, seconds(-900)),
-        repeat: 2,
-        gap: seconds(300),
-    })?;
+    alarms.push(alarm)?;
     Ok(Component {
         kind: Kind::Event,
-        child: 0,
+        child,
         start: Some(Stamp::Utc(Utc(MIDNIGHT + 32_400))),
         extent: Extent::Lasting(seconds(3_600)),
         recurrence_id: None,
@@ -117,8 +114,13 @@ pub fn object(alloc: Global) -> Result<Object, NoMemory>
     let mut children = List::new(alloc);
     children.push(event_node(alloc)?)?;
     let tree = node(alloc, b"VCALENDAR", List::new(alloc), children)?;
+    let alarm = Alarm {
+        trigger: Trigger::From(Related::Start, seconds(-900)),
+        repeat: 2,
+        gap: seconds(300),
+    };
     let mut components = List::new(alloc);
-    components.push(event(alloc)?)?;
+    components.push(event(alloc, 0, alarm)?)?;
     Ok(Object {
         kind: Kind::Event,
         uid: Octets::new(alloc),

@@ -108,7 +108,7 @@ fn matches_ready(
 
 /// Whether an object matches a filter or not, as it is said, by the call for one object and by a
 /// filter made ready.
-fn answer_so(
+pub fn answer_so(
     alloc: Global,
     filter: &Filter,
     object: &Object,

@@ -9,6 +9,8 @@
 #![tactic(auto)]
 
 #[cfg(test)]
+mod alarms;
+#[cfg(test)]
 mod event;
 #[cfg(test)]
 mod filter_examples;
