@@ -1,4 +1,4 @@
-use Rattle.std.proofs.Common.{arith, rules, ◌≡◌, ◌∷◌, List, ℤ, ◌<ℤ◌, ◌≤ℤ◌, refl, drop, ap, sym, subst, ◌∙◌, FitsSigned, w64, to_z, of_z, to_z-of_z}
+use Rattle.std.proofs.Common.{arith, rules, ◌≡◌, List, ℤ, drop, ap, sym, subst, ◌∙◌, FitsSigned, w64, to_z-of_z}
 use Rattle.std.specs.Int.{w128}
 use Rattle.std.specs.List.{list_any}
 use Rattle.std.specs.List.Sorted.{IsSorted}
