@@ -1,16 +1,16 @@
 -- What the status of a server at a journal file says, by how it ended behind its journal.
 use Rattle.std.proofs.Common.{◌≡◌, ℕ, Bool, true, false, refl, arith, inl, inr}
 use Rattle.std.specs.Prelude.{◌⊎◌, Result, Ok, Err, IsErrOf, OnOk}
-use Rattle.caldav_server.specs.KeptServers.{IsKeptServeStatus, IsServedStatus, served_status}
+use Rattle.caldav_server.specs.KeptServers.{IsKeptServeStatus, IsKeptServedStatus, served_status}
 use Rattle.caldav_server.specs.declared.threads.NotServed.{NotServed}
 use Rattle.caldav_server.specs.declared.threads.NotServed.TheVariants.{Door, NoMemory, Over}
 
-pub served_known : {T : Type 0} (broken : Bool) (served : Result T NotServed) → IsServedStatus (served_status broken served)
-served_known true served = inr (inr (inr refl))
-served_known false (Ok done) = inl refl
-served_known false (Err Door) = inr (inl refl)
-served_known false (Err NoMemory) = inr (inr (inl refl))
-served_known false (Err Over) = inr (inr (inl refl))
+pub served_known : {T : Type 0} (broken : Bool) (served : Result T NotServed) → IsKeptServedStatus (served_status broken served)
+served_known true served = inr refl
+served_known false (Ok done) = inl (inl refl)
+served_known false (Err Door) = inl (inr (inl refl))
+served_known false (Err NoMemory) = inl (inr (inr refl))
+served_known false (Err Over) = inl (inr (inr refl))
 
 -- 0 is that of a server that served them all
 pub served_all : {T : Type 0} (broken : Bool) (served : Result T NotServed) (P : Type 0) → OnOk served P → served_status broken served ≡ 0 → P
@@ -41,16 +41,16 @@ unbroken_else true served other = absurd (other refl)
 unbroken_else false served other = refl
 
 -- which statuses there are in all, where those behind the journal are these
-pub known_in_all : (status : ℕ) → IsServedStatus status ⊎ (status ≡ 9) → IsKeptServeStatus status × (status ≡ 2 → ⊥)
-known_in_all status (inl (inl is)) = (inl is, λ two. omega (arith, is, two))
-known_in_all status (inl (inr (inl is))) = (inr (inr (inr (inl is))), λ two. omega (arith, is, two))
-known_in_all status (inl (inr (inr (inl is)))) = (inr (inr (inr (inr (inl is)))), λ two. omega (arith, is, two))
-known_in_all status (inl (inr (inr (inr is)))) = (inr (inr (inr (inr (inr (inl is))))), λ two. omega (arith, is, two))
-known_in_all status (inr is) = (inr (inr (inr (inr (inr (inr is))))), λ two. omega (arith, is, two))
+pub known_in_all : (status : ℕ) → IsKeptServedStatus status ⊎ (status ≡ 9) → IsKeptServeStatus status × (status ≡ 2 → ⊥)
+known_in_all status (inl (inl (inl is))) = (inl (inl is), λ two. omega (arith, is, two))
+known_in_all status (inl (inl (inr (inl is)))) = (inl (inr (inr (inr (inl is)))), λ two. omega (arith, is, two))
+known_in_all status (inl (inl (inr (inr is)))) = (inl (inr (inr (inr (inr is)))), λ two. omega (arith, is, two))
+known_in_all status (inl (inr is)) = (inr (inl is), λ two. omega (arith, is, two))
+known_in_all status (inr is) = (inr (inr is), λ two. omega (arith, is, two))
 
 -- 9 is not one of those behind the journal
-pub not_nine : (status : ℕ) → IsServedStatus status → status ≡ 9 → ⊥
-not_nine status (inl is) nine = omega (arith, is, nine)
-not_nine status (inr (inl is)) nine = omega (arith, is, nine)
-not_nine status (inr (inr (inl is))) nine = omega (arith, is, nine)
-not_nine status (inr (inr (inr is))) nine = omega (arith, is, nine)
+pub not_nine : (status : ℕ) → IsKeptServedStatus status → status ≡ 9 → ⊥
+not_nine status (inl (inl is)) nine = omega (arith, is, nine)
+not_nine status (inl (inr (inl is))) nine = omega (arith, is, nine)
+not_nine status (inl (inr (inr is))) nine = omega (arith, is, nine)
+not_nine status (inr is) nine = omega (arith, is, nine)

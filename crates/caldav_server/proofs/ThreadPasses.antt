@@ -11,7 +11,7 @@ use Rattle.cal_model.specs.Users.UsersFile.{Users}
 use Rattle.caldav_server.specs.ThreadPasses.{Grows, HasTakenTurns, IsSpare, Awaits, GoesOn, TakesBack}
 use Rattle.caldav_server.specs.LoadJobs.{Known, numbers}
 use Rattle.caldav_server.specs.Shares.{IsPassFor}
-use Rattle.caldav_server.proofs.LoadPasses.{times-append, has-first, all-snoc, numbers-snoc}
+use Rattle.caldav_server.proofs.LoadPasses.{times-append, all-snoc, numbers-snoc}
 
 -- Journals
 
@@ -65,25 +65,8 @@ module _ (lock : TableId) (users : Users) where
   pub awaits_on : (out : List Known) (old new : Known) (seen : List Entry) (looks : List ℕ) → new ≡ record old { seen = seen; looks = looks } → Awaits lock users out old → Awaits lock users out new
   awaits_on out old new seen looks is awaits = subst (Awaits lock users out) (sym is) (record { ready = awaits.ready; each = awaits.each; whole = awaits.whole })
 
-  pub goes_on_none : (out : List Known) (pass : Known) → Awaits lock users out pass → GoesOn lock users out pass pass
-  goes_on_none out pass awaits = record { awaits = awaits; grown = grows_none pass.seen }
-
   pub goes_on_more : (before out : List Known) (first second third : Known) → GoesOn lock users before first second → GoesOn lock users out second third → GoesOn lock users out first third
   goes_on_more before out first second third early late = record { awaits = late.awaits; grown = grows_more first.seen second.seen third.seen early.grown late.grown }
-
-  pub goes_on_turned : (out : List Known) (old new : Known) → Awaits lock users out old → HasTakenTurns old new → GoesOn lock users out old new
-  goes_on_turned out old new awaits turned = record { awaits = awaits_on out old new new.seen new.looks turned.same awaits; grown = turned.grown }
-
-  -- a new lock has one pass
-  pub awaits_none : (pass : Known) → IsPassFor lock users pass → pass.number ≡ 0 → pass.kin ≡ [] → Awaits lock users [] pass
-  awaits_none pass ready number_is kin_is = record {
-    ready = ready;
-    each = tt;
-    whole = (
-      subst (λ n. Has (n ∷ pass.gone) 0) (sym number_is) (has-first 0 pass.gone),
-      λ n has. absurd (let none : 0 < times n [] = subst (λ kin. Has kin n) kin_is has in omega (arith, none)),
-    );
-  }
 
   -- one of those that are out
   pub awaits_one : (before behind : List Known) (one pass : Known) → Awaits lock users (before ++ one ∷ behind) pass → IsSpare lock users one

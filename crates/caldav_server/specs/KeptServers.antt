@@ -7,6 +7,7 @@ use Rattle.cal_model.specs.Users.UsersFile.{Users}
 use Rattle.cal_keeper.specs.Disks.CrashModel.{Past}
 use Rattle.cal_session.specs.KeptBooks.{LeavesAllOrButLast}
 use Rattle.caldav_server.specs.KeptRuns.{StoodFor, IsKeptWith}
+use Rattle.caldav_server.specs.ServeEnds.{IsServeStatus, IsServedStatus}
 use Rattle.caldav_server.specs.declared.threads.NotServed.{NotServed}
 use Rattle.caldav_server.specs.declared.threads.NotServed.TheVariants.{Door}
 
@@ -33,9 +34,9 @@ served_status false (Ok done) = 0
 served_status false (Err Door) = 4
 served_status false (Err other) = 7
 
--- those that come behind the journal, and all
-abbrev pub IsServedStatus : ℕ → Type 0
-IsServedStatus status = (status ≡ 0) ⊎ (status ≡ 4) ⊎ (status ≡ 7) ⊎ (status ≡ 8)
+-- those that come behind the journal, 8 where a call of the disk failed; and all, with 9 where the file is refused
+abbrev pub IsKeptServedStatus : ℕ → Type 0
+IsKeptServedStatus status = IsServedStatus status ⊎ (status ≡ 8)
 
 abbrev pub IsKeptServeStatus : ℕ → Type 0
-IsKeptServeStatus status = (status ≡ 0) ⊎ (status ≡ 2) ⊎ (status ≡ 3) ⊎ (status ≡ 4) ⊎ (status ≡ 7) ⊎ (status ≡ 8) ⊎ (status ≡ 9)
+IsKeptServeStatus status = IsServeStatus status ⊎ (status ≡ 8) ⊎ (status ≡ 9)

@@ -3,7 +3,7 @@ ghost use Rattle.std.specs.Prelude.{◌≡◌, ◌≤◌, ◌⊎◌, ◌↔◌, 
 ghost use Rattle.cal_base.specs.World.Outside.{Rose};
 ghost use Rattle.cal_model.specs.Users.UsersFile.{Users};
 ghost use Rattle.cal_script.specs.ReadersSight.{ReadersSeeAlike};
-ghost use Rattle.cal_script.specs.ScriptEnds.{EndsInPart, HasPlace, MetBadFrame, RanToEnd, RefusesStart, RunsFrames, StoppedReading, WroteFront, run_told};
+ghost use Rattle.cal_script.specs.ScriptEnds.{EndsInPart, HasPlace, MetBadFrame, RanToEnd, RefusesStart, StoppedReading, WroteFront, run_told};
 ghost use Rattle.cal_script.specs.UsersTaken.{AreUsersAt, IfTold, IsRefusedAt};
 ghost use Rattle.command_words.specs.JournalWords.{kept_users_path};
 ghost use Rattle.caldav_server.specs.KeptEnds as spec;

@@ -6,7 +6,7 @@ ghost use Rattle.cal_model.specs.Users.UsersFile.{Users};
 ghost use Rattle.cal_script.specs.UsersTaken.{AreUsersOf, IsRefusedAt};
 ghost use Rattle.command_words.specs.ServeWords as spec;
 ghost use Rattle.caldav_server.specs.KeptRuns.{IsFileRefused};
-ghost use Rattle.caldav_server.specs.KeptServers.{IsKeptServeStatus, IsServedStatus, LeavesJournal, LeavesMore, ServedFrom, served_status};
+ghost use Rattle.caldav_server.specs.KeptServers.{IsKeptServeStatus, IsKeptServedStatus, LeavesJournal, LeavesMore, ServedFrom, served_status};
 ghost use Rattle.caldav_server.specs.Shares.{RoseBy, share_of};
 
 use crate::desks::serve_desk;
@@ -116,7 +116,7 @@ fn serve_at_journal<K: Disk + Send + Drop, D: Door, R: Threads + Wait + Sync>(
     door: &mut D,
 ) -> (ScriptEnd, K)
     requires sessions { 0 < words.now.sessions }
-    ensures known { IsServedStatus result.0.status ⊎ (result.0.status ≡ 9) }
+    ensures known { IsKeptServedStatus result.0.status ⊎ (result.0.status ≡ 9) }
     ensures journal_refused { result.0.status ≡ 9 → (door.new ≡ door.old) × IsFileRefused K.past K.faults users disk result.1 result.0.place }
     ensures journal_fault { result.0.status ≡ 8 → ((door.new ≡ door.old) × Rose (K.faults disk) (K.faults result.1)) ⊎ ServedFrom users result.0.status (K.past disk) (K.past result.1) }
     ensures disk_fault { result.0.status ≡ 8 → 0 < K.faults result.1 }
@@ -156,7 +156,7 @@ fn serve_kept<K: Disk + Send + Drop, D: Door, R: Threads + Wait + Sync>(
     requires sessions { 0 < words.now.sessions }
     requires users { kept.book.users ≡ users.now }
     requires first { AllByRecursion (λ entry. entry.session ≡ 0) kept.book.work.journal }
-    ensures known { IsServedStatus result.0 }
+    ensures known { IsKeptServedStatus result.0 }
     ensures left { LeavesMore users.now kept.book.work.journal result.0 (K.past result.1) }
     ensures disk_fault { result.0 ≡ 8 → 0 < K.faults result.1 }
     ensures limited { result.0 ≡ 0 → 0 < words.now.connections }

@@ -2,7 +2,7 @@
 ghost use Rattle.std.specs.Prelude.{◌≡◌, ◌+◌, ◌++◌, ◌∷◌, [], ℕ, List, false, true, length};
 ghost use Rattle.std.specs.List.{AllByRecursion};
 ghost use Rattle.sha2.specs.Hashers.{Holds256};
-ghost use Rattle.caldav_server.specs.LoadJobs.{HasJoined, IsLeaf, Known};
+ghost use Rattle.caldav_server.specs.LoadJobs.{HasJoined, Known};
 ghost use Rattle.caldav_server.specs.LoadSums.{AreAdded, IsBack, passes_of};
 ghost use Rattle.caldav_server.specs.declared.load_sessions.Done.{Done as DoneData};
 

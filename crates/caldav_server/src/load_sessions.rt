@@ -1,6 +1,6 @@
 //! The sessions and workers of `load`, each in a thread of its own over memory.
-ghost use Rattle.std.specs.Prelude.{◌≡◌, ◌≤◌, ◌<◌, ◌↔◌, ℕ, false, Some, All, IfOk, IsTrue, count_by, length};
-ghost use Rattle.std.specs.List.{AllZip, AllByRecursion};
+ghost use Rattle.std.specs.Prelude.{◌≡◌, ◌≤◌, ◌<◌, ◌↔◌, All, IfOk, IsTrue, count_by};
+ghost use Rattle.std.specs.List.{AllZip};
 ghost use Rattle.turn_lock.specs.Journals.{entries_by};
 ghost use Rattle.caldav_server.specs.LoadJobs.{IsJob};
 ghost use Rattle.caldav_server.specs.Shares.{IsPassFor};

@@ -1,5 +1,5 @@
 //! The command `slot`.
-ghost use Rattle.std.specs.Prelude.{◌≡◌, ◌≤◌, ◌<◌, ◌*◌, ◌⊎◌, All, [], Some, None, IfOk, IfSome, length};
+ghost use Rattle.std.specs.Prelude.{◌≡◌, ◌≤◌, ◌<◌, ◌⊎◌, [], Some, None, IfSome};
 ghost use Rattle.cal_base.specs.World.Outside.{Adds, Rose};
 ghost use Rattle.cal_model.specs.Users.UsersFile.{Users};
 ghost use Rattle.cal_keeper.specs.Disks.CrashModel.{reading};

@@ -1,5 +1,4 @@
 //! A door that tells where it listens.
-ghost use Rattle.std.specs.Prelude.{◌≡◌};
 
 use cal_base::{Door, Failed};
 use std::alloc::Global;
