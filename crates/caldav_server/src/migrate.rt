@@ -96,6 +96,8 @@ pub(crate) fn run_migrate<F: Files, D: Disk>(
     // The users files, and the journals.
     ensures ended { (result.0 ≡ MigrateEnd.Words) ⊎ spec.IsEnd D.past D.faults (F.content files.old (users_path words.now)) (F.content new_files.old (new_users_path words.now)) from to result.1 result.2 result.0 }
     ensures files_fault { spec.HasFailed (Rose (F.faults files.old) (F.faults files.new)) (Rose (F.faults new_files.old) (F.faults new_files.new)) result.0 }
+
+    // At any moment: the old journal is as it was, or was synced; and what a stop leaves of the new one.
     ensures only_read { IsUnwritten (D.past from) (D.past result.1) }
     ensures over_nothing { WritesOverNothing (D.past to) (D.past result.2) }
     ensures stops { spec.StopsLeave (F.content files.old (users_path words.now)) (F.content new_files.old (new_users_path words.now)) (D.past from) (D.past to) (D.past result.2) result.0 }

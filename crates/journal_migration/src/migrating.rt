@@ -67,9 +67,13 @@ pub fn migrate<D: Disk>(
     to: D,
 ) -> (Migrated, D, D)
     ensures end { IsMigrated D.past D.faults old_users new_users from to result.1 result.2 result.0 }
+
+    // At any moment: the old file is as it was, or was synced; and what a stop leaves of the new one.
     ensures only_read { IsUnwritten (D.past from) (D.past result.1) }
     ensures over_nothing { WritesOverNothing (D.past to) (D.past result.2) }
     ensures stops { StopsLeave old_users new_users (D.past from) (D.past to) (D.past result.2) result.0 }
+
+    // No count falls.
     ensures old_never_falls { D.faults from ≤ D.faults result.1 }
     ensures new_never_falls { D.faults to ≤ D.faults result.2 }
 {
