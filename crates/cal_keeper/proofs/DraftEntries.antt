@@ -1,5 +1,5 @@
 -- Entries of a journal file that is written whole.
-use Rattle.std.proofs.Common.{◌≡◌, inl, inr, ⊎_elim, ℕ, ◌+◌, Bool, true, false, IsTrue, List, [], ◌∷◌, ◌++◌, length, map, Option, Some, None, IfSome, refl, sym, subst, arith}
+use Rattle.std.proofs.Common.{◌≡◌, inl, inr, ⊎_elim, ℕ, ◌+◌, Bool, true, IsTrue, List, [], ◌∷◌, ◌++◌, length, map, Option, Some, None, IfSome, refl, sym, subst, arith}
 use Rattle.std.specs.List.{AllByRecursion}
 use Rattle.std.proofs.lemmas.Bool.{false≢true}
 use Rattle.std.proofs.lemmas.List.{map-append}
@@ -7,7 +7,7 @@ use Rattle.cal_model.specs.History.Journal.{Entry}
 use Rattle.cal_model.specs.Users.UsersFile.{Users}
 use Rattle.cal_keeper.specs.Disks.CrashModel.{Past, reading, moment, LeavesOnly}
 use Rattle.cal_keeper.specs.Files.DraftLaws.{DraftsAreNoJournals, DraftsGoOn, DraftsAreFinished}
-use Rattle.cal_keeper.specs.Files.Drafts.{blank, IsDraft, blank_header, BeginsDraft, BeginsTold, FailsToBegin, FailsTold, DraftsTold, IsNoneOrWhole, FinishesTold}
+use Rattle.cal_keeper.specs.Files.Drafts.{blank, IsDraft, blank_header, BeginsDraft, BeginsTold, FailsTold, DraftsTold, IsNoneOrWhole, FinishesTold}
 use Rattle.cal_keeper.specs.Files.Headers.{users_text, header_of}
 use Rattle.cal_keeper.specs.Files.Opening.{IsNoJournal}
 use Rattle.cal_keeper.specs.Files.Payloads.{long_text, payload_of, HasForm}
@@ -36,15 +36,6 @@ begins_told users text place (Some old) new text_is place_is empty lays = (lays.
           (subst (λ (n : ℕ). IsDraft (blank ++ long_text text) [] n lays.0) (sym place_is) (laid.drafted refl));
     };
   }
-
--- none, since a call failed
-pub fails_told : (text : List ℕ) (old new : Option Past) → IfSome old (λ p. 0 ≡ length (reading p)) → LaysBlank text false old new → FailsTold old new
-fails_told text None new empty lays = lays
-fails_told text (Some old) new empty lays = (lays.0, lays.1, by (no_octets (reading old) (sym empty)) (lays.2 (no_octets (reading old) (sym empty)))) where
-  by : reading old ≡ [] → LaysBoth text false old lays.0 → FailsToBegin old lays.0
-  by none (inl (failed, inl same)) = inl same
-  by none (inl (failed, inr tries)) = inr (none, inl tries)
-  by none (inr laid) = inr (none, inr laid.leaves)
 
 -- where the length could not be told nothing was done
 pub unchanged_fails : (old new : Option Past) → new ≡ old → FailsTold old new

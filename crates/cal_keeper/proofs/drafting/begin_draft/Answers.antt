@@ -1,9 +1,8 @@
-use Rattle.std.proofs.Common.{rules, true, false, Option, refl, ◌∙◌, subst}
-use Rattle.cal_base.specs.World.Outside.{Rose}
+use Rattle.std.proofs.Common.{true, Option, refl, ◌∙◌, subst}
 use Rattle.cal_keeper.specs.Disks.CrashModel.{Past}
 use Rattle.cal_keeper.specs.Steps.Drafting.{LaysBlank}
 use Rattle.cal_keeper.proofs.Beginning.{counted_none}
-use Rattle.cal_keeper.proofs.DraftEntries.{begins_told, fails_told, unchanged_fails}
+use Rattle.cal_keeper.proofs.DraftEntries.{begins_told, unchanged_fails}
 use Rattle.cal_keeper.proofs.drafting.begin_draft.Goals as goal
 
 pub returns-in-Err-clause-drafted : goal.returns-in-Err-clause-drafted
@@ -21,10 +20,3 @@ returns-in-Ok-lay_blank-clause-drafted g c =
       refl,
       refl,
     )
-
-pub returns-in-Err-lay_blank-clause-drafted : goal.returns-in-Err-lay_blank-clause-drafted
-returns-in-Err-lay_blank-clause-drafted g c =
-    let empty = counted_none (g.D.Disk.past c.args.disk) c.in-Ok.octets c.if-octets-ne0.false c.in-Ok.ensures.counted in
-    let lays = subst (λ (told : Option Past). LaysBlank c.as_slice.result.now false told (g.D.Disk.past c.lay_blank.new.disk)) c.in-Ok.ensures.past_kept c.in-Err-lay_blank.ensures.lays in
-    let rose : Rose (g.D.Disk.faults c.args.disk) (g.D.Disk.faults c.lay_blank.new.disk) = search rules in
-    (rose, fails_told c.as_slice.result.now (g.D.Disk.past c.args.disk) (g.D.Disk.past c.lay_blank.new.disk) empty lays)
