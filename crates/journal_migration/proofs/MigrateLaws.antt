@@ -1,5 +1,5 @@
 -- A carrying ends as its reading or its writing does.
-use Rattle.std.proofs.Common.{◌≡◌, inl, inr, ℕ, ◌<◌, List, [], ◌∷◌, length, Option, Some, None, Ok, Err, IfSome, refl, sym, ◌∙◌, ap, subst}
+use Rattle.std.proofs.Common.{inl, inr, ℕ, ◌<◌, List, [], ◌∷◌, length, Option, Some, None, Ok, Err, IfSome, refl, sym, ◌∙◌, ap, subst}
 use Rattle.std.specs.List.{AllByRecursion}
 use Rattle.cal_model.specs.History.Journal.{Entry, IsLegal}
 use Rattle.cal_model.specs.Serving.ServingLaws.{AcceptedHasItsEffect}
