@@ -1,4 +1,5 @@
 pub mod BitLemmas
+pub mod OrdinalLemmas
 pub mod CalendarLemmas
 pub mod MonthLemmas
 pub mod StepLemmas

@@ -12,7 +12,7 @@ ghost use Rattle.cal_model.specs.Walks.Cursors.{IsAt};
 ghost use Rattle.cal_model.specs.Walks.DayTimes.{times_of_day, AreTimes};
 ghost use Rattle.cal_model.specs.Walks.KeptMoments.{found_from, found_between, kept_from, moments_of, number_of};
 
-use crate::next_passing::Rules;
+use crate::next_passing::ReadyRule;
 use crate::rule::{Freq, Rule};
 use crate::walk::clock::Clock;
 use crate::walk::cursor::{Cursor, is_dated, peek, second_after};
@@ -24,8 +24,8 @@ use cal_moment::Local;
 use std::sync::ledger::Ledger;
 
 /// Goes on to the next moment that passes, and says whether it lies in the period of that number.
-fn stays<R: Rules, L: Ledger>(
-    rules: &R,
+fn stays<R: ReadyRule, L: Ledger>(
+    ready: &R,
     rule: &Rule,
     start: Local,
     clock: &Clock,
@@ -34,6 +34,7 @@ fn stays<R: Rules, L: Ledger>(
     end: Local,
     steps: &mut Steps<L>,
 ) -> bool
+    requires ready { R.IsReadyFor ready.now rule.now (moment_of_local start) (reading_by clock.now).dated }
     requires start { IsWritten start }
     requires rule { IsUsable rule.now }
     requires coarse { is_fine rule.now.freq ≡ false }
@@ -50,15 +51,15 @@ fn stays<R: Rules, L: Ledger>(
     if period_of(rule, cursor.at) != number {
         return false;
     }
-    let Some(next) = peek(rules, rule, start, clock, cursor, end, steps) else {
+    let Some(next) = peek(ready, rule, start, clock, cursor, end, steps) else {
         return false;
     };
     period_of(rule, next) == number
 }
 
 /// Gathers what is found in the period of the moment at hand, one moment after the other.
-pub fn gather<R: Rules, L: Ledger>(
-    rules: &R,
+pub fn gather<R: ReadyRule, L: Ledger>(
+    ready: &R,
     rule: &Rule,
     start: Local,
     clock: &Clock,
@@ -67,6 +68,7 @@ pub fn gather<R: Rules, L: Ledger>(
     end: Local,
     steps: &mut Steps<L>,
 ) -> Result<(), NoMemory>
+    requires ready { R.IsReadyFor ready.now rule.now (moment_of_local start) (reading_by clock.now).dated }
     requires start { IsWritten start }
     requires clock { IsClock clock.now }
     requires rule { IsUsable rule.now }
@@ -89,7 +91,7 @@ pub fn gather<R: Rules, L: Ledger>(
         keep_if_there(clock, m, found)?;
         cursor.at = second_after(m);
         cursor.taken = false;
-        if !stays(rules, rule, start, clock, number, cursor, end, steps) {
+        if !stays(ready, rule, start, clock, number, cursor, end, steps) {
             return Ok(());
         }
     }
@@ -97,8 +99,8 @@ pub fn gather<R: Rules, L: Ledger>(
 
 /// Gathers the same day by day, where a period has whole days: one moment of each day that passes is
 /// taken from the rule, and the others stand at the times of such days.
-pub fn gather_days<R: Rules, L: Ledger>(
-    rules: &R,
+pub fn gather_days<R: ReadyRule, L: Ledger>(
+    ready: &R,
     rule: &Rule,
     start: Local,
     clock: &Clock,
@@ -108,6 +110,7 @@ pub fn gather_days<R: Rules, L: Ledger>(
     end: Local,
     steps: &mut Steps<L>,
 ) -> Result<(), NoMemory>
+    requires ready { R.IsReadyFor ready.now rule.now (moment_of_local start) (reading_by clock.now).dated }
     requires start { IsWritten start }
     requires clock { IsClock clock.now }
     requires rule { IsUsable rule.now }
@@ -132,7 +135,7 @@ pub fn gather_days<R: Rules, L: Ledger>(
         keep_day(rule, start, clock, times, m, found)?;
         cursor.at = next_midnight(m);
         cursor.taken = false;
-        if !stays(rules, rule, start, clock, number, cursor, end, steps) {
+        if !stays(ready, rule, start, clock, number, cursor, end, steps) {
             return Ok(());
         }
     }
@@ -222,8 +225,8 @@ pub fn give(picks: &mut Picks) -> Option<Local>
 }
 
 /// Gathers what is found in the period of the moment at hand: day by day, where it has whole days.
-fn gather_period<R: Rules, L: Ledger>(
-    rules: &R,
+fn gather_period<R: ReadyRule, L: Ledger>(
+    ready: &R,
     rule: &Rule,
     start: Local,
     clock: &Clock,
@@ -231,6 +234,7 @@ fn gather_period<R: Rules, L: Ledger>(
     end: Local,
     steps: &mut Steps<L>,
 ) -> Result<(), NoMemory>
+    requires ready { R.IsReadyFor ready.now rule.now (moment_of_local start) (reading_by clock.now).dated }
     requires start { IsWritten start }
     requires clock { IsClock clock.now }
     requires rule { IsUsable rule.now }
@@ -253,7 +257,7 @@ fn gather_period<R: Rules, L: Ledger>(
 {
     if rule.freq == Freq::Hourly {
         return gather(
-            rules,
+            ready,
             rule,
             start,
             clock,
@@ -265,7 +269,7 @@ fn gather_period<R: Rules, L: Ledger>(
     }
     find_times(rule, start, is_dated(clock), &mut picks.times)?;
     gather_days(
-        rules,
+        ready,
         rule,
         start,
         clock,
@@ -278,8 +282,8 @@ fn gather_period<R: Rules, L: Ledger>(
 }
 
 /// Picks from the period of the moment at hand.
-pub fn refill<R: Rules, L: Ledger>(
-    rules: &R,
+pub fn refill<R: ReadyRule, L: Ledger>(
+    ready: &R,
     rule: &Rule,
     start: Local,
     clock: &Clock,
@@ -287,6 +291,7 @@ pub fn refill<R: Rules, L: Ledger>(
     end: Local,
     steps: &mut Steps<L>,
 ) -> Result<(), NoMemory>
+    requires ready { R.IsReadyFor ready.now rule.now (moment_of_local start) (reading_by clock.now).dated }
     requires start { IsWritten start }
     requires clock { IsClock clock.now }
     requires rule { IsUsable rule.now }
@@ -306,7 +311,7 @@ pub fn refill<R: Rules, L: Ledger>(
         ≡ moments_of picks.new.moments ++ kept_from rule.now (moment_of_local start) (reading_by clock.now) (moment_of_local picks.new.cursor.at)) }
 {
     picks.found.truncate(0);
-    gather_period(rules, rule, start, clock, picks, end, steps)?;
+    gather_period(ready, rule, start, clock, picks, end, steps)?;
     picks.moments.truncate(0);
     picks.given = 0;
     pick(rule, &picks.found, &mut picks.moments)?;
