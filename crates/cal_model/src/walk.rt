@@ -14,5 +14,6 @@ mod period;
 mod picks;
 mod places;
 pub mod rule_walk;
+mod set_places;
 pub mod starts;
 mod until;

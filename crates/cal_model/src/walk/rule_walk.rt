@@ -17,6 +17,7 @@ use crate::walk::kept::next_kept;
 use crate::walk::period::period_first;
 use crate::walk::picks::Picks;
 use crate::walk::places::picks_nothing;
+use crate::walk::set_places::set_places_of;
 use crate::walk::until::until_passes;
 use cal_base::{List, NoMemory, Steps};
 use cal_moment::Local;
@@ -209,6 +210,7 @@ pub fn begin_walk(alloc: Global, rule: &Rule, start: Local, low: Local) -> RuleW
                 taken: false,
             },
             times: List::new(alloc),
+            places: set_places_of(&rule.by_set_pos),
             found: List::new(alloc),
             moments: List::new(alloc),
             given: 0,
