@@ -1,9 +1,9 @@
 -- The ordinals of BYDAY as the bits of words.
-use Rattle.std.proofs.Common.{◌≡◌, ◌≢◌, ℕ, ◌+◌, ◌-◌, ◌*◌, ◌/◌, ◌%◌, ◌^◌, ◌<◌, ◌≤◌, refl, sym, ap, ◌∙◌, arith, Bool, true, false, ◌||◌, inl, inr, w64, ◌==◌, List, [], ◌∷◌, length, get_or, set, replicate, slice_index, ℤ, pos, negsuc}
-use Rattle.std.specs.Prelude.{if◌then◌else◌, bit_or}
+use Rattle.std.proofs.Common.{◌≡◌, ◌≢◌, ℕ, ◌+◌, ◌-◌, ◌*◌, ◌/◌, ◌%◌, ◌^◌, ◌<◌, ◌≤◌, refl, sym, ap, ◌∙◌, arith, Bool, true, false, ◌||◌, inl, inr, w64, ◌==◌, List, [], ◌∷◌, length, get_or, replicate, slice_index, zero, suc, ℤ, pos, negsuc}
+use Rattle.std.specs.Prelude.{if◌then◌else◌, bit_or, slice_set}
 use Rattle.std.specs.Int.{bit_at}
 use Rattle.std.specs.List.{list_any}
-use Rattle.std.proofs.lemmas.Bool.{cases_Bool, eqb-true, eqb-false, eq-eqb}
+use Rattle.std.proofs.lemmas.Bool.{cases_Bool, cases_lt, eqb-true, eqb-false, eq-eqb}
 use Rattle.std.proofs.lemmas.List.{get_or-replicate, get_or_past, get_or-set_same, get_or-set_other}
 use Rattle.std.proofs.lemmas.Nat.Bits.{bit_at-zero, bit_at_set_same, bit_at_set_other}
 use Rattle.cal_model.specs.declared.rule.DayPart.{DayPart}
@@ -21,18 +21,25 @@ pub marks-none : (k i : ℕ) → marks (replicate 7 0) k i ≡ false
 unfolding marks
 marks-none k i = ap (λ word. bit_at word i == 1) (zeros k) ∙ ap (λ bit. bit == 1) (bit_at-zero i)
   where
+    length-replicate : (room : ℕ) → length (replicate {A = ℕ} room 0) ≡ room
+    length-replicate zero = refl
+    length-replicate (suc room) = ap suc (length-replicate room)
+
     zeros : (k : ℕ) → slice_index (replicate 7 0) k ≡ 0
-    zeros k = grind arith
+    zeros k = elim (cases_lt k 7) [
+      | inl below ↦ get_or-replicate 7 k 0 0 below
+      | inr above ↦ get_or_past (replicate 7 0) k 0 (omega (arith, above, length-replicate 7))
+    ]
 
 -- one bit more of one word
 pub marks-set : (words : List ℕ) (w n k i : ℕ) → w < length words → n < 64 → i < 64 →
-    marks (set words w (bit_or (slice_index words w) (1 * 2 ^ n % 18446744073709551616))) k i ≡ (if (if w == k then n == i else false) then true else marks words k i)
+    marks (slice_set words w (bit_or (slice_index words w) (1 * 2 ^ n % 18446744073709551616))) k i ≡ (if (if w == k then n == i else false) then true else marks words k i)
 unfolding marks
 marks-set words w n k i within small below = elim (cases_Bool (w == k)) [
   | inl there ↦
       (let same = eqb-true w k there in
-      let word : slice_index (set words w (bit_or (slice_index words w) (1 * 2 ^ n % 18446744073709551616))) k ≡ bit_or (slice_index words w) (1 * 2 ^ n % 18446744073709551616) =
-      ap (λ p. slice_index (set words w (bit_or (slice_index words w) (1 * 2 ^ n % 18446744073709551616))) p) (sym same) ∙ get_or-set_same words w (bit_or (slice_index words w) (1 * 2 ^ n % 18446744073709551616)) 0 within in
+      let word : slice_index (slice_set words w (bit_or (slice_index words w) (1 * 2 ^ n % 18446744073709551616))) k ≡ bit_or (slice_index words w) (1 * 2 ^ n % 18446744073709551616) =
+      ap (λ p. slice_index (slice_set words w (bit_or (slice_index words w) (1 * 2 ^ n % 18446744073709551616))) p) (sym same) ∙ get_or-set_same words w (bit_or (slice_index words w) (1 * 2 ^ n % 18446744073709551616)) 0 within in
       rw (there, word) (one_bit (slice_index words w) n i small ∙ ap (λ p. if n == i then true else bit_at (slice_index words p) i == 1) same))
   | inr away ↦ rw away (ap (λ word. bit_at word i == 1) (get_or-set_other words w k (bit_or (slice_index words w) (1 * 2 ^ n % 18446744073709551616)) 0 (λ e. let bad : (w == k) ≡ true = eq-eqb w k (sym e) in absurd cc)))
 ]
@@ -102,8 +109,8 @@ asked_of-parts parts ordinals are weekday place size small near few =
 -- what sets of these bits mean
 pub asked-same : (ordinals : Ordinals) (weekday place size : ℕ) (front back : ℕ → Bool) → ((i : ℕ) → front i ≡ marks ordinals.front weekday i) → ((i : ℕ) → back i ≡ marks ordinals.back weekday i) →
     asked front back place size ≡ asked_of ordinals weekday place size
-asked-same ordinals weekday place size front back is_front is_back =
-    let a = is_front 0 in let b = is_front ((place + 6) / 7) in let c = is_back ((size - place) / 7) in rw (a, b, c) refl
+asked-same ordinals weekday place size front back from_front from_end =
+    let a = from_front 0 in let b = from_front ((place + 6) / 7) in let c = from_end ((size - place) / 7) in rw (a, b, c) refl
 
 pub asked-none : (ordinals : Ordinals) (weekday place size : ℕ) → ((i : ℕ) → marks ordinals.front weekday i ≡ false) → ((i : ℕ) → marks ordinals.back weekday i ≡ false) → asked_of ordinals weekday place size ≡ false
 asked-none ordinals weekday place size no_front no_back =
