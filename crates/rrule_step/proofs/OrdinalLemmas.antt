@@ -9,7 +9,7 @@ use Rattle.std.proofs.lemmas.Nat.Bits.{bit_at-zero, bit_at_set_same, bit_at_set_
 use Rattle.cal_model.specs.declared.rule.DayPart.{DayPart}
 use Rattle.cal_model.specs.Recurrence.Passing.{ordinal_passes, weekday_passes}
 use Rattle.rrule_step.specs.declared.ordinals.Ordinals.{Ordinals}
-use Rattle.rrule_step.specs.Ordinals.{AreOrdinals, asked, asked_of, at_back, at_front, is_back, is_front, marks}
+use Rattle.rrule_step.specs.Ordinals.{AreOrdinals, asks_for, asks_of, at_back, at_front, is_back, is_front, marks}
 
 -- Words.
 
@@ -95,9 +95,9 @@ by_parts weekday place size (part ∷ parts) =
     (list_any (at_front weekday 0) parts) (list_any (at_front weekday ((place + 6) / 7)) parts) (list_any (at_back weekday ((size - place) / 7)) parts))
 
 -- the words of the values of BYDAY mean what these do
-pub asked_of-parts : (parts : List DayPart) (ordinals : Ordinals) → AreOrdinals parts ordinals → (weekday place size : ℕ) → weekday < 7 → place ≤ 430 → size ≤ 366 →
-    asked_of ordinals weekday place size ≡ list_any (weekday_passes weekday place size) parts
-asked_of-parts parts ordinals are weekday place size small near few =
+pub asks_of-parts : (parts : List DayPart) (ordinals : Ordinals) → AreOrdinals parts ordinals → (weekday place size : ℕ) → weekday < 7 → place ≤ 430 → size ≤ 366 →
+    asks_of ordinals weekday place size ≡ list_any (weekday_passes weekday place size) parts
+asks_of-parts parts ordinals are weekday place size small near few =
     let each = are.front weekday 0 small (omega arith) in
     let front = are.front weekday ((place + 6) / 7) small (omega (arith, near)) in
     let back = are.back weekday ((size - place) / 7) small (omega (arith, few)) in
@@ -107,13 +107,13 @@ asked_of-parts parts ordinals are weekday place size small near few =
     ∙ sym (by_parts weekday place size parts)))
 
 -- what sets of these bits mean
-pub asked-same : (ordinals : Ordinals) (weekday place size : ℕ) (front back : ℕ → Bool) → ((i : ℕ) → front i ≡ marks ordinals.front weekday i) → ((i : ℕ) → back i ≡ marks ordinals.back weekday i) →
-    asked front back place size ≡ asked_of ordinals weekday place size
-asked-same ordinals weekday place size front back from_front from_end =
-    let a = from_front 0 in let b = from_front ((place + 6) / 7) in let c = from_end ((size - place) / 7) in rw (a, b, c) refl
+pub asks_for-same : (ordinals : Ordinals) (weekday place size : ℕ) (front back : ℕ → Bool) → ((i : ℕ) → front i ≡ marks ordinals.front weekday i) → ((i : ℕ) → back i ≡ marks ordinals.back weekday i) →
+    asks_for front back place size ≡ asks_of ordinals weekday place size
+asks_for-same ordinals weekday place size front back by_front by_end =
+    let a = by_front 0 in let b = by_front ((place + 6) / 7) in let c = by_end ((size - place) / 7) in rw (a, b, c) refl
 
-pub asked-none : (ordinals : Ordinals) (weekday place size : ℕ) → ((i : ℕ) → marks ordinals.front weekday i ≡ false) → ((i : ℕ) → marks ordinals.back weekday i ≡ false) → asked_of ordinals weekday place size ≡ false
-asked-none ordinals weekday place size no_front no_back =
+pub asks_of-none : (ordinals : Ordinals) (weekday place size : ℕ) → ((i : ℕ) → marks ordinals.front weekday i ≡ false) → ((i : ℕ) → marks ordinals.back weekday i ≡ false) → asks_of ordinals weekday place size ≡ false
+asks_of-none ordinals weekday place size no_front no_back =
     let a = no_front 0 in let b = no_front ((place + 6) / 7) in let c = no_back ((size - place) / 7) in rw (a, b, c) refl
 
 -- a set where nothing is asked for

@@ -28,13 +28,13 @@ abbrev pub at_back : ℕ → ℕ → DayPart → Bool
 at_back weekday i part = if part.weekday == weekday then is_back i part.ordinal else false
 
 -- bits from the front and from the end mean the occurrence of their weekday at a place of so many days
-abbrev pub asked : (ℕ → Bool) → (ℕ → Bool) → ℕ → ℕ → Bool
-asked front back place size =
+abbrev pub asks_for : (ℕ → Bool) → (ℕ → Bool) → ℕ → ℕ → Bool
+asks_for front back place size =
     if front 0 then true else (if front ((place + 6) / 7) then true else back ((size - place) / 7))
 
 -- those of a weekday
-abbrev pub asked_of : Ordinals → ℕ → ℕ → ℕ → Bool
-asked_of ordinals weekday place size = asked (marks ordinals.front weekday) (marks ordinals.back weekday) place size
+abbrev pub asks_of : Ordinals → ℕ → ℕ → ℕ → Bool
+asks_of ordinals weekday place size = asks_for (marks ordinals.front weekday) (marks ordinals.back weekday) place size
 
 -- the words of the values of BYDAY
 pub record AreOrdinals (parts : List DayPart) (ordinals : Ordinals) : Type 0 where

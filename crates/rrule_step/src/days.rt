@@ -7,7 +7,7 @@ ghost use Rattle.cal_model.specs.Recurrence.Passing as spec;
 ghost use Rattle.cal_model.specs.Words.Lists as lists;
 ghost use Rattle.cal_model.specs.Words.Integers.{some_names_place};
 ghost use Rattle.rrule_step.specs.DaySets.{AreDaySets, AreMonthDays, AreYearDays};
-ghost use Rattle.rrule_step.specs.Ordinals.{AreOrdinals, asked, asked_of};
+ghost use Rattle.rrule_step.specs.Ordinals.{AreOrdinals, asks_for, asks_of};
 ghost use Rattle.rrule_step.specs.Sets.{has};
 
 use crate::day_sets::{DaySets, MonthDays, YearDays};
@@ -111,7 +111,7 @@ fn with_weeks(
     requires first { first < 3_652_425 }
     requires before { before ≤ 366 }
     requires size { size ≤ 366 }
-    ensures { (i : ℕ) → i < 31 → has result i ≡ (if (if weekday == cal.weekday_of (first + i) then asked (has front) (has back) (before + i + 1) size else false) then true else has set i) }
+    ensures { (i : ℕ) → i < 31 → has result i ≡ (if (if weekday == cal.weekday_of (first + i) then asks_for (has front) (has back) (before + i + 1) size else false) then true else has set i) }
 {
     let mut set = set;
     let at = (weekday + 7 - weekday_of(first)) % 7;
@@ -137,7 +137,7 @@ fn with_weekday(
     requires first { first < 3_652_425 }
     requires before { before ≤ 366 }
     requires size { size ≤ 366 }
-    ensures { (i : ℕ) → i < 31 → has result i ≡ (if cal.weekday_of (first + i) == weekday then (if asked_of ordinals.now weekday (before + i + 1) size then true else has set i) else has set i) }
+    ensures { (i : ℕ) → i < 31 → has result i ≡ (if cal.weekday_of (first + i) == weekday then (if asks_of ordinals.now weekday (before + i + 1) size then true else has set i) else has set i) }
 {
     let front = ordinals.counted(weekday);
     let back = ordinals.counted_back(weekday);

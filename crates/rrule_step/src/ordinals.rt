@@ -1,6 +1,6 @@
 //! BYDAY as sets that are made once: the ordinals that a rule asks of each weekday (RFC 5545, 3.3.10).
 ghost use Rattle.std.specs.Prelude.{◌≡◌, ℕ, ◌+◌, ◌<◌, ◌≤◌, ◌==◌, true, false, if◌then◌else◌, MatchOption};
-ghost use Rattle.rrule_step.specs.Ordinals.{AreOrdinals, asked, at_back, at_front, is_back, is_front, marks};
+ghost use Rattle.rrule_step.specs.Ordinals.{AreOrdinals, asks_for, at_back, at_front, is_back, is_front, marks};
 ghost use Rattle.rrule_step.specs.Sets.{has};
 
 use crate::set::Set;
@@ -105,7 +105,7 @@ impl Ordinals {
 pub fn is_asked(front: Set, back: Set, place: u32, size: u32) -> bool
     requires place { place ≤ 430 }
     requires size { size ≤ 366 }
-    ensures { result ≡ asked (has front) (has back) place size }
+    ensures { result ≡ asks_for (has front) (has back) place size }
 {
     front.contains(0)
         || front.contains((place + 6) / 7)
