@@ -120,8 +120,6 @@ impl Rules for DayFilter {
 }
 
 impl ReadyRule for DayFilter {
-    ghost use Rattle.std.specs.Prelude.{Unit};
-
     ghost IsReadyFor = { λ _ _ _ _. Unit {0} };
 
     fn next_passing(&self, rule: &Rule, start: Local, dated: bool, from: Local) -> Option<Local> {
