@@ -43,9 +43,9 @@ from_end : (place size k : ℕ) → place ≤ size → (place + k == size) ≡ (
 from_end place size k within = elim (cases_Bool (k == size - place)) [
   | inl w ↦ (let is = eqb-true _ _ w in eq-eqb (place + k) size (omega (arith, is, within)) ∙ sym w)
   | inr w ↦ (let no : (place + k == size) ≡ false = elim (cases_Bool (place + k == size)) [
-      | inl v ↦ absurd (let is = eqb-true _ _ v in let bad : (k == size - place) ≡ true = eq-eqb k (size - place) (omega (arith, is)) in cc)
-      | inr v ↦ v
-    ] in no ∙ sym w)
+    | inl v ↦ absurd (let is = eqb-true _ _ v in let bad : (k == size - place) ≡ true = eq-eqb k (size - place) (omega (arith, is)) in cc)
+    | inr v ↦ v
+  ] in no ∙ sym w)
 ]
 
 one_named : (place size : ℕ) (n : ℤ) → place ≤ size → names_place place size n ≡ (is_front place n || is_back (size - place) n)
