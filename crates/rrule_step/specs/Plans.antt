@@ -23,8 +23,8 @@ pub record IsPlan (rule : Rule) (plan : Plan) : Type 0 where
 -- it is that of the rule and this start, and where nothing passes that may be known
 pub record IsReady (ready : PeriodPlan) (rule : Rule) (start : ℕ) (dated : Bool) : Type 0 where
   pub plan : IsPlan rule ready.plan
-  pub start : moment_of ready.plan.start ≡ start
-  pub dated : ready.plan.dated ≡ dated
+  pub begins : moment_of ready.plan.start ≡ start
+  pub is_date : ready.plan.dated ≡ dated
   pub never : ready.never ≡ true → (m : ℕ) → passes rule start dated m ≡ false
 
 -- a second of a day passes

@@ -16,7 +16,7 @@ loop-weekday-preserved c = λ i lt.
 pub returns : goal.returns
 returns c = λ i lt.
     let small : weekday_of (c.args.first + i) < 7 = omega arith in
-    let all : nat_lt (weekday_of (c.args.first + i)) 7 ≡ true = lt-ltb (weekday_of (c.args.first + i)) 7 small in
+    let all : nat_lt (weekday_of (c.args.first + i)) c.loop-weekday.weekday ≡ true = lt-ltb (weekday_of (c.args.first + i)) c.loop-weekday.weekday (omega (arith, small, c.loop-weekday-test.false)) in
     c.loop-weekday.invariant i lt
     ∙ (ap (λ b. if b then asks_of c.args.ordinals.now (weekday_of (c.args.first + i)) (c.args.before + i + 1) c.args.size else false) all
     ∙ asks_of-parts c.args.rule.now.by_day c.args.ordinals.now c.requires.ordinals (weekday_of (c.args.first + i)) (c.args.before + i + 1) c.args.size small (omega (arith, lt, c.requires.before)) c.requires.size)

@@ -5,7 +5,7 @@ returns c =
     let made = c.plan_of-plan.ensures in
     record {
       plan = made.plan;
-      start = made.start;
-      dated = made.dated;
+      begins = made.start;
+      is_date = made.dated;
       never = λ e m. let none = c.never_meets-never.ensures e m in rw (made.start, made.dated) at none;
     }
