@@ -7,7 +7,7 @@ ghost use Rattle.cal_model.specs.Values.LocalTimes.{moment_of_local};
 ghost use Rattle.cal_model.specs.Words.Lists.{is_empty};
 
 use cal_base::{List, NoMemory};
-use cal_model::{DayPart, Freq, Rule, Rules, ZonePart};
+use cal_model::{DayPart, Freq, ReadyRule, Rule, Rules, ZonePart};
 use cal_moment::Local;
 use rrule_filter::DayFilter;
 use rrule_step::PeriodStep;
@@ -70,10 +70,11 @@ fn found<R: Rules>(body: &R, rule: &Rule, start: Local) -> u32
     requires rule { IsUsable rule.now }
     requires coarse { is_fine rule.now.freq ≡ false }
 {
+    let ready = body.ready(rule, start, false);
     let mut from = start;
     let mut count = 0u32;
     'steps: for _ in 0..STEPS {
-        let Some(m) = body.next_passing(rule, start, false, from) else {
+        let Some(m) = ready.next_passing(rule, start, false, from) else {
             return count;
         };
         count = count.wrapping_add(1);

@@ -8,3 +8,4 @@ pub mod DayCounts
 pub mod PlaceLemmas
 pub mod DayTimeLemmas
 pub mod DayLemmas
+pub mod SetPlaceLemmas

@@ -4,6 +4,7 @@ pub mod Clocks
 pub mod KeptMoments
 pub mod Cursors
 pub mod DayTimes
+pub mod SetPlaces
 pub mod PickedRest
 pub mod Places
 pub mod Budgets

@@ -48,7 +48,7 @@ pub use filter::{
 };
 pub use limits::{ANSWER_LIMIT, CHANGE_COST, FIRST_DATE, LAST_DATE, RESOURCE_LIMIT};
 pub use local_times::LocalTimes;
-pub use next_passing::Rules;
+pub use next_passing::{ReadyRule, Rules};
 pub use object::{Alarm, Class, Component, Extent, Kind, NotResource, Object, Related, Trigger};
 pub use path::{ObjectPath, Path};
 pub use piece::Piece;

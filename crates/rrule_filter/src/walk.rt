@@ -11,10 +11,12 @@ use crate::parts::day_passes;
 use crate::start::Start;
 use crate::times::{counts, next_in_day, period_number};
 use crate::today::Today;
-use cal_model::{Rule, Rules};
+use cal_model::{ReadyRule, Rule, Rules};
 use cal_moment::Local;
 
-/// Walks the days from the moment on, and tests the moments of each that passes.
+/// Walks the days from the moment on, and tests the moments of each that passes. It goes over the lists
+/// of the rule each time, so a rule is ready as it is.
+#[derive(Drop)]
 pub struct DayFilter;
 
 /// 1 January 2102, where rules end, counted from 1 January of the year 0.
@@ -107,6 +109,19 @@ fn next_moment(rule: &Rule, start: &Start, first: u64, day: u32, from: u32) -> O
 }
 
 impl Rules for DayFilter {
+    type Ready = DayFilter;
+
+    fn ready(&self, rule: &Rule, start: Local, dated: bool) -> DayFilter {
+        let _ = rule;
+        let _ = start;
+        let _ = dated;
+        DayFilter
+    }
+}
+
+impl ReadyRule for DayFilter {
+    ghost IsReadyFor = { λ _ _ _ _. Unit {0} };
+
     fn next_passing(&self, rule: &Rule, start: Local, dated: bool, from: Local) -> Option<Local> {
         let today = Today::new(day_number(start.day));
         let first = period_number(rule.freq, rule.week_start, &today, start.second / 3600);

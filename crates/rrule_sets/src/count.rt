@@ -27,8 +27,9 @@ use crate::later::{clock_beside, start_moment};
 use crate::range::Digits;
 use crate::window::master_of;
 use cal_base::{List, NoMemory, Steps};
+use cal_model::walk::cursor::is_dated;
 use cal_model::walk::rule_walk::{END, FIRST, RuleWalk, begin_walk, next_moment};
-use cal_model::{Component, LocalTimes, Object, Row, Rule, local_times_of};
+use cal_model::{Component, LocalTimes, Object, Row, Rule, Rules, local_times_of};
 use cal_moment::{Period, Stamp};
 use override_merge::names::{Names, is_named, names_of_overrides, rising};
 use override_merge::stamps::value_of;
@@ -142,9 +143,10 @@ fn with_moments<L: Ledger>(
 {
     let clock = clock_beside(zones, stamp);
     let start = start_moment(stamp);
+    let ready = PeriodStep.ready(rule, start, is_dated(&clock));
     let mut starts = starts;
     'moments: loop {
-        let Some(m) = next_moment(&PeriodStep, rule, start, &clock, FIRST, END, walk, steps)? else {
+        let Some(m) = next_moment(&ready, rule, start, &clock, FIRST, END, walk, steps)? else {
             return Ok(Some(starts));
         };
         put_left(zones, stamp, taken, clock.instant(m), &mut starts)?;

@@ -18,6 +18,7 @@ use crate::even::{days_apart_beside, even_starts};
 use crate::range::{Digits, FIRST_DIGITS, moment_at};
 use cal_base::{List, NoMemory, Steps};
 use cal_model::walk::clock::Clock;
+use cal_model::walk::cursor::is_dated;
 use cal_model::walk::starts::rule_starts;
 use cal_model::{LocalTimes, Rule, Rules, local_of, written_value};
 use cal_moment::{Local, Stamp};
@@ -39,7 +40,7 @@ pub fn clock_beside<'a>(zones: &[LocalTimes<'a>], stamp: Stamp) -> Clock<'a>
 }
 
 /// Puts the later starts of a rule between two moments behind the others: by adding days where its
-/// moments stand equally far apart, else from moment to moment.
+/// moments stand equally far apart, else from moment to moment, for which the rule is made ready once.
 fn put_rule<R: Rules, L: Ledger>(
     alloc: Global,
     body: &R,
@@ -63,7 +64,8 @@ fn put_rule<R: Rules, L: Ledger>(
     ensures starts { OnOk result (out.new ≡ out.old ++ starts_between rule.now (moment_of_local start) (reading_by clock.now) (moment_of_local low) (moment_of_local high)) }
 {
     let Some(days) = days_apart_beside(rule, start, clock) else {
-        return rule_starts(alloc, body, rule, start, clock, low, high, out, steps);
+        let ready = body.ready(rule, start, is_dated(clock));
+        return rule_starts(alloc, &ready, rule, start, clock, low, high, out, steps);
     };
     even_starts(rule, days, start, clock, low, high, out)
 }

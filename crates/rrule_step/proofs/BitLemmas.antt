@@ -5,7 +5,7 @@ use Rattle.std.specs.Int.{bit_at, trailing_zeros}
 use Rattle.std.proofs.Math.Nat.{div-div-eq-div-mul, div-le_self}
 use Rattle.std.proofs.lemmas.Nat.{pow-add}
 use Rattle.std.proofs.lemmas.Bool.{cases_Bool, eqb-true, ltb-true, ltb-false}
-use Rattle.std.proofs.lemmas.Nat.Bits.{bit_at-zero, bit_at-lt, bit_at_and, bit_at_ones, bit_at_set_same, bit_at_set_other, bit_at-trailing_zeros, bit_at_above}
+use Rattle.std.proofs.lemmas.Nat.Bits.{bit_at-zero, bit_at-lt, bit_at_and, bit_at_ones, bit_at_set_same, bit_at_set_other, shr_and_one, bit_at-trailing_zeros, bit_at_above}
 use Rattle.rrule_step.specs.declared.set.Set.{Set}
 use Rattle.rrule_step.specs.Sets.{has}
 use Rattle.rrule_step.specs.Firsts.{NoneHolds, IsFirst}
@@ -44,6 +44,16 @@ has-with set n i lt = elim (cases_Bool (i == n)) [
   | inl w ↦ (let same = eqb-true i n w in rw w (is_one (bit_at (bit_or set.0 (1 * 2 ^ n % 18446744073709551616)) i) (let there = bit_at_set_same w64 set.0 n lt in rw same there)))
   | inr w ↦ rw w (ap (λ b. b == 1) (bit_at_set_other w64 set.0 n lt i (λ e. let bad : (i == n) ≡ true = grind (arith, e) in absurd cc)))
 ]
+
+-- a word that is 0 has none
+pub has-empty : (set : Set) (i : ℕ) → set.0 ≡ 0 → has set i ≡ false
+unfolding has
+has-empty set i none = is_zero (bit_at set.0 i) (ap (λ word. bit_at word i) none ∙ bit_at-zero i)
+
+-- a word that is shifted down to a bit
+pub has-bit : (set : Set) (i : ℕ) → (bit_and (set.0 / 2 ^ i) 1 == 1) ≡ has set i
+unfolding has
+has-bit set i = ap (λ bit. bit == 1) (shr_and_one set.0 i)
 
 one_of_both : (a b : ℕ) → a < 2 → b < 2 → (min a b == 1) ≡ (if a == 1 then b == 1 else false)
 one_of_both a b x y = elim (cases_Bool (a == 1)) [

@@ -90,6 +90,16 @@ week_goes_on rule day late small other =
     let same : fourth_day rule.week_start (day + 1) ≡ fourth_day rule.week_start day = omega (arith, late, small, other) in
     rw same refl
 
+-- a year has 52 weeks or 53
+pub weeks_within : (year first : ℕ) → first_of_year year ≤ first → first < first_of_year year + 7 → (52 ≤ (first_of_year (year + 1) - 1 - first) / 7 + 1) × ((first_of_year (year + 1) - 1 - first) / 7 + 1 ≤ 53)
+weeks_within year first low high =
+    let next = first_of_year-suc year in
+    let days = year_bounds year in
+    (omega (arith, next, days, low, high), omega (arith, next, days, low, high))
+  where
+    year_bounds : (year : ℕ) → (365 ≤ year_length year) × (year_length year ≤ 366)
+    year_bounds year = grind arith
+
 -- a day's month by its number
 pub month_begun : (day year month : ℕ) → year ≡ year_of day → month ≡ month_of day → 1 ≤ month → month ≤ 12 → month_begin (12 * year + month - 1) ≤ day
 month_begun day year month is_year is_month some most =

@@ -57,9 +57,9 @@ module _ (month : Month) (i : ℕ) (lt : i < month.size) where
   pub size_at : month_length (year_of (month.first + i)) (month_of (month.first + i)) ≡ month.size
   size_at = rw (year_at, month_at) (sym month.size_is)
 
-  pub month_day_at : (rule : Rule) → is_empty rule.by_month_day ≡ false → some_names_place rule.by_month_day (0 + i + 1) month.size ≡ month_day_passes rule (month.first + i)
+  pub month_day_at : (rule : Rule) → is_empty rule.by_month_day ≡ false → some_names_place rule.by_month_day (i + 1) month.size ≡ month_day_passes rule (month.first + i)
   month_day_at rule some =
-      let place : 0 + i + 1 ≡ day_of_month (month.first + i) = rw of_month_at (omega arith) in
+      let place : i + 1 ≡ day_of_month (month.first + i) = sym of_month_at in
       ap (λ p. some_names_place rule.by_month_day p month.size) place
       ∙ (ap (λ n. some_names_place rule.by_month_day (day_of_month (month.first + i)) n) (sym size_at)
       ∙ sym (ap (λ b. if b then true else some_names_place rule.by_month_day (day_of_month (month.first + i)) (month_length (year_of (month.first + i)) (month_of (month.first + i)))) some))
@@ -103,9 +103,26 @@ module _ (month : Month) (i : ℕ) (lt : i < month.size) where
       ap (λ c. if i == start.of_month - 1 then c else false) (is ∙ (from ∙ sym of))
       ∙ ap (λ c. if c then (if is_empty rule.by_month then month_of (month.first + i) == month_of start.day else true) else false) (sym (same_day_at start))
 
--- a month has at most 31 days
+-- a month has at most 31 days, and at least 28
 pub size_bound : (month : Month) → month.size ≤ 31
 size_bound month = let e = month.size_is in let bounds = month_length-bounds month.year month.month in omega (arith, e, bounds)
+
+pub size_least : (month : Month) → 28 ≤ month.size
+size_least month = let e = month.size_is in let bounds = month_length-bounds month.year month.month in omega (arith, e, bounds)
+
+-- and a year at most 366
+pub year_at_most : (year : ℕ) → year_length year ≤ 366
+year_at_most year = grind arith
+
+-- a day of a month is one of its year
+pub day_in_year : (month : Month) (i : ℕ) → i < month.size → days_before_month month.year month.month + i < year_length month.year
+day_in_year month i lt =
+    let months = month.month_is in
+    let size = month.size_is in
+    let next = days_before_month-next month.year month.month months.0 in
+    let end = days_before_month-le month.year (month.month + 1) 13 (omega (arith, months)) in
+    let year = days_before_month-end month.year in
+    omega (arith, size, next, end, year, lt)
 
 -- and ends where the next one begins
 pub month_next : (month : Month) (n : ℕ) → month.year ≡ n / 12 → month.month ≡ n % 12 + 1 → month_begin (n + 1) ≡ month.first + month.size

@@ -3,5 +3,7 @@ pub mod Firsts
 pub mod Clock
 pub mod StartMoment
 pub mod Periods
+pub mod Ordinals
+pub mod DaySets
 pub mod Plans
 pub mod Rounds

@@ -1,13 +1,15 @@
--- What a walk of a rule keeps of its start, and what it finds.
+-- What a walk of a rule keeps of it and its start, and what it finds.
 use Rattle.std.specs.Prelude.{◌≡◌, ℕ, ◌+◌, ◌*◌, ◌<◌, ◌≤◌, Bool, true, false}
 use Rattle.cal_moment.specs.Calendar.{month_of}
 use Rattle.cal_model.specs.declared.rule.Rule.{Rule}
 use Rattle.cal_model.specs.Recurrence.Passing.{passes, period_number, month_passes, day_passes, time_passes}
 use Rattle.cal_model.specs.Recurrence.NextPassing.{IsNextPassing}
 use Rattle.rrule_step.specs.declared.step.Plan.{Plan}
+use Rattle.rrule_step.specs.declared.step.PeriodPlan.{PeriodPlan}
 use Rattle.rrule_step.specs.declared.step.Moment.{Moment}
 use Rattle.rrule_step.specs.StartMoment.{moment_of}
 use Rattle.rrule_step.specs.Clock.{in_day}
+use Rattle.rrule_step.specs.DaySets.{AreDaySets}
 use Rattle.rrule_step.specs.Sets.{has}
 
 -- the plan is that of the rule and its own start
@@ -16,6 +18,14 @@ pub record IsPlan (rule : Rule) (plan : Plan) : Type 0 where
   pub times : (k : ℕ) → k < 86_400 → time_passes rule plan.start.second plan.dated k ≡ in_day plan.times.hours plan.times.minutes plan.times.seconds k
   pub missed : (day : ℕ) → has plan.months (month_of day) ≡ false → day_passes rule plan.start.day day ≡ false
   pub listed : (day : ℕ) → has plan.months (month_of day) ≡ true → month_passes rule day ≡ true
+  pub days : AreDaySets rule plan.days
+
+-- it is that of the rule and this start, and where nothing passes that may be known
+pub record IsReady (ready : PeriodPlan) (rule : Rule) (start : ℕ) (dated : Bool) : Type 0 where
+  pub plan : IsPlan rule ready.plan
+  pub begins : moment_of ready.plan.start ≡ start
+  pub is_date : ready.plan.dated ≡ dated
+  pub never : ready.never ≡ true → (m : ℕ) → passes rule start dated m ≡ false
 
 -- a second of a day passes
 abbrev pub passes_on : Rule → Plan → ℕ → ℕ → Bool

@@ -1,102 +1,85 @@
 //! The days of a month that pass a rule, as a set: 0 is the first of the month.
-ghost use Rattle.std.specs.Prelude.{◌≡◌, ℕ, ◌+◌, ◌-◌, ◌*◌, ◌<◌, ◌≤◌, ◌==◌, true, false, if◌then◌else◌, MatchOption};
+ghost use Rattle.std.specs.Prelude.{◌≡◌, ℕ, ℤ, List, ◌+◌, ◌-◌, ◌*◌, ◌<◌, ◌≤◌, ◌==◌, true, false, if◌then◌else◌, slice_index_or};
 ghost use Rattle.std.specs.List.{list_any};
 ghost use Rattle.cal_moment.specs.Calendar as cal;
 ghost use Rattle.cal_model.specs.Recurrence.NextPassing.{IsUsable};
 ghost use Rattle.cal_model.specs.Recurrence.Passing as spec;
 ghost use Rattle.cal_model.specs.Words.Lists as lists;
-ghost use Rattle.cal_model.specs.Words.Integers.{names_place, some_names_place};
+ghost use Rattle.cal_model.specs.Words.Integers.{some_names_place};
+ghost use Rattle.rrule_step.specs.DaySets.{AreDaySets, AreMonthDays, AreYearDays};
+ghost use Rattle.rrule_step.specs.Ordinals.{AreOrdinals, asks_for, asks_of};
 ghost use Rattle.rrule_step.specs.Sets.{has};
 
-use crate::month::{Month, days_before_month, weekday_of, year_length};
+use crate::day_sets::{DaySets, MonthDays, YearDays};
+use crate::month::{Month, days_before_month, is_leap, weekday_of, year_length};
+use crate::ordinals::{Ordinals, is_asked};
 use crate::parts::numbers_of;
 use crate::set::Set;
 use crate::start::Start;
 use crate::weeks::week_days;
 use cal_base::List;
-use cal_model::{DayPart, Freq, Rule};
+use cal_model::{Freq, Rule};
 
-/// The place that a number names among so many, counted from 0: from the front or, where the number
-/// is negative, from the end.
-fn named(number: i16, size: u32) -> Option<u32>
-    requires { size ≤ 366 }
-    ensures { MatchOption result
-        ((i : ℕ) → i < size → names_place (i + 1) size number ≡ false)
-        (λ d. (d < size) × ((i : ℕ) → i < size → names_place (i + 1) size number ≡ (i == d))) }
+/// The places that numbers name in a month of so many days.
+fn named_in_month(days: &MonthDays, size: u32) -> Set
+    requires { (28 ≤ size) × (size ≤ 31) }
+    ensures { (numbers : List ℤ) → AreMonthDays numbers days.now → (i : ℕ) → i < size → has result i ≡ some_names_place numbers (i + 1) size }
 {
-    if number > 0 {
-        let place = number as u32;
-        if place <= size { Some(place - 1) } else { None }
-    } else if number < 0 {
-        let back = (-(number as i32)) as u32;
-        if back <= size {
-            Some(size - back)
-        } else {
-            None
-        }
-    } else {
-        None
+    match size {
+        28 => days.of_28,
+        29 => days.of_29,
+        30 => days.of_30,
+        _ => days.of_31,
     }
-}
-
-/// A set with the day that a number names among so many, of which `before` lie before the month.
-fn with_named(set: Set, number: i16, before: u32, size: u32, count: u32) -> Set
-    requires size { size ≤ 366 }
-    requires count { count ≤ 31 }
-    requires within { before + count ≤ size }
-    ensures { (i : ℕ) → i < count → has result i ≡ (if names_place (before + i + 1) size number then true else has set i) }
-{
-    match named(number, size) {
-        Some(place) => {
-            if before <= place && place < before + count {
-                set.with(place - before)
-            } else {
-                set
-            }
-        }
-        None => set,
-    }
-}
-
-/// The days that numbers name among so many, of which `before` lie before the month.
-fn all_named(numbers: &List<i16>, before: u32, size: u32, count: u32) -> Set
-    requires size { size ≤ 366 }
-    requires count { count ≤ 31 }
-    requires within { before + count ≤ size }
-    ensures { (i : ℕ) → i < count → has result i ≡ some_names_place numbers.now (before + i + 1) size }
-{
-    let mut set = Set::none();
-    for number in numbers.as_slice() {
-        set = with_named(set, *number, before, size, count);
-    }
-    set
 }
 
 /// BYMONTHDAY.
-fn month_days(rule: &Rule, month: &Month) -> Set
+fn month_days(rule: &Rule, days: &MonthDays, month: &Month) -> Set
+    requires days { AreMonthDays rule.now.by_month_day days.now }
     ensures { (i : ℕ) → i < month.now.size → has result i ≡ spec.month_day_passes rule.now (month.now.first + i) }
 {
     if rule.by_month_day.is_empty() {
         Set::all()
     } else {
-        all_named(&rule.by_month_day, 0, month.size, month.size)
+        named_in_month(days, month.size)
     }
 }
 
+/// Whether a table of a year marks a day.
+fn is_marked(table: &[bool; 366], day: u32) -> bool
+    requires { day < 366 }
+    ensures { result ≡ slice_index_or table.now day false }
+{
+    table[day as usize]
+}
+
+/// The days of a month that a table of its year marks, `before` of which lie before the month.
+fn marked_days(table: &[bool; 366], before: u32, count: u32) -> Set
+    requires count { count ≤ 31 }
+    requires within { before + count ≤ 366 }
+    ensures { (i : ℕ) → i < count → has result i ≡ slice_index_or table.now (before + i) false }
+{
+    let mut set = Set::none();
+    for i in 0..count {
+        let marked = is_marked(table, before + i);
+        set = set.with_if(i, marked);
+    }
+    set
+}
+
 /// BYYEARDAY.
-fn year_days(rule: &Rule, month: &Month) -> Set
+fn year_days(rule: &Rule, days: &YearDays, month: &Month) -> Set
+    requires days { AreYearDays rule.now.by_year_day days.now }
     ensures { (i : ℕ) → i < month.now.size → has result i ≡ spec.year_day_passes rule.now (month.now.first + i) }
 {
     if rule.by_year_day.is_empty() {
-        Set::all()
+        return Set::all();
+    }
+    let before = days_before_month(month.year, month.month);
+    if is_leap(month.year) {
+        marked_days(&days.of_366, before, month.size)
     } else {
-        let before = days_before_month(month.year, month.month);
-        all_named(
-            &rule.by_year_day,
-            before,
-            year_length(month.year),
-            month.size,
-        )
+        marked_days(&days.of_365, before, month.size)
     }
 }
 
@@ -114,47 +97,68 @@ fn weekdays(weekday: u32, first: u32) -> Set
     set
 }
 
-/// Whether an ordinal means this occurrence of a weekday, by the day's place in its month or year.
-fn ordinal_passes(place: u32, size: u32, ordinal: i16) -> bool
-    requires { place ≤ 1000 }
-    ensures { result ≡ spec.ordinal_passes place size ordinal }
-{
-    if ordinal >= 0 {
-        ordinal == 0 || ordinal as u32 == (place + 6) / 7
-    } else {
-        (-(ordinal as i32 + 1)) as u32 == size.saturating_sub(place) / 7
-    }
-}
-
-/// A set with the days that a value of BYDAY holds.
-fn with_weekday(set: Set, part: DayPart, first: u32, before: u32, size: u32) -> Set
+/// A set with the days of a weekday whose occurrence is asked for.
+fn with_weeks(
+    set: Set,
+    front: Set,
+    back: Set,
+    weekday: u32,
+    first: u32,
+    before: u32,
+    size: u32,
+) -> Set
+    requires weekday { weekday < 7 }
     requires first { first < 3_652_425 }
     requires before { before ≤ 366 }
-    requires weekday { part.weekday < 7 }
-    ensures { (i : ℕ) → i < 31 → has result i ≡ (if spec.weekday_passes (cal.weekday_of (first + i)) (before + i + 1) size part then true else has set i) }
+    requires size { size ≤ 366 }
+    ensures { (i : ℕ) → i < 31 → has result i ≡ (if (if weekday == cal.weekday_of (first + i) then asks_for (has front) (has back) (before + i + 1) size else false) then true else has set i) }
 {
     let mut set = set;
-    let at = (part.weekday as u32 + 7 - weekday_of(first)) % 7;
+    let at = (weekday + 7 - weekday_of(first)) % 7;
     for week in 0..5u32 {
         let day = at + 7 * week;
-        if ordinal_passes(before + day + 1, size, part.ordinal) {
+        if is_asked(front, back, before + day + 1, size) {
             set = set.with(day);
         }
     }
     set
 }
 
-/// The days that the values of BYDAY hold.
-fn all_weekdays(parts: &List<DayPart>, first: u32, before: u32, size: u32) -> Set
+/// A set with the days of a weekday that BYDAY names. Most rules name few weekdays.
+fn with_weekday(
+    set: Set,
+    ordinals: &Ordinals,
+    weekday: u32,
+    first: u32,
+    before: u32,
+    size: u32,
+) -> Set
+    requires weekday { weekday < 7 }
     requires first { first < 3_652_425 }
     requires before { before ≤ 366 }
-    ensures { (i : ℕ) → i < 31 → has result i ≡ list_any (spec.weekday_passes (cal.weekday_of (first + i)) (before + i + 1) size) parts.now }
+    requires size { size ≤ 366 }
+    ensures { (i : ℕ) → i < 31 → has result i ≡ (if cal.weekday_of (first + i) == weekday then (if asks_of ordinals.now weekday (before + i + 1) size then true else has set i) else has set i) }
 {
+    let front = ordinals.counted(weekday);
+    let back = ordinals.counted_back(weekday);
+    if front.is_none() && back.is_none() {
+        return set;
+    }
+    with_weeks(set, front, back, weekday, first, before, size)
+}
+
+/// The days that BYDAY names, weekday by weekday.
+fn all_weekdays(rule: &Rule, ordinals: &Ordinals, first: u32, before: u32, size: u32) -> Set
+    requires ordinals { AreOrdinals rule.now.by_day ordinals.now }
+    requires first { first < 3_652_425 }
+    requires before { before ≤ 366 }
+    requires size { size ≤ 366 }
+    ensures { (i : ℕ) → i < 31 → has result i ≡ list_any (spec.weekday_passes (cal.weekday_of (first + i)) (before + i + 1) size) rule.now.by_day }
+{
+    let _ = rule;
     let mut set = Set::none();
-    for part in parts.as_slice() {
-        if part.weekday < 7 {
-            set = with_weekday(set, *part, first, before, size);
-        }
+    for weekday in 0..7u32 {
+        set = with_weekday(set, ordinals, weekday, first, before, size);
     }
     set
 }
@@ -170,17 +174,19 @@ fn counts_in_month(freq: Freq, by_month: &List<u8>) -> bool
 }
 
 /// BYDAY: ordinals count in the month under MONTHLY and beside BYMONTH, else in the year.
-fn by_days(rule: &Rule, month: &Month) -> Set
+fn by_days(rule: &Rule, ordinals: &Ordinals, month: &Month) -> Set
+    requires ordinals { AreOrdinals rule.now.by_day ordinals.now }
     ensures { (i : ℕ) → i < month.now.size → has result i ≡ spec.by_day_passes rule.now (month.now.first + i) }
 {
     if rule.by_day.is_empty() {
         return Set::all();
     }
     if counts_in_month(rule.freq, &rule.by_month) {
-        all_weekdays(&rule.by_day, month.first, 0, month.size)
+        all_weekdays(rule, ordinals, month.first, 0, month.size)
     } else {
         let before = days_before_month(month.year, month.month);
-        all_weekdays(&rule.by_day, month.first, before, year_length(month.year))
+        let size = year_length(month.year);
+        all_weekdays(rule, ordinals, month.first, before, size)
     }
 }
 
@@ -258,16 +264,17 @@ fn in_all(a: Set, b: Set, c: Set, d: Set, e: Set) -> Set
 }
 
 /// The days of a month of BYMONTH that pass all that a rule and its start say of days.
-pub fn days_of(rule: &Rule, start: &Start, month: &Month) -> Set
+pub fn days_of(rule: &Rule, start: &Start, sets: &DaySets, month: &Month) -> Set
     requires rule { IsUsable rule.now }
+    requires sets { AreDaySets rule.now sets.now }
     requires listed { (i : ℕ) → i < month.now.size → spec.month_passes rule.now (month.now.first + i) ≡ true }
     ensures { (i : ℕ) → i < month.now.size → has result i ≡ spec.day_passes rule.now start.now.day (month.now.first + i) }
 {
     in_all(
-        month_days(rule, month),
-        by_days(rule, month),
-        year_days(rule, month),
-        week_days(rule, month),
+        month_days(rule, &sets.month_days, month),
+        by_days(rule, &sets.ordinals, month),
+        year_days(rule, &sets.year_days, month),
+        week_days(rule, &sets.weeks, month),
         default_days(rule, start, month),
     )
 }

@@ -32,7 +32,7 @@ pub fn first_of_year(year: u32) -> u32
 }
 
 /// Every fourth year, but of the centuries only every fourth.
-fn is_leap(year: u32) -> bool
+pub fn is_leap(year: u32) -> bool
     ensures { result ≡ cal.is_leap year }
 {
     year % 4 == 0 && (year % 100 != 0 || year % 400 == 0)

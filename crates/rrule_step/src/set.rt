@@ -10,12 +10,20 @@ pub struct Set(u64);
 impl Set {
     ghost use Rattle.rrule_step.specs.Sets.{has};
     ghost use Rattle.rrule_step.specs.Firsts.{FindsFirst};
+    ghost use Rattle.std.specs.Int.{bit_at};
 
     /// No number.
     pub fn none() -> Set
         ensures { (i : ℕ) → has result i ≡ false }
     {
         Set(0)
+    }
+
+    /// The numbers of the bits of a word.
+    pub fn of(word: u64) -> Set
+        ensures { (i : ℕ) → has result i ≡ (bit_at word i == 1) }
+    {
+        Set(word)
     }
 
     /// Each number.
@@ -33,6 +41,14 @@ impl Set {
         Set(self.0 | (1 << number))
     }
 
+    /// The same where that is asked for.
+    pub fn with_if(self, number: u32, asked: bool) -> Set
+        requires { number < 64 }
+        ensures { (i : ℕ) → i < 64 → has result i ≡ (if i == number then (if asked then true else has self i) else has self i) }
+    {
+        if asked { self.with(number) } else { self }
+    }
+
     /// One number alone.
     pub fn only(number: u32) -> Set
         requires { number < 64 }
@@ -48,15 +64,19 @@ impl Set {
         Set(self.0 & other.0)
     }
 
+    /// Whether it has no number.
+    pub fn is_none(self) -> bool
+        ensures { result ≡ true → (i : ℕ) → has self i ≡ false }
+    {
+        self.0 == 0
+    }
+
     /// Whether the set has a number.
     pub fn contains(self, number: u32) -> bool
         requires { number < 64 }
         ensures { result ≡ has self number }
     {
-        match self.next(number, number + 1) {
-            Some(_) => true,
-            None => false,
-        }
+        (self.0 >> number) & 1 == 1
     }
 
     /// The first number of the set from one on and below an end.

@@ -1,5 +1,5 @@
 //! The steps from month to month, and in a month from day to day.
-ghost use Rattle.std.specs.Prelude.{◌≡◌, ℕ, ◌+◌, ◌-◌, ◌*◌, ◌/◌, ◌%◌, ◌<◌, ◌≤◌, true, false, IfSome, MatchOption, pos, neg_ℤ, ◌≤ℤ◌};
+ghost use Rattle.std.specs.Prelude.{◌≡◌, ℕ, ◌+◌, ◌-◌, ◌*◌, ◌/◌, ◌%◌, ◌<◌, ◌≤◌, true, false, IfNone, IfSome, MatchOption, pos, neg_ℤ, ◌≤ℤ◌};
 ghost use Rattle.cal_moment.specs.Calendar as cal;
 ghost use Rattle.cal_model.specs.Recurrence.NextPassing.{IsWritten, IsUsable, NonePasses, IsNextPassing, end_day, is_fine};
 ghost use Rattle.cal_model.specs.Values.LocalTimes.{moment_of_local};
@@ -10,6 +10,7 @@ ghost use Rattle.rrule_step.specs.Firsts.{FindsFirst};
 ghost use Rattle.rrule_step.specs.Periods.{month_begin};
 ghost use Rattle.rrule_step.specs.Sets.{has};
 
+use crate::day_sets::{DaySets, day_sets_of};
 use crate::days::{days_of, months_of};
 use crate::month::{Month, date_of};
 use crate::periods::{END_MONTH, counted_day, counted_month, hours_on, listed_month, period_of};
@@ -17,7 +18,7 @@ use crate::rounds::never_meets;
 use crate::set::Set;
 use crate::start::Start;
 use crate::times::{Times, next_in_day, times_of};
-use cal_model::{Freq, Rule, Rules};
+use cal_model::{Freq, ReadyRule, Rule, Rules};
 use cal_moment::Local;
 
 /// Steps from period to period, and looks at the days of a month as a set.
@@ -43,8 +44,8 @@ impl Moment {
     }
 }
 
-/// What a walk of a rule needs of its start: the number of its period, the times of a day and the
-/// months that may have a passing day.
+/// What a walk of a rule needs of its start and its lists: the number of the start's period, the times
+/// of a day, the months that may have a passing day, and what the parts that name days say.
 #[derive(Drop)]
 pub struct Plan {
     pub start: Start,
@@ -52,6 +53,15 @@ pub struct Plan {
     pub first: u32,
     pub times: Times,
     pub months: Set,
+    pub days: DaySets,
+}
+
+/// A rule made ready for steps from period to period.
+#[derive(Drop)]
+pub struct PeriodPlan {
+    plan: Plan,
+    /// INTERVAL leaves out each hour that BYHOUR and BYDAY have, so nothing passes.
+    never: bool,
 }
 
 /// The first passing second of a day that passes, from a second on.
@@ -102,7 +112,7 @@ fn next_in_month(rule: &Rule, plan: &Plan, month: &Month, from: Moment) -> Optio
         (NonePasses rule.now (moment_of plan.now.start) plan.now.dated (86_400 * from.day + from.second) (86_400 * (month.now.first + month.now.size)))
         (IsFound rule.now plan.now from) }
 {
-    let days = days_of(rule, &plan.start, month);
+    let days = days_of(rule, &plan.start, &plan.days, month);
     let end = month.first + month.size;
     let mut day = from.day.max(month.first);
     while day < end {
@@ -189,7 +199,7 @@ fn moment_at(moment: Moment) -> Local
     }
 }
 
-/// What a walk needs of a start.
+/// What a walk needs of a start and of the lists of a rule.
 fn plan_of(rule: &Rule, start: Local, dated: bool) -> Plan
     requires usable { IsUsable rule.now }
     requires coarse { is_fine rule.now.freq ≡ false }
@@ -213,28 +223,58 @@ fn plan_of(rule: &Rule, start: Local, dated: bool) -> Plan
         second: start.second,
     };
     let months = months_of(rule, &start);
+    let days = day_sets_of(rule);
     Plan {
         start,
         dated,
         first,
         times,
         months,
+        days,
+    }
+}
+
+/// The first passing moment from one on.
+fn next_from(rule: &Rule, plan: &Plan, from: Local) -> Option<Local>
+    requires usable { IsUsable rule.now }
+    requires coarse { is_fine rule.now.freq ≡ false }
+    requires plan { IsPlan rule.now plan.now }
+    requires from { IsWritten from }
+    ensures written { IfSome result (λ m. IsWritten m) }
+    ensures some { IfSome result (λ m. IsNextPassing rule.now (moment_of plan.now.start) plan.now.dated (moment_of_local from) (moment_of_local m)) }
+    ensures none { IfNone result (NonePasses rule.now (moment_of plan.now.start) plan.now.dated (moment_of_local from) (86_400 * end_day)) }
+{
+    let day = day_number(from.day);
+    if END_DAY <= day {
+        return None;
+    }
+    let (year, month, _) = date_of(day);
+    let second = from.second;
+    let found = next_moment(rule, plan, 12 * year + month - 1, Moment { day, second })?;
+    Some(moment_at(found))
+}
+
+impl ReadyRule for PeriodPlan {
+    ghost use Rattle.rrule_step.specs.Plans.{IsReady};
+
+    ghost IsReadyFor = { IsReady };
+
+    fn next_passing(&self, rule: &Rule, start: Local, dated: bool, from: Local) -> Option<Local> {
+        let _ = start;
+        let _ = dated;
+        if self.never {
+            return None;
+        }
+        next_from(rule, &self.plan, from)
     }
 }
 
 impl Rules for PeriodStep {
-    fn next_passing(&self, rule: &Rule, start: Local, dated: bool, from: Local) -> Option<Local> {
-        let day = day_number(from.day);
-        if END_DAY <= day {
-            return None;
-        }
+    type Ready = PeriodPlan;
+
+    fn ready(&self, rule: &Rule, start: Local, dated: bool) -> PeriodPlan {
         let plan = plan_of(rule, start, dated);
-        if never_meets(rule, &plan) {
-            return None;
-        }
-        let (year, month, _) = date_of(day);
-        let second = from.second;
-        let found = next_moment(rule, &plan, 12 * year + month - 1, Moment { day, second })?;
-        Some(moment_at(found))
+        let never = never_meets(rule, &plan);
+        PeriodPlan { plan, never }
     }
 }

@@ -5,31 +5,27 @@ ghost use Rattle.cal_model.specs.Recurrence.NextPassing.{IsUsable};
 ghost use Rattle.cal_model.specs.Recurrence.Passing as spec;
 ghost use Rattle.cal_model.specs.Words.Integers as integers;
 ghost use Rattle.cal_model.specs.Words.Lists as lists;
+ghost use Rattle.rrule_step.specs.DaySets.{AreWeeks};
 ghost use Rattle.rrule_step.specs.Sets.{has};
 
+use crate::day_sets::Weeks;
 use crate::month::{Month, first_of_year, weekday_of};
 use crate::set::Set;
-use cal_base::List;
 use cal_model::Rule;
 
-/// Whether a written number names a place, from the front or, where it is negative, from the end.
-fn names_place(place: u32, size: u32, number: i16) -> bool
-    requires { place ≤ 1000 }
-    ensures { result ≡ integers.names_place place size number }
+/// Whether BYWEEKNO names a week of a year that has so many.
+fn is_named(rule: &Rule, weeks: &Weeks, week: u32, count: u32) -> bool
+    requires weeks { AreWeeks rule.now.by_week weeks.now }
+    requires week { (1 ≤ week) × (week ≤ count) }
+    requires count { (52 ≤ count) × (count ≤ 53) }
+    ensures { result ≡ integers.some_names_place rule.now.by_week week count }
 {
-    if number >= 0 {
-        number as u32 == place
+    let _ = rule;
+    if count == 53 {
+        weeks.of_53.contains(week - 1)
     } else {
-        place + (-(number as i32 + 1)) as u32 == size
+        weeks.of_52.contains(week - 1)
     }
-}
-
-/// Whether one of the written numbers names a place.
-fn some_names_place(part: &List<i16>, place: u32, size: u32) -> bool
-    requires { place ≤ 1000 }
-    ensures { result ≡ integers.some_names_place part.now place size }
-{
-    part.iter().any(|n| names_place(place, size, *n))
 }
 
 /// The fourth day of the first week of a year, where weeks begin on that weekday.
@@ -74,8 +70,9 @@ fn near_year(year: u32, day: u32) -> u32
 }
 
 /// Whether a day of a year lies in one of the weeks of BYWEEKNO.
-fn week_passes(rule: &Rule, year: u32, day: u32) -> bool
+fn week_passes(rule: &Rule, weeks: &Weeks, year: u32, day: u32) -> bool
     requires rule { IsUsable rule.now }
+    requires weeks { AreWeeks rule.now.by_week weeks.now }
     requires some { (lists.is_empty rule.now.by_week) ≡ false }
     requires bounds { (1 ≤ year) × (year ≤ 2101) }
     requires from { cal.first_of_year year ≤ day }
@@ -85,9 +82,9 @@ fn week_passes(rule: &Rule, year: u32, day: u32) -> bool
     let fourth = fourth_day(rule.week_start, day);
     let year = near_year(year, fourth);
     let first = first_fourth_day(rule.week_start, year);
-    let weeks = (first_of_year(year + 1) - 1 - first) / 7 + 1;
+    let count = (first_of_year(year + 1) - 1 - first) / 7 + 1;
     let week = fourth.saturating_sub(first) / 7 + 1;
-    some_names_place(&rule.by_week, week, weeks)
+    is_named(rule, weeks, week, count)
 }
 
 /// Whether a week begins on a day, or is the first that a month has.
@@ -100,8 +97,9 @@ fn begins(week_start: u8, place: u32, day: u32) -> bool
 
 /// Whether a day of a month lies in one of the weeks of BYWEEKNO: a week is tested at its first day
 /// there, and its later days are as the day before them.
-fn week_passes_at(rule: &Rule, month: &Month, place: u32, before: bool) -> bool
+fn week_passes_at(rule: &Rule, weeks: &Weeks, month: &Month, place: u32, before: bool) -> bool
     requires rule { IsUsable rule.now }
+    requires weeks { AreWeeks rule.now.by_week weeks.now }
     requires some { (lists.is_empty rule.now.by_week) ≡ false }
     requires place { place < month.now.size }
     requires before { 0 < place → before ≡ spec.week_passes rule.now (month.now.first + place - 1) }
@@ -109,43 +107,37 @@ fn week_passes_at(rule: &Rule, month: &Month, place: u32, before: bool) -> bool
 {
     let day = month.first + place;
     if begins(rule.week_start, place, day) {
-        week_passes(rule, month.year, day)
+        week_passes(rule, weeks, month.year, day)
     } else {
         before
     }
 }
 
-/// A set with one number more, where it is asked for.
-fn with_if(set: Set, number: u32, asked: bool) -> Set
-    requires { number < 64 }
-    ensures { (i : ℕ) → i < 64 → has result i ≡ (if i == number then (if asked then true else has set i) else has set i) }
-{
-    if asked { set.with(number) } else { set }
-}
-
 /// The days of a month in the weeks of BYWEEKNO.
-fn named_weeks(rule: &Rule, month: &Month) -> Set
+fn named_weeks(rule: &Rule, weeks: &Weeks, month: &Month) -> Set
     requires rule { IsUsable rule.now }
+    requires weeks { AreWeeks rule.now.by_week weeks.now }
     requires some { (lists.is_empty rule.now.by_week) ≡ false }
     ensures { (i : ℕ) → i < month.now.size → has result i ≡ spec.week_passes rule.now (month.now.first + i) }
 {
     let mut set = Set::none();
     let mut passes = false;
     for i in 0..month.size {
-        passes = week_passes_at(rule, month, i, passes);
-        set = with_if(set, i, passes);
+        passes = week_passes_at(rule, weeks, month, i, passes);
+        set = set.with_if(i, passes);
     }
     set
 }
 
 /// BYWEEKNO.
-pub fn week_days(rule: &Rule, month: &Month) -> Set
+pub fn week_days(rule: &Rule, weeks: &Weeks, month: &Month) -> Set
     requires rule { IsUsable rule.now }
+    requires weeks { AreWeeks rule.now.by_week weeks.now }
     ensures { (i : ℕ) → i < month.now.size → has result i ≡ spec.week_passes rule.now (month.now.first + i) }
 {
     if rule.by_week.is_empty() {
         Set::all()
     } else {
-        named_weeks(rule, month)
+        named_weeks(rule, weeks, month)
     }
 }

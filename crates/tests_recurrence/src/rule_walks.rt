@@ -1,9 +1,10 @@
 //! The moments of rules: the examples of RFC 5545, 3.8.5.3, and the two bodies side by side.
 ghost use Rattle.std.specs.Prelude.{◌≡◌, ◌<◌, ◌≤◌, false, true, IfSome};
 ghost use Rattle.cal_model.specs.Recurrence.NextPassing.{IsWritten, IsUsable, is_fine};
+ghost use Rattle.cal_model.specs.Values.LocalTimes.{moment_of_local};
 
 use crate::rule_cases::{NONE, Parts, after, moment, rule_of};
-use cal_model::{Freq, Rule, Rules};
+use cal_model::{Freq, ReadyRule, Rule, Rules};
 use cal_moment::Local;
 use rrule_filter::DayFilter;
 use rrule_step::PeriodStep;
@@ -12,7 +13,14 @@ use std::process::Abort;
 use std::rt::HostRuntime;
 
 /// The first moments of a rule from its start on are those of these days, at the start's time.
-fn gives<R: Rules>(rt: &impl Abort, body: &R, rule: &Rule, start: Local, days: &[(i32, u8, u8)])
+fn gives<R: ReadyRule>(
+    rt: &impl Abort,
+    ready: &R,
+    rule: &Rule,
+    start: Local,
+    days: &[(i32, u8, u8)],
+)
+    requires ready { R.IsReadyFor ready.now rule.now (moment_of_local start) false }
     requires start { IsWritten start }
     requires rule { IsUsable rule.now }
     requires coarse { is_fine rule.now.freq ≡ false }
@@ -20,7 +28,7 @@ fn gives<R: Rules>(rt: &impl Abort, body: &R, rule: &Rule, start: Local, days: &
     let mut from = start;
     'days: for date in days {
         let wanted = moment(*date, 32_400);
-        let found = body.next_passing(rule, start, false, from);
+        let found = ready.next_passing(rule, start, false, from);
         assert_eq!(rt; found, wanted);
         if let Some(m) = found {
             from = after(m);
@@ -34,8 +42,10 @@ fn both_give(rt: &impl Abort, rule: &Rule, start: (i32, u8, u8), days: &[(i32, u
     requires coarse { is_fine rule.now.freq ≡ false }
 {
     if let Some(start) = moment(start, 32_400) {
-        gives(rt, &DayFilter, rule, start, days);
-        gives(rt, &PeriodStep, rule, start, days);
+        let plain = DayFilter.ready(rule, start, false);
+        gives(rt, &plain, rule, start, days);
+        let fast = PeriodStep.ready(rule, start, false);
+        gives(rt, &fast, rule, start, days);
     }
 }
 
@@ -370,6 +380,78 @@ const PARTS: [Parts; 14] = [
     },
 ];
 
+/// Parts whose lists are long, with numbers that stand there twice, or that only some periods have.
+const LONG_PARTS: [Parts; 6] = [
+    Parts {
+        month_days: &[
+            31, 30, 29, 28, -28, -29, -30, -31, 1, 1, 31, -1, -31, 15, 15, 15, 2, 3, 5, 7, 11, 13,
+        ],
+        ..NONE
+    },
+    Parts {
+        year_days: &[
+            366, -366, 365, -365, 60, -60, 59, -307, 1, 1, -1, 32, 61, 91, 92, 121, 152, 182, 213,
+            244, 274, 305, 335, 336, -336, 100, 200, 300, 100, 200, 300,
+        ],
+        ..NONE
+    },
+    Parts {
+        days: &[
+            (5, 0),
+            (-5, 0),
+            (1, 1),
+            (1, 1),
+            (-1, 1),
+            (2, 2),
+            (4, 2),
+            (-4, 2),
+            (0, 3),
+            (0, 3),
+            (3, 3),
+            (53, 4),
+            (-53, 4),
+            (52, 4),
+            (-52, 5),
+            (6, 5),
+            (-6, 6),
+            (0, 6),
+            (10, 6),
+            (27, 0),
+            (-27, 0),
+        ],
+        ..NONE
+    },
+    Parts {
+        months: &[2, 12, 1, 2, 12, 1, 7, 7],
+        days: &[
+            (5, 0),
+            (-5, 0),
+            (1, 1),
+            (1, 1),
+            (-1, 1),
+            (5, 2),
+            (-5, 3),
+            (-1, 6),
+            (6, 6),
+            (0, 4),
+        ],
+        ..NONE
+    },
+    Parts {
+        weeks: &[
+            1, 53, -53, 52, -52, -1, 1, 53, -53, 10, 20, 20, 30, -10, -20, -20, 40, 50, 51, -51, 2,
+        ],
+        days: &[(0, 0), (0, 3), (0, 6), (0, 6)],
+        ..NONE
+    },
+    Parts {
+        hours: &[23, 0, 23, 5, 5, 5, 0, 12, 9, 9],
+        minutes: &[59, 0, 59, 0, 30, 30, 30],
+        days: &[(0, 1), (0, 1), (0, 2), (0, 1)],
+        ..NONE
+    },
+];
+
 /// The frequencies that are served.
 const FREQS: [Freq; 5] = [
     Freq::Hourly,
@@ -388,12 +470,14 @@ fn bodies_agree(rt: &impl Abort, rule: &Rule, start: Local, dated: bool)
     requires rule { IsUsable rule.now }
     requires coarse { is_fine rule.now.freq ≡ false }
 {
+    let plain = DayFilter.ready(rule, start, dated);
+    let fast = PeriodStep.ready(rule, start, dated);
     let mut from = start;
     'steps: for _ in 0..5 {
-        let plain = DayFilter.next_passing(rule, start, dated, from);
-        let fast = PeriodStep.next_passing(rule, start, dated, from);
-        assert_eq!(rt; fast, plain);
-        let Some(m) = plain else {
+        let expected = plain.next_passing(rule, start, dated, from);
+        let found = fast.next_passing(rule, start, dated, from);
+        assert_eq!(rt; found, expected);
+        let Some(m) = expected else {
             return;
         };
         from = after(m);
@@ -415,17 +499,27 @@ fn bodies_agree_at_starts(rt: &impl Abort, rule: &Rule)
     }
 }
 
+/// Both bodies agree on a rule with those parts, for weeks that begin on Monday and on Sunday.
+fn bodies_agree_on(rt: &impl Abort, alloc: Global, freq: Freq, interval: u32, parts: Parts) {
+    if is_coarse(freq) && interval > 0 {
+        let monday = rule_of(alloc, freq, interval, 0, parts);
+        bodies_agree_at_starts(rt, &monday);
+        let sunday = rule_of(alloc, freq, interval, 6, parts);
+        bodies_agree_at_starts(rt, &sunday);
+    }
+}
+
 #[test]
 fn both_bodies_agree(rt: HostRuntime) {
     for freq in FREQS.iter() {
         for parts in PARTS.iter() {
             for interval in [1u32, 2, 5, 999_999_999] {
-                if is_coarse(*freq) && interval > 0 {
-                    let monday = rule_of(rt.alloc(), *freq, interval, 0, *parts);
-                    bodies_agree_at_starts(&rt, &monday);
-                    let sunday = rule_of(rt.alloc(), *freq, interval, 6, *parts);
-                    bodies_agree_at_starts(&rt, &sunday);
-                }
+                bodies_agree_on(&rt, rt.alloc(), *freq, interval, *parts);
+            }
+        }
+        for parts in LONG_PARTS.iter() {
+            for interval in [1u32, 3] {
+                bodies_agree_on(&rt, rt.alloc(), *freq, interval, *parts);
             }
         }
     }

@@ -13,7 +13,7 @@ use crate::until::end_by;
 use cal_base::{List, NoMemory, Steps};
 use cal_model::walk::clock::Clock;
 use cal_model::walk::rule_walk::{FIRST, begin_walk, next_moment};
-use cal_model::{Rule, Rules, ZonePart};
+use cal_model::{ReadyRule, Rule, Rules, ZonePart};
 use cal_moment::Local;
 use std::alloc::Global;
 use std::sync::ledger::Ledger;
@@ -47,7 +47,42 @@ fn add_dates(part: &ZonePart, dates: &[Local], changes: &mut List<Change>) -> Re
     Ok(())
 }
 
-/// Adds the changes of a rule's set, in which the start stands first.
+/// Adds the changes of a rule's set, in which the start stands first, by what the rule was made into.
+fn add_set<R: ReadyRule, L: Ledger>(
+    alloc: Global,
+    ready: &R,
+    part: &ZonePart,
+    rule: &Rule,
+    room: &mut u32,
+    changes: &mut List<Change>,
+    steps: &mut Steps<L>,
+) -> Result<(), TableFault>
+    requires ready { R.IsReadyFor ready.now rule.now (moment_of_local part.now.start) false }
+    requires part { IsPart part.now }
+    requires rule { IsUsable rule.now }
+    requires coarse { is_fine rule.now.freq ≡ false }
+    ensures changes { OnOk result (spec.changes_of changes.new ≡ spec.changes_of changes.old ++ spec.changes_at part.now (zone.rule_moments every_moment part.now rule.now)) }
+    ensures room { OnOk result (room.new + length (zone.rule_moments every_moment part.now rule.now) ≡ room.old) }
+    ensures many { IsErrOf result TableFault.TooMany → room.old < length (zone.rule_moments every_moment part.now rule.now) }
+{
+    count(room, 1)?;
+    add_change(part, part.start, changes)?;
+    let clock = Clock::Onset(part.from);
+    let end = end_by(rule.until);
+    let mut walk = begin_walk(alloc, rule, part.start, FIRST);
+    'rule: loop {
+        let Some(m) = next_moment(
+            ready, rule, part.start, &clock, FIRST, end, &mut walk, steps,
+        )?
+        else {
+            return Ok(());
+        };
+        count(room, 1)?;
+        add_change(part, m, changes)?;
+    }
+}
+
+/// Adds the changes of a rule's set. The rule is made ready once.
 fn add_rule<R: Rules, L: Ledger>(
     alloc: Global,
     rules: &R,
@@ -64,21 +99,8 @@ fn add_rule<R: Rules, L: Ledger>(
     ensures room { OnOk result (room.new + length (zone.rule_moments every_moment part.now rule.now) ≡ room.old) }
     ensures many { IsErrOf result TableFault.TooMany → room.old < length (zone.rule_moments every_moment part.now rule.now) }
 {
-    count(room, 1)?;
-    add_change(part, part.start, changes)?;
-    let clock = Clock::Onset(part.from);
-    let end = end_by(rule.until);
-    let mut walk = begin_walk(alloc, rule, part.start, FIRST);
-    'rule: loop {
-        let Some(m) = next_moment(
-            rules, rule, part.start, &clock, FIRST, end, &mut walk, steps,
-        )?
-        else {
-            return Ok(());
-        };
-        count(room, 1)?;
-        add_change(part, m, changes)?;
-    }
+    let ready = rules.ready(rule, part.start, false);
+    add_set(alloc, &ready, part, rule, room, changes, steps)
 }
 
 /// Adds the changes of a part's rules.

@@ -10,6 +10,7 @@ use Rattle.cal_model.specs.declared.walk.rule_walk.RuleWalk.{RuleWalk}
 use Rattle.cal_model.specs.Walks.Cursors.{IsAt}
 use Rattle.cal_model.specs.Walks.DayTimes.{AreTimes}
 use Rattle.cal_model.specs.Walks.KeptMoments.{kept_from, moments_of, wanted}
+use Rattle.cal_model.specs.Walks.SetPlaces.{AreSetPlaces}
 
 abbrev pub rest_of : Rule → ℕ → Reading → Picks → List ℕ
 rest_of rule start reading picks = drop picks.given (moments_of picks.moments) ++ kept_from rule start reading (moment_of_local picks.cursor.at)
@@ -19,6 +20,7 @@ pub record IsPicks (rule : Rule) (start : ℕ) (dated : Bool) (picks : Picks) : 
   pub given : picks.given ≤ length picks.moments
   pub written : All IsWritten picks.moments
   pub times : AreTimes rule start dated picks.times
+  pub places : AreSetPlaces rule.by_set_pos picks.places
   pub plain : is_empty rule.by_set_pos ≡ true → picks.moments ≡ []
 
 -- what a walk still gives of the moments from `low` up to `high`

@@ -9,7 +9,7 @@ ghost use Rattle.cal_model.specs.Walks.Clocks.{reading_by, IsClock};
 ghost use Rattle.cal_model.specs.Walks.Cursors.{IsAt};
 ghost use Rattle.cal_model.specs.Walks.KeptMoments.{found_from, kept_from, number_of};
 
-use crate::next_passing::Rules;
+use crate::next_passing::ReadyRule;
 use crate::rule::Rule;
 use crate::walk::clock::Clock;
 use cal_base::Steps;
@@ -82,8 +82,8 @@ pub fn is_past(cursor: &Cursor, end: Local) -> bool
 
 /// The next moment that passes, which stays the next one: one step where it is taken from the rule.
 #[tactic(auto, using(crate::proofs::Walks::KeptLemmas::found_from_failing))]
-pub fn peek<R: Rules, L: Ledger>(
-    rules: &R,
+pub fn peek<R: ReadyRule, L: Ledger>(
+    ready: &R,
     rule: &Rule,
     start: Local,
     clock: &Clock,
@@ -91,6 +91,7 @@ pub fn peek<R: Rules, L: Ledger>(
     end: Local,
     steps: &mut Steps<L>,
 ) -> Option<Local>
+    requires ready { R.IsReadyFor ready.now rule.now (moment_of_local start) (reading_by clock.now).dated }
     requires start { IsWritten start }
     requires rule { IsUsable rule.now }
     requires coarse { is_fine rule.now.freq ≡ false }
@@ -108,7 +109,7 @@ pub fn peek<R: Rules, L: Ledger>(
     if cursor.taken {
         return Some(cursor.at);
     }
-    match rules.next_passing(rule, start, is_dated(clock), cursor.at) {
+    match ready.next_passing(rule, start, is_dated(clock), cursor.at) {
         Some(m) => {
             steps.tick();
             cursor.at = m;
@@ -124,8 +125,8 @@ pub fn peek<R: Rules, L: Ledger>(
 
 /// The next moment of a rule without BYSETPOS, if it lies before `end`.
 #[tactic(auto, using(crate::proofs::Walks::KeptLemmas::found_from_passing))]
-pub fn next_plain<R: Rules, L: Ledger>(
-    rules: &R,
+pub fn next_plain<R: ReadyRule, L: Ledger>(
+    ready: &R,
     rule: &Rule,
     start: Local,
     clock: &Clock,
@@ -133,6 +134,7 @@ pub fn next_plain<R: Rules, L: Ledger>(
     end: Local,
     steps: &mut Steps<L>,
 ) -> Option<Local>
+    requires ready { R.IsReadyFor ready.now rule.now (moment_of_local start) (reading_by clock.now).dated }
     requires start { IsWritten start }
     requires end { IsWritten end }
     requires clock { IsClock clock.now }
@@ -151,7 +153,7 @@ pub fn next_plain<R: Rules, L: Ledger>(
         if is_past(cursor, end) {
             return None;
         }
-        let Some(m) = peek(rules, rule, start, clock, cursor, end, steps) else {
+        let Some(m) = peek(ready, rule, start, clock, cursor, end, steps) else {
             return None;
         };
         if !is_before(m, end) {

@@ -7,7 +7,7 @@ ghost use Rattle.cal_model.specs.Walks.Budgets.{left_to_take};
 ghost use Rattle.cal_model.specs.Walks.Clocks.{reading_by, IsClock};
 ghost use Rattle.cal_model.specs.Walks.PickedRest.{IsPicks, rest_of};
 
-use crate::next_passing::Rules;
+use crate::next_passing::ReadyRule;
 use crate::rule::Rule;
 use crate::walk::clock::Clock;
 use crate::walk::cursor::{is_before, is_past, next_plain, peek};
@@ -17,8 +17,8 @@ use cal_moment::Local;
 use std::sync::ledger::Ledger;
 
 /// The next moment that BYSETPOS picks, if its period has begun before `end`.
-fn next_picked<R: Rules, L: Ledger>(
-    rules: &R,
+fn next_picked<R: ReadyRule, L: Ledger>(
+    ready: &R,
     rule: &Rule,
     start: Local,
     clock: &Clock,
@@ -26,6 +26,7 @@ fn next_picked<R: Rules, L: Ledger>(
     end: Local,
     steps: &mut Steps<L>,
 ) -> Result<Option<Local>, NoMemory>
+    requires ready { R.IsReadyFor ready.now rule.now (moment_of_local start) (reading_by clock.now).dated }
     requires start { IsWritten start }
     requires end { IsWritten end }
     requires clock { IsClock clock.now }
@@ -47,20 +48,20 @@ fn next_picked<R: Rules, L: Ledger>(
         if is_past(&picks.cursor, end) {
             return Ok(None);
         }
-        let Some(m) = peek(rules, rule, start, clock, &mut picks.cursor, end, steps) else {
+        let Some(m) = peek(ready, rule, start, clock, &mut picks.cursor, end, steps) else {
             return Ok(None);
         };
         if !is_before(m, end) {
             return Ok(None);
         }
-        refill(rules, rule, start, clock, picks, end, steps)?;
+        refill(ready, rule, start, clock, picks, end, steps)?;
     }
 }
 
 /// The next moment of a rule's set, UNTIL and COUNT aside, if it or its period begins before `end`.
 #[tactic(auto, using(crate::proofs::Walks::BeginLemmas::plain_rest))]
-pub fn next_kept<R: Rules, L: Ledger>(
-    rules: &R,
+pub fn next_kept<R: ReadyRule, L: Ledger>(
+    ready: &R,
     rule: &Rule,
     start: Local,
     clock: &Clock,
@@ -68,6 +69,7 @@ pub fn next_kept<R: Rules, L: Ledger>(
     end: Local,
     steps: &mut Steps<L>,
 ) -> Result<Option<Local>, NoMemory>
+    requires ready { R.IsReadyFor ready.now rule.now (moment_of_local start) (reading_by clock.now).dated }
     requires start { IsWritten start }
     requires end { IsWritten end }
     requires clock { IsClock clock.now }
@@ -82,8 +84,8 @@ pub fn next_kept<R: Rules, L: Ledger>(
         (λ m. rest_of rule.now (moment_of_local start) (reading_by clock.now) picks.old ≡ moment_of_local m ∷ rest_of rule.now (moment_of_local start) (reading_by clock.now) picks.new)) }
 {
     if !rule.by_set_pos.is_empty() {
-        return next_picked(rules, rule, start, clock, picks, end, steps);
+        return next_picked(ready, rule, start, clock, picks, end, steps);
     }
-    let next = next_plain(rules, rule, start, clock, &mut picks.cursor, end, steps);
+    let next = next_plain(ready, rule, start, clock, &mut picks.cursor, end, steps);
     Ok(next)
 }

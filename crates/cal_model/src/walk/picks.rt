@@ -1,7 +1,6 @@
 //! BYSETPOS: the moments of one period, and those of them that are picked (RFC 5545, 3.3.10).
 ghost use Rattle.std.specs.Prelude.{◌≡◌, ℕ, ◌+◌, ◌-◌, ◌*◌, ◌<◌, ◌≤◌, ◌^◌, true, false, ◌++◌, [], ◌∷◌, OnOk, if◌then◌else◌, All, AllPairs, length, drop, IfSome, MatchOption};
 ghost use Rattle.cal_model.specs.Recurrence.NextPassing.{NonePasses, IsWritten, IsUsable, end_day, is_fine};
-ghost use Rattle.cal_model.specs.Words.Integers as integers;
 ghost use Rattle.cal_model.specs.Words.Lists as lists;
 ghost use Rattle.cal_model.specs.Values.LocalTimes.{moment_of_local};
 ghost use Rattle.cal_model.specs.declared.rule.Freq.TheVariants.{Hourly};
@@ -10,22 +9,24 @@ ghost use Rattle.cal_model.specs.Walks.Budgets.{last_period, left_to_take};
 ghost use Rattle.cal_model.specs.Walks.Clocks.{reading_by, IsClock};
 ghost use Rattle.cal_model.specs.Walks.Cursors.{IsAt};
 ghost use Rattle.cal_model.specs.Walks.DayTimes.{times_of_day, AreTimes};
+ghost use Rattle.cal_model.specs.Walks.SetPlaces.{AreSetPlaces};
 ghost use Rattle.cal_model.specs.Walks.KeptMoments.{found_from, found_between, kept_from, moments_of, number_of};
 
-use crate::next_passing::Rules;
+use crate::next_passing::ReadyRule;
 use crate::rule::{Freq, Rule};
 use crate::walk::clock::Clock;
 use crate::walk::cursor::{Cursor, is_dated, peek, second_after};
 use crate::walk::day_times::find_times;
 use crate::walk::days::{keep_day, keep_if_there, next_midnight};
 use crate::walk::period::period_of;
+use crate::walk::set_places::SetPlaces;
 use cal_base::{List, NoMemory, Steps};
 use cal_moment::Local;
 use std::sync::ledger::Ledger;
 
 /// Goes on to the next moment that passes, and says whether it lies in the period of that number.
-fn stays<R: Rules, L: Ledger>(
-    rules: &R,
+fn stays<R: ReadyRule, L: Ledger>(
+    ready: &R,
     rule: &Rule,
     start: Local,
     clock: &Clock,
@@ -34,6 +35,7 @@ fn stays<R: Rules, L: Ledger>(
     end: Local,
     steps: &mut Steps<L>,
 ) -> bool
+    requires ready { R.IsReadyFor ready.now rule.now (moment_of_local start) (reading_by clock.now).dated }
     requires start { IsWritten start }
     requires rule { IsUsable rule.now }
     requires coarse { is_fine rule.now.freq ≡ false }
@@ -50,15 +52,15 @@ fn stays<R: Rules, L: Ledger>(
     if period_of(rule, cursor.at) != number {
         return false;
     }
-    let Some(next) = peek(rules, rule, start, clock, cursor, end, steps) else {
+    let Some(next) = peek(ready, rule, start, clock, cursor, end, steps) else {
         return false;
     };
     period_of(rule, next) == number
 }
 
 /// Gathers what is found in the period of the moment at hand, one moment after the other.
-pub fn gather<R: Rules, L: Ledger>(
-    rules: &R,
+pub fn gather<R: ReadyRule, L: Ledger>(
+    ready: &R,
     rule: &Rule,
     start: Local,
     clock: &Clock,
@@ -67,6 +69,7 @@ pub fn gather<R: Rules, L: Ledger>(
     end: Local,
     steps: &mut Steps<L>,
 ) -> Result<(), NoMemory>
+    requires ready { R.IsReadyFor ready.now rule.now (moment_of_local start) (reading_by clock.now).dated }
     requires start { IsWritten start }
     requires clock { IsClock clock.now }
     requires rule { IsUsable rule.now }
@@ -89,7 +92,7 @@ pub fn gather<R: Rules, L: Ledger>(
         keep_if_there(clock, m, found)?;
         cursor.at = second_after(m);
         cursor.taken = false;
-        if !stays(rules, rule, start, clock, number, cursor, end, steps) {
+        if !stays(ready, rule, start, clock, number, cursor, end, steps) {
             return Ok(());
         }
     }
@@ -97,8 +100,8 @@ pub fn gather<R: Rules, L: Ledger>(
 
 /// Gathers the same day by day, where a period has whole days: one moment of each day that passes is
 /// taken from the rule, and the others stand at the times of such days.
-pub fn gather_days<R: Rules, L: Ledger>(
-    rules: &R,
+pub fn gather_days<R: ReadyRule, L: Ledger>(
+    ready: &R,
     rule: &Rule,
     start: Local,
     clock: &Clock,
@@ -108,6 +111,7 @@ pub fn gather_days<R: Rules, L: Ledger>(
     end: Local,
     steps: &mut Steps<L>,
 ) -> Result<(), NoMemory>
+    requires ready { R.IsReadyFor ready.now rule.now (moment_of_local start) (reading_by clock.now).dated }
     requires start { IsWritten start }
     requires clock { IsClock clock.now }
     requires rule { IsUsable rule.now }
@@ -132,29 +136,10 @@ pub fn gather_days<R: Rules, L: Ledger>(
         keep_day(rule, start, clock, times, m, found)?;
         cursor.at = next_midnight(m);
         cursor.taken = false;
-        if !stays(rules, rule, start, clock, number, cursor, end, steps) {
+        if !stays(ready, rule, start, clock, number, cursor, end, steps) {
             return Ok(());
         }
     }
-}
-
-/// Whether a written number names a place, from the front or, where it is negative, from the end.
-fn names_place(place: u64, size: u64, number: i16) -> bool
-    requires { place ≤ size }
-    ensures { result ≡ integers.names_place place size number }
-{
-    if number >= 0 {
-        number as u64 == place
-    } else {
-        (-(number as i32 + 1)) as u64 == size - place
-    }
-}
-
-fn some_names_place(part: &List<i16>, place: u64, size: u64) -> bool
-    requires { place ≤ size }
-    ensures { result ≡ integers.some_names_place part.now place size }
-{
-    part.iter().any(|n| names_place(place, size, *n))
 }
 
 /// Puts a moment behind the others, if it is picked.
@@ -170,7 +155,13 @@ fn push_if(is_picked: bool, m: Local, out: &mut List<Local>) -> Result<(), NoMem
 }
 
 /// Puts those moments of a period behind the others that BYSETPOS picks.
-fn pick(rule: &Rule, found: &List<Local>, out: &mut List<Local>) -> Result<(), NoMemory>
+fn pick(
+    rule: &Rule,
+    places: &SetPlaces,
+    found: &List<Local>,
+    out: &mut List<Local>,
+) -> Result<(), NoMemory>
+    requires places { AreSetPlaces rule.now.by_set_pos places.now }
     requires some { lists.is_empty rule.now.by_set_pos ≡ false }
     requires rises { AllPairs (λ x y. x < y) (moments_of found.now) }
     requires one { (n : ℕ) × All (λ m. number_of rule.now m ≡ n) (moments_of found.now) }
@@ -178,9 +169,10 @@ fn pick(rule: &Rule, found: &List<Local>, out: &mut List<Local>) -> Result<(), N
     ensures picked { OnOk result (moments_of out.new ≡ moments_of out.old ++ at_places rule.now (moments_of found.now)) }
     ensures written { OnOk result (All (λ l. IsWritten l) out.old → All (λ l. IsWritten l) out.new) }
 {
+    let _ = rule;
     let size = found.len();
     for k in 0..size {
-        let is_picked = some_names_place(&rule.by_set_pos, k as u64 + 1, size as u64);
+        let is_picked = places.names(k as u64 + 1, size as u64);
         let m = found[k];
         push_if(is_picked, m, out)?;
     }
@@ -193,6 +185,8 @@ pub struct Picks {
     pub cursor: Cursor,
     /// The seconds of each day that passes at which its moments stand, once they were needed.
     pub times: List<u32>,
+    /// The places that BYSETPOS names.
+    pub places: SetPlaces,
     /// What was found in the period.
     pub found: List<Local>,
     /// What was picked of it.
@@ -208,6 +202,7 @@ pub fn give(picks: &mut Picks) -> Option<Local>
     ensures given { picks.new.given ≤ length picks.new.moments }
     ensures moments { picks.new.moments ≡ picks.old.moments }
     ensures times { picks.new.times ≡ picks.old.times }
+    ensures places { picks.new.places ≡ picks.old.places }
     ensures cursor { picks.new.cursor ≡ picks.old.cursor }
     ensures written { IfSome result (λ m. IsWritten m) }
     ensures next { MatchOption result (drop picks.old.given (moments_of picks.old.moments) ≡ [])
@@ -222,8 +217,8 @@ pub fn give(picks: &mut Picks) -> Option<Local>
 }
 
 /// Gathers what is found in the period of the moment at hand: day by day, where it has whole days.
-fn gather_period<R: Rules, L: Ledger>(
-    rules: &R,
+fn gather_period<R: ReadyRule, L: Ledger>(
+    ready: &R,
     rule: &Rule,
     start: Local,
     clock: &Clock,
@@ -231,6 +226,7 @@ fn gather_period<R: Rules, L: Ledger>(
     end: Local,
     steps: &mut Steps<L>,
 ) -> Result<(), NoMemory>
+    requires ready { R.IsReadyFor ready.now rule.now (moment_of_local start) (reading_by clock.now).dated }
     requires start { IsWritten start }
     requires clock { IsClock clock.now }
     requires rule { IsUsable rule.now }
@@ -248,12 +244,13 @@ fn gather_period<R: Rules, L: Ledger>(
     ensures written { OnOk result (All (λ l. IsWritten l) picks.new.found) }
     ensures one { OnOk result (All (λ m. number_of rule.now m ≡ number_of rule.now (moment_of_local picks.old.cursor.at)) (moments_of picks.new.found)) }
     ensures later { OnOk result (All (λ m. number_of rule.now (moment_of_local picks.old.cursor.at) < number_of rule.now m) (found_from rule.now (moment_of_local start) (reading_by clock.now) (moment_of_local picks.new.cursor.at))) }
+    ensures places { picks.new.places ≡ picks.old.places }
     ensures moments { picks.new.moments ≡ picks.old.moments }
     ensures given { picks.new.given ≡ picks.old.given }
 {
     if rule.freq == Freq::Hourly {
         return gather(
-            rules,
+            ready,
             rule,
             start,
             clock,
@@ -265,7 +262,7 @@ fn gather_period<R: Rules, L: Ledger>(
     }
     find_times(rule, start, is_dated(clock), &mut picks.times)?;
     gather_days(
-        rules,
+        ready,
         rule,
         start,
         clock,
@@ -278,8 +275,8 @@ fn gather_period<R: Rules, L: Ledger>(
 }
 
 /// Picks from the period of the moment at hand.
-pub fn refill<R: Rules, L: Ledger>(
-    rules: &R,
+pub fn refill<R: ReadyRule, L: Ledger>(
+    ready: &R,
     rule: &Rule,
     start: Local,
     clock: &Clock,
@@ -287,6 +284,7 @@ pub fn refill<R: Rules, L: Ledger>(
     end: Local,
     steps: &mut Steps<L>,
 ) -> Result<(), NoMemory>
+    requires ready { R.IsReadyFor ready.now rule.now (moment_of_local start) (reading_by clock.now).dated }
     requires start { IsWritten start }
     requires clock { IsClock clock.now }
     requires rule { IsUsable rule.now }
@@ -295,9 +293,11 @@ pub fn refill<R: Rules, L: Ledger>(
     requires cursor { IsAt rule.now (moment_of_local start) (reading_by clock.now).dated picks.old.cursor }
     requires taken { picks.old.cursor.taken ≡ true }
     requires times { AreTimes rule.now (moment_of_local start) (reading_by clock.now).dated picks.old.times }
+    requires places { AreSetPlaces rule.now.by_set_pos picks.old.places }
     requires begun { number_of rule.now (moment_of_local picks.old.cursor.at) ≤ last_period rule.now (moment_of_local end) }
     ensures cursor { OnOk result (IsAt rule.now (moment_of_local start) (reading_by clock.now).dated picks.new.cursor) }
     ensures times { OnOk result (AreTimes rule.now (moment_of_local start) (reading_by clock.now).dated picks.new.times) }
+    ensures places { OnOk result (AreSetPlaces rule.now.by_set_pos picks.new.places) }
     ensures steps { steps.new + left_to_take rule.now (moment_of_local start) (reading_by clock.now).dated (moment_of_local end) picks.new.cursor ≤ steps.old + left_to_take rule.now (moment_of_local start) (reading_by clock.now).dated (moment_of_local end) picks.old.cursor }
     ensures forward { OnOk result (moment_of_local picks.old.cursor.at < moment_of_local picks.new.cursor.at) }
     ensures given { OnOk result (picks.new.given ≡ 0) }
@@ -306,9 +306,9 @@ pub fn refill<R: Rules, L: Ledger>(
         ≡ moments_of picks.new.moments ++ kept_from rule.now (moment_of_local start) (reading_by clock.now) (moment_of_local picks.new.cursor.at)) }
 {
     picks.found.truncate(0);
-    gather_period(rules, rule, start, clock, picks, end, steps)?;
+    gather_period(ready, rule, start, clock, picks, end, steps)?;
     picks.moments.truncate(0);
     picks.given = 0;
-    pick(rule, &picks.found, &mut picks.moments)?;
+    pick(rule, &picks.places, &picks.found, &mut picks.moments)?;
     Ok(())
 }

@@ -9,7 +9,7 @@ ghost use Rattle.cal_model.specs.Walks.Clocks.{reading_by, IsClock};
 ghost use Rattle.cal_model.specs.Walks.KeptMoments.{IsPeriodFirst, kept_from, wanted, one_less};
 ghost use Rattle.cal_model.specs.Walks.PickedRest.{IsPicks, still_given};
 
-use crate::next_passing::Rules;
+use crate::next_passing::ReadyRule;
 use crate::rule::Rule;
 use crate::walk::clock::Clock;
 use crate::walk::cursor::{Cursor, is_before, second_after};
@@ -17,6 +17,7 @@ use crate::walk::kept::next_kept;
 use crate::walk::period::period_first;
 use crate::walk::picks::Picks;
 use crate::walk::places::picks_nothing;
+use crate::walk::set_places::set_places_of;
 use crate::walk::until::until_passes;
 use cal_base::{List, NoMemory, Steps};
 use cal_moment::Local;
@@ -209,6 +210,7 @@ pub fn begin_walk(alloc: Global, rule: &Rule, start: Local, low: Local) -> RuleW
                 taken: false,
             },
             times: List::new(alloc),
+            places: set_places_of(&rule.by_set_pos),
             found: List::new(alloc),
             moments: List::new(alloc),
             given: 0,
@@ -220,8 +222,8 @@ pub fn begin_walk(alloc: Global, rule: &Rule, start: Local, low: Local) -> RuleW
 /// The next of the later moments that lie from `low` up to `high`, `high` left out; `None` exactly
 /// where there is none. No moment that passes is taken from the rule twice, and no period that
 /// begins at or after `high` is entered.
-pub fn next_moment<R: Rules, L: Ledger>(
-    rules: &R,
+pub fn next_moment<R: ReadyRule, L: Ledger>(
+    ready: &R,
     rule: &Rule,
     start: Local,
     clock: &Clock,
@@ -230,6 +232,7 @@ pub fn next_moment<R: Rules, L: Ledger>(
     walk: &mut RuleWalk,
     steps: &mut Steps<L>,
 ) -> Result<Option<Local>, NoMemory>
+    requires ready { R.IsReadyFor ready.now rule.now (moment_of_local start) (reading_by clock.now).dated }
     requires start { IsWritten start }
     requires low { IsWritten low }
     requires high { IsWritten high }
@@ -249,7 +252,7 @@ pub fn next_moment<R: Rules, L: Ledger>(
         if walk.left == Some(0) {
             return Ok(None);
         }
-        let Some(m) = next_kept(rules, rule, start, clock, &mut walk.picks, high, steps)? else {
+        let Some(m) = next_kept(ready, rule, start, clock, &mut walk.picks, high, steps)? else {
             return Ok(None);
         };
         if is_given(rule, start, clock, low, high, m, &mut walk.left) {

@@ -7,7 +7,7 @@ ghost use Rattle.cal_model.specs.Walks.Budgets.{last_period, passes_by};
 ghost use Rattle.cal_model.specs.Walks.Clocks.{reading_by, IsClock};
 ghost use Rattle.cal_model.specs.Walks.KeptMoments.{starts_by, starts_between};
 
-use crate::next_passing::Rules;
+use crate::next_passing::ReadyRule;
 use crate::rule::Rule;
 use crate::walk::clock::Clock;
 use crate::walk::rule_walk::{begin_walk, next_moment};
@@ -28,9 +28,9 @@ fn add_start(clock: &Clock, m: Local, out: &mut List<i64>) -> Result<(), NoMemor
 
 /// Puts the later starts of a rule whose moments lie from `low` up to `high` behind those in `out`:
 /// their instants, or where the start is a DATE or names no zone their digits.
-pub fn rule_starts<R: Rules, L: Ledger>(
+pub fn rule_starts<R: ReadyRule, L: Ledger>(
     alloc: Global,
-    rules: &R,
+    ready: &R,
     rule: &Rule,
     start: Local,
     clock: &Clock,
@@ -39,6 +39,7 @@ pub fn rule_starts<R: Rules, L: Ledger>(
     out: &mut List<i64>,
     steps: &mut Steps<L>,
 ) -> Result<(), NoMemory>
+    requires ready { R.IsReadyFor ready.now rule.now (moment_of_local start) (reading_by clock.now).dated }
     requires start { IsWritten start }
     requires low { IsWritten low }
     requires high { IsWritten high }
@@ -51,7 +52,7 @@ pub fn rule_starts<R: Rules, L: Ledger>(
 {
     let mut walk = begin_walk(alloc, rule, start, low);
     'sweep: loop {
-        let Some(m) = next_moment(rules, rule, start, clock, low, high, &mut walk, steps)? else {
+        let Some(m) = next_moment(ready, rule, start, clock, low, high, &mut walk, steps)? else {
             return Ok(());
         };
         add_start(clock, m, out)?;

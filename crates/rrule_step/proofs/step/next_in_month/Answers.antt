@@ -13,6 +13,9 @@ days_of-days-requires-clause-listed c = λ i lt.
     let there : has c.args.plan.now.months (month_of (c.args.month.now.first + i)) ≡ true = rw month c.requires.listed in
     c.requires.plan.listed (c.args.month.now.first + i) there
 
+pub days_of-days-requires-clause-sets : goal.days_of-days-requires-clause-sets
+days_of-days-requires-clause-sets c = c.requires.plan.days
+
 pub overflow_add-end : goal.overflow_add-end
 overflow_add-end c = let bounds = month_bounds c.args.month.now in omega (arith, bounds)
 

@@ -42,6 +42,7 @@ next-preserved g c =
         given = rw zero (omega arith);
         written = c.in_ok-refill.ensures.written;
         times = c.in_ok-refill.ensures.times;
+        places = c.in_ok-refill.ensures.places;
         plain = λ empty. let some = c.requires.some in absurd cc;
       };
       rest = rw zero (refilled c.args.rule.now (moment_of_local c.args.start) (reading_by c.args.clock.now) (rest_of c.args.rule.now (moment_of_local c.args.start) (reading_by c.args.clock.now) c.args.picks.now) (drop c.next.picks.given (moments_of c.next.picks.moments)) (moments_of c.refill.new.picks.moments) (moment_of_local c.next.picks.cursor.at) (moment_of_local c.peek.new.cursor.at) (moment_of_local c.refill.new.picks.cursor.at)

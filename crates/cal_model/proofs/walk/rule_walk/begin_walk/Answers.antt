@@ -8,6 +8,9 @@ use Rattle.cal_model.proofs.Walks.BudgetLemmas.{budget_all}
 use Rattle.cal_model.proofs.Walks.BeginLemmas.{wanted_of_kept}
 use Rattle.cal_model.proofs.walk.rule_walk.begin_walk.Goals as goal
 
+pub set_places_of-requires : goal.set_places_of-requires
+set_places_of-requires c = c.requires.rule.places
+
 pub returns-clause-walk : goal.returns-clause-walk
 returns-clause-walk c = λ dated. record {
   cursor = record {
@@ -19,6 +22,7 @@ returns-clause-walk c = λ dated. record {
   given = omega arith;
   written = rw c.new-3.ensures (All-nil (λ l. IsWritten l));
   times = inl c.new.ensures;
+  places = c.set_places_of.ensures;
   plain = λ none. c.new-3.ensures;
 }
 

@@ -1,7 +1,7 @@
 use Rattle.std.proofs.Common.{◌≡◌, ◌+◌, ◌-◌, ◌*◌, ◌<◌, ◌≤◌, arith, sym}
 use Rattle.cal_moment.specs.Calendar.{year_of, month_of}
 use Rattle.rrule_step.proofs.CalendarLemmas.{month_begun, year_small}
-use Rattle.rrule_step.proofs.step.PeriodStepRules.next_passing.Goals as goal
+use Rattle.rrule_step.proofs.step.next_from.Goals as goal
 
 pub next_moment-requires-clause-month : goal.next_moment-requires-clause-month
 next_moment-requires-clause-month c =

@@ -5,7 +5,7 @@ use Rattle.cal_model.specs.TimeZones.ZoneOnsets as zone
 use Rattle.cal_model.specs.Walks.Clocks.{reading_by}
 use Rattle.cal_model.specs.Walks.PickedRest.{IsPicks, still_given}
 use Rattle.vtimezone.specs.Gathered as spec
-use Rattle.vtimezone.proofs.gather.add_rule.Given as goal
+use Rattle.vtimezone.proofs.gather.add_set.Given as goal
 
 -- what was put there, and what the walk still gives, are all
 abbrev pub invariant-rule : goal.invariant-rule

@@ -7,7 +7,7 @@ use Rattle.cal_model.specs.TimeZones.ZoneOnsets as zone
 use Rattle.cal_model.specs.Walks.PickedRest.{still_given}
 use Rattle.vtimezone.specs.Gathered as spec
 use Rattle.vtimezone.proofs.GatherLemmas.{gathered_more, whole_set}
-use Rattle.vtimezone.proofs.gather.add_rule.Goals as goal
+use Rattle.vtimezone.proofs.gather.add_set.Goals as goal
 
 one_more : (left room n still : ℕ) → left + 1 ≡ room → still ≡ n → left + suc n ≡ room + still
 one_more left room n still taken e = omega (arith, taken, e)
