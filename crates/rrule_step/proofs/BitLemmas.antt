@@ -1,14 +1,14 @@
 -- Numbers as the bits of a word.
-use Rattle.std.proofs.Common.{◌≡◌, ◌≢◌, ℕ, ◌+◌, ◌-◌, ◌*◌, ◌/◌, ◌%◌, ◌^◌, ◌<◌, ◌≤◌, refl, sym, ap, ◌∙◌, arith, Bool, true, false, inl, inr, w64, nat_lt, ◌==◌, min}
+use Rattle.std.proofs.Common.{◌≡◌, ◌≢◌, ℕ, ◌+◌, ◌-◌, ◌*◌, ◌/◌, ◌%◌, ◌^◌, ◌<◌, ◌≤◌, refl, sym, ap, ◌∙◌, arith, true, false, inl, inr, w64, ◌==◌, min}
 use Rattle.std.specs.Prelude.{if◌then◌else◌, bit_or, bit_and}
 use Rattle.std.specs.Int.{bit_at, trailing_zeros}
 use Rattle.std.proofs.Math.Nat.{div-div-eq-div-mul, div-le_self}
 use Rattle.std.proofs.lemmas.Nat.{pow-add}
-use Rattle.std.proofs.lemmas.Bool.{cases_Bool, eqb-true, ltb-true, ltb-false}
-use Rattle.std.proofs.lemmas.Nat.Bits.{bit_at-zero, bit_at-lt, bit_at_and, bit_at_ones, bit_at_set_same, bit_at_set_other, shr_and_one, bit_at-trailing_zeros, bit_at_above}
+use Rattle.std.proofs.lemmas.Bool.{cases_Bool, eqb-true}
+use Rattle.std.proofs.lemmas.Nat.Bits.{bit_at-zero, bit_at-lt, bit_at_and, bit_at_ones, bit_at_set_same, bit_at_set_other, shr_and_one, bit_at-trailing_zeros}
 use Rattle.rrule_step.specs.declared.set.Set.{Set}
 use Rattle.rrule_step.specs.Sets.{has}
-use Rattle.rrule_step.specs.Firsts.{NoneHolds, IsFirst}
+use Rattle.rrule_step.specs.Firsts.{NoneHolds}
 
 -- a bit of a number that is shifted down
 bit_at_shifted : (n f i : ℕ) → bit_at (n / 2 ^ f) i ≡ bit_at n (f + i)

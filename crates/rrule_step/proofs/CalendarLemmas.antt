@@ -1,15 +1,14 @@
 -- Months and years by their first days.
-use Rattle.std.proofs.Common.{◌≡◌, ◌≢◌, ℕ, zero, suc, ◌+◌, ◌-◌, ◌*◌, ◌/◌, ◌%◌, ◌<◌, ◌≤◌, refl, sym, ap, ◌∙◌, arith, Bool, true, false, inl, inr, nat_lt, ◌==◌, List, [], ◌∷◌}
-use Rattle.std.specs.Prelude.{if◌then◌else◌, nat_le, count_by}
+use Rattle.std.proofs.Common.{◌≡◌, ◌≢◌, ℕ, ◌+◌, ◌-◌, ◌*◌, ◌/◌, ◌%◌, ◌<◌, ◌≤◌, refl, sym, arith, true, false, inl, inr, nat_lt, ◌==◌}
 use Rattle.std.specs.Int.{IsInRange}
 use Rattle.std.proofs.lemmas.Bool.{cases_Bool, ltb-true, ltb-false, eqb-true}
-use Rattle.cal_moment.specs.Calendar.{first_of_year, year_of, day_of_year, year_length, month_of, day_of_month, days_before_month, month_length, the_months, day_of_date, day_of_moment, weekday_of}
-use Rattle.cal_moment.proofs.CalendarLaws.{first_of_year-le, year_of-first, year_of-last, year_of-only, days_before_month-le, month_length-bounds, day_of_date-within, year_of-day_of_date, month_of-day_of_date, fields_of_date, days_before_month-next, days_before_month-end, first_of_year-suc}
+use Rattle.cal_moment.specs.Calendar.{first_of_year, year_of, day_of_year, year_length, month_of, day_of_month, days_before_month, month_length, day_of_date, weekday_of}
+use Rattle.cal_moment.proofs.CalendarLaws.{first_of_year-le, year_of-first, days_before_month-le, month_length-bounds, day_of_date-within, year_of-day_of_date, month_of-day_of_date, fields_of_date, days_before_month-next, days_before_month-end, first_of_year-suc}
 use Rattle.cal_model.proofs.Recurrence.DateFields.{day_of_date-fields}
-use Rattle.cal_model.proofs.Recurrence.Rising.{month_of-first, month_of-last, period_number-le}
+use Rattle.cal_model.proofs.Recurrence.Rising.{month_of-last, period_number-le}
 use Rattle.cal_model.specs.declared.rule.Rule.{Rule}
 use Rattle.cal_model.specs.declared.rule.Freq.TheVariants.{Monthly}
-use Rattle.cal_model.specs.Recurrence.Passing.{period_number, fourth_day, week_passes}
+use Rattle.cal_model.specs.Recurrence.Passing.{fourth_day, week_passes}
 use Rattle.rrule_step.specs.Periods.{month_begin}
 
 -- The number of a day's month, in the order of days.

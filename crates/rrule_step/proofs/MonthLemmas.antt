@@ -1,11 +1,10 @@
 -- What the parts of a rule ask of the days of a month.
-use Rattle.std.proofs.Common.{◌≡◌, ◌≢◌, ℕ, ◌+◌, ◌-◌, ◌*◌, ◌/◌, ◌%◌, ◌<◌, ◌≤◌, refl, sym, ap, ◌∙◌, arith, Bool, true, false, inl, inr, ◌==◌, nat_lt}
+use Rattle.std.proofs.Common.{◌≡◌, ◌≢◌, ℕ, ◌+◌, ◌-◌, ◌/◌, ◌%◌, ◌<◌, ◌≤◌, refl, sym, ap, ◌∙◌, arith, Bool, true, false, inl, inr, ◌==◌, nat_lt}
 use Rattle.std.specs.Prelude.{if◌then◌else◌}
 use Rattle.std.proofs.lemmas.Bool.{cases_Bool, eqb-true, ltb-true, ltb-false, lt-ltb, le-ltb}
-use Rattle.cal_moment.specs.Calendar.{first_of_year, year_of, day_of_year, year_length, month_of, day_of_month, days_before_month, month_length, weekday_of, day_of_date}
-use Rattle.cal_moment.proofs.CalendarLaws.{first_of_year-le, day_of_date-within, days_before_month-next, days_before_month-le, days_before_month-end, first_of_year-suc, month_length-bounds}
+use Rattle.cal_moment.specs.Calendar.{year_of, day_of_year, year_length, month_of, day_of_month, days_before_month, month_length, weekday_of, day_of_date}
+use Rattle.cal_moment.proofs.CalendarLaws.{first_of_year-le, days_before_month-next, days_before_month-le, days_before_month-end, first_of_year-suc, month_length-bounds}
 use Rattle.cal_model.specs.declared.rule.Rule.{Rule}
-use Rattle.cal_model.specs.declared.rule.Freq.{Freq}
 use Rattle.cal_model.specs.declared.rule.Freq.TheVariants.{Yearly}
 use Rattle.cal_model.specs.Words.Lists.{is_empty}
 use Rattle.cal_model.specs.Words.Integers.{some_names_place}
@@ -14,7 +13,7 @@ use Rattle.cal_model.specs.Recurrence.Passing.{month_passes, month_day_passes, y
 use Rattle.rrule_step.specs.declared.month.Month.{Month}
 use Rattle.rrule_step.specs.declared.start.Start.{Start}
 use Rattle.rrule_step.specs.Periods.{month_begin}
-use Rattle.rrule_step.proofs.CalendarLemmas.{year_in, month_in, of_month_in, of_year_in, month_begin-next}
+use Rattle.rrule_step.proofs.CalendarLemmas.{year_in, month_in, of_month_in, month_begin-next}
 
 -- the days of a month lie before rules end
 pub month_bounds : (month : Month) → (366 ≤ month.first) × (month.first + month.size ≤ 767740)

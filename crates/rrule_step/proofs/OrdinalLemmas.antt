@@ -1,5 +1,5 @@
 -- The ordinals of BYDAY as the bits of words.
-use Rattle.std.proofs.Common.{◌≡◌, ◌≢◌, ℕ, ◌+◌, ◌-◌, ◌*◌, ◌/◌, ◌%◌, ◌^◌, ◌<◌, ◌≤◌, refl, sym, ap, ◌∙◌, arith, Bool, true, false, ◌||◌, inl, inr, w64, ◌==◌, List, [], ◌∷◌, length, get_or, replicate, slice_index, zero, suc, ℤ, pos, negsuc}
+use Rattle.std.proofs.Common.{◌≡◌, ℕ, ◌+◌, ◌-◌, ◌*◌, ◌/◌, ◌%◌, ◌^◌, ◌<◌, ◌≤◌, refl, sym, ap, ◌∙◌, arith, Bool, true, false, ◌||◌, inl, inr, w64, ◌==◌, List, [], ◌∷◌, length, replicate, slice_index, zero, suc, ℤ, pos, negsuc}
 use Rattle.std.specs.Prelude.{if◌then◌else◌, bit_or, slice_set}
 use Rattle.std.specs.Int.{bit_at}
 use Rattle.std.specs.List.{list_any}

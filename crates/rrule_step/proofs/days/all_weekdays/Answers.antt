@@ -1,4 +1,4 @@
-use Rattle.std.proofs.Common.{◌≡◌, ℕ, ◌+◌, ◌%◌, ◌<◌, ◌≤◌, ◌∙◌, true, ap, arith, refl, nat_lt}
+use Rattle.std.proofs.Common.{◌≡◌, ◌+◌, ◌<◌, ◌∙◌, true, ap, arith, refl, nat_lt}
 use Rattle.std.specs.Prelude.{if◌then◌else◌, false}
 use Rattle.std.proofs.lemmas.Bool.{lt-ltb}
 use Rattle.cal_moment.specs.Calendar.{weekday_of}

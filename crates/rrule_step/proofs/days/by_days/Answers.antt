@@ -1,4 +1,4 @@
-use Rattle.std.proofs.Common.{◌≤◌, ◌<◌, ◌∙◌, arith, rules, sym}
+use Rattle.std.proofs.Common.{◌∙◌, arith, rules}
 use Rattle.rrule_step.proofs.MonthLemmas.{month_bounds, size_bound, year_at_most, by_day_month_at, by_day_year_at}
 use Rattle.rrule_step.proofs.days.by_days.Goals as goal
 

@@ -1,4 +1,4 @@
-use Rattle.std.proofs.Common.{◌+◌, ◌<◌, ◌∙◌, false, arith, slice_index_or}
+use Rattle.std.proofs.Common.{◌+◌, ◌∙◌, false, arith, slice_index_or}
 use Rattle.rrule_step.specs.Sets.{has}
 use Rattle.rrule_step.proofs.MonthLemmas.{one_more}
 use Rattle.rrule_step.proofs.days.marked_days.Goals as goal

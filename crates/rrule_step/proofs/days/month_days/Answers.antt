@@ -1,4 +1,4 @@
-use Rattle.std.proofs.Common.{◌≤◌, ◌∙◌, rules, arith}
+use Rattle.std.proofs.Common.{◌∙◌, rules}
 use Rattle.rrule_step.proofs.MonthLemmas.{size_least, size_bound, month_day_at}
 use Rattle.rrule_step.proofs.days.month_days.Goals as goal
 

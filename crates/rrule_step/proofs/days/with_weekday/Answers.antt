@@ -1,7 +1,5 @@
-use Rattle.std.proofs.Common.{◌≡◌, ℕ, ◌+◌, ◌-◌, ◌/◌, ◌∙◌, sym, ap, rules, true, false, ◌==◌}
-use Rattle.std.specs.Prelude.{if◌then◌else◌}
+use Rattle.std.proofs.Common.{◌+◌, ◌∙◌, sym, rules, ◌==◌}
 use Rattle.cal_moment.specs.Calendar.{weekday_of}
-use Rattle.rrule_step.specs.Ordinals.{marks, asks_for, asks_of}
 use Rattle.rrule_step.specs.Sets.{has}
 use Rattle.rrule_step.proofs.OrdinalLemmas.{asks_for-same, asks_of-none, by_weekday, none_more}
 use Rattle.rrule_step.proofs.days.with_weekday.Goals as goal

@@ -1,6 +1,6 @@
-use Rattle.std.proofs.Common.{◌≡◌, ◌+◌, ◌<◌, ◌≤◌, ◌∙◌, sym, ap, rules, arith, true, false}
+use Rattle.std.proofs.Common.{◌≡◌, ◌+◌, ◌∙◌, sym, ap, rules, arith, true, false}
 use Rattle.std.specs.Prelude.{if◌then◌else◌}
-use Rattle.cal_moment.specs.Calendar.{is_leap, year_length, days_before_month}
+use Rattle.cal_moment.specs.Calendar.{is_leap, year_length}
 use Rattle.rrule_step.proofs.MonthLemmas.{day_in_year, size_bound, year_day_at}
 use Rattle.rrule_step.proofs.days.year_days.Goals as goal
 

@@ -1,5 +1,4 @@
-use Rattle.std.proofs.Common.{◌≡◌, ◌+◌, ◌-◌, ◌*◌, ◌<◌, ◌≤◌, arith, sym}
-use Rattle.cal_moment.specs.Calendar.{year_of, month_of}
+use Rattle.std.proofs.Common.{arith}
 use Rattle.rrule_step.proofs.CalendarLemmas.{month_begun, year_small}
 use Rattle.rrule_step.proofs.step.next_from.Goals as goal
 

@@ -1,6 +1,5 @@
-use Rattle.std.proofs.Common.{◌≡◌, ◌+◌, ◌*◌, ◌<◌, ◌≤◌, true, sym, arith}
+use Rattle.std.proofs.Common.{◌≡◌, ◌+◌, ◌<◌, true, arith}
 use Rattle.cal_moment.specs.Calendar.{month_of}
-use Rattle.cal_model.specs.Recurrence.NextPassing.{end_day}
 use Rattle.cal_model.proofs.Recurrence.Days.{NonePasses-joined}
 use Rattle.rrule_step.specs.Sets.{has}
 use Rattle.rrule_step.proofs.MonthLemmas.{month_bounds, month_at}

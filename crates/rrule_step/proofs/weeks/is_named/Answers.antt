@@ -1,4 +1,4 @@
-use Rattle.std.proofs.Common.{◌≡◌, ◌+◌, ◌-◌, ◌≤◌, ◌<◌, ◌∙◌, sym, ap, arith}
+use Rattle.std.proofs.Common.{◌≡◌, ◌+◌, ◌-◌, ◌∙◌, sym, ap, arith}
 use Rattle.cal_model.specs.Words.Integers.{some_names_place}
 use Rattle.rrule_step.proofs.weeks.is_named.Goals as goal
 

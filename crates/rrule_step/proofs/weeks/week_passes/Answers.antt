@@ -1,4 +1,4 @@
-use Rattle.std.proofs.Common.{◌≡◌, ◌+◌, ◌-◌, ◌/◌, ◌<◌, ◌≤◌, arith}
+use Rattle.std.proofs.Common.{arith}
 use Rattle.rrule_step.proofs.CalendarLemmas.{weeks_within}
 use Rattle.rrule_step.proofs.weeks.week_passes.Goals as goal
 
