@@ -7,7 +7,7 @@ use Rattle.std.specs.Option.{option_copied}
 use Rattle.std.proofs.lemmas.Option.{slice_get-map}
 use Rattle.cal_base.specs.declared.line.Node.{Node}
 use Rattle.cal_base.specs.declared.line.Node.TheOpen.{Node-F}
-use Rattle.cal_base.specs.declared.line.Node.TheViews.{roll-Node, out-Node, out-roll-Node}
+use Rattle.cal_base.specs.declared.line.Node.TheViews.{out-Node, out-roll-Node}
 use Rattle.cal_model.specs.Objects.ComponentLines.{children_of, lines_of}
 use Rattle.filter_eval.specs.declared.ready.ReadyNode.{ReadyNode}
 use Rattle.filter_eval.specs.declared.ready.ReadyNode.TheFolds.{fold_out-ReadyNode}

@@ -1,7 +1,7 @@
 //! What texts are asked of: the lines of a component and their parameters, as they were written or
 //! with their texts made ready.
 
-ghost use Rattle.std.specs.Prelude.{◌≡◌, ◌+◌, ℕ, length, IfOk, IfSome, MatchOption, Some};
+ghost use Rattle.std.specs.Prelude.{◌≡◌, length, IfOk, IfSome, MatchOption, Some};
 ghost use Rattle.std.specs.List.{IsFirstAndRest, slice_get};
 ghost use Rattle.cal_base.specs.declared.line.Node.{Node as Tree};
 ghost use Rattle.cal_model.specs.Filters.TextTests as spec;

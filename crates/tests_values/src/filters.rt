@@ -246,13 +246,7 @@ const TEXTS: [(&[u8], &[u8], Collation, bool, bool); 23] = [
         false,
     ),
     (b"DESCRIPTION", b"\\n", Collation::Octet, true, true),
-    (
-        b"DESCRIPTION",
-        b"\\X",
-        Collation::AsciiCasemap,
-        true,
-        false,
-    ),
+    (b"DESCRIPTION", b"\\X", Collation::AsciiCasemap, true, false),
 ];
 
 /// Whether a text of a property is answered as it is said, alone and behind many others.
