@@ -106,7 +106,9 @@ fn failing_run(
 }
 
 #[test]
-fn each_call_of_the_old_disk_that_fails_leaves_the_new_file_alone(rt: HostRuntime) -> Result<(), Fail> {
+fn each_call_of_the_old_disk_that_fails_leaves_the_new_file_alone(
+    rt: HostRuntime,
+) -> Result<(), Fail> {
     let users = new_users(rt.alloc())?;
     let (_, (calls, _), _) = stops_of_run(rt.alloc(), &users)?;
     for call in 0..calls {
@@ -124,9 +126,20 @@ fn each_call_of_the_new_disk_that_fails_is_told(rt: HostRuntime) -> Result<(), F
     for call in 0..calls {
         let (end, stays, found, _) = failing_run(rt.alloc(), &users, &[], &[call])?;
         // The first five calls begin the file. Without the last sync the file may be whole, and is not acknowledged.
-        let told = if call < 5 { Migrated::NotBegun } else { Migrated::NewFailed };
-        let left = if call.saturating_add(1) < calls { (0, Ending::NotJournal) } else { (2, Ending::End) };
-        assert!(rt; end == told && stays && found == left, "{call}: {end:?} {found:?}");
+        let told = if call < 5 {
+            Migrated::NotBegun
+        } else {
+            Migrated::NewFailed
+        };
+        let left = if call.saturating_add(1) < calls {
+            (0, Ending::NotJournal)
+        } else {
+            (2, Ending::End)
+        };
+        assert!(rt;
+            end == told && stays && found == left,
+            "{call}: {end:?} {found:?}"
+        );
     }
     Ok(())
 }
