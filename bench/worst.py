@@ -184,39 +184,48 @@ def span(start="16000101T000000Z", end="21001231T235959Z"):
 
 HOURLY = ("DTSTART:16000101T000000Z", f"RRULE:FREQ=HOURLY;COUNT={INSTANCES}")
 ALARM = ("BEGIN:VALARM", "TRIGGER:PT0S", "END:VALARM")
+SPARSE_ALARM = ("BEGIN:VALARM", "TRIGGER:PT0S", "REPEAT:9999999", "DURATION:PT1H", "END:VALARM")  # of all its repeats none is within an hour
 FAR_ALARM = ("BEGIN:VALARM", "TRIGGER:P200000D", "END:VALARM")  # so that a report looks at all rows of 547 years
 LAST_ALARM = ("BEGIN:VALARM", "TRIGGER;VALUE=DATE-TIME:20990601T000000Z", "END:VALARM")
 WEEK = ["MO", "TU", "WE", "TH", "FR", "SA", "SU"]
 
 
-def never(size):
-    """A rule of so many items of BYDAY whose place no month has: each has 364 moments, and by the numbers of its parts it might have more."""
-    days = ["5" + day for day in WEEK] * (size // 7) + [f"{number}{day}" for number in range(1, 5) for day in WEEK]
-    return f"RRULE:FREQ=MONTHLY;BYSETPOS=365;BYHOUR={','.join(map(str, range(13)))};BYDAY={','.join(days)}"
+FOUR_WEEKS = ",".join(f"{number}{day}" for number in range(1, 5) for day in WEEK)
+# A rule whose place no month has: each has 364 moments, and by the numbers of its parts it might have more.
+NEVER = f"RRULE:FREQ=MONTHLY;BYSETPOS=365;BYHOUR={','.join(map(str, range(13)))};BYDAY={FOUR_WEEKS}"
 
 
-def zone(*lines):
+def zone(*lines, parts=1):
     part = ("BEGIN:STANDARD", *lines, "TZOFFSETFROM:+0000", "TZOFFSETTO:+0100", "END:STANDARD")
-    return ("BEGIN:VTIMEZONE", "TZID:Z", *part, "END:VTIMEZONE")
+    return ("BEGIN:VTIMEZONE", "TZID:Z", *part * parts, "END:VTIMEZONE")
 
 
-def zoned(*lines):
-    """An object in the zone of these lines."""
-    return event("DTSTART;TZID=Z:20250101T000000").replace("BEGIN:VEVENT", "\r\n".join([*zone(*lines), "BEGIN:VEVENT"]))
+def zoned(*lines, parts=1):
+    """An object in the zone of so many parts of these lines."""
+    return event("DTSTART;TZID=Z:20250101T000000").replace("BEGIN:VEVENT", "\r\n".join([*zone(*lines, parts=parts), "BEGIN:VEVENT"]))
+
+
+def alarm_test(*ends):
+    return f'<comp-filter name="VALARM">{span(*ends)}</comp-filter>'
 
 
 def alarms(size):
-    test = '<comp-filter name="VALARM">' + span("20990101T000000Z") + "</comp-filter>"
-    return Case("alarms", event(*HOURLY, *ALARM * size, *FAR_ALARM, *LAST_ALARM), 1, "REPORT", query(test * 4))
+    return Case("alarms", event(*HOURLY, *ALARM * size, *FAR_ALARM, *LAST_ALARM), 1, "REPORT", query(alarm_test("20990101T000000Z") * 100))
+
+
+def sparse_alarms(size):
+    test = alarm_test("20990101T001234Z", "20990101T001235Z")
+    last = LAST_ALARM[0], LAST_ALARM[1].replace("T000000Z", "T001234Z").replace("0601", "0101"), LAST_ALARM[2]
+    return Case("alarms with gaps", event(*HOURLY, *SPARSE_ALARM * size, *FAR_ALARM, *last), 1, "REPORT", query(test * 4))
 
 
 def zone_of_query(size):
-    text = calendar(*zone("DTSTART:00010101T000000", never(size)))
+    text = calendar(*zone("DTSTART:00010101T000000", *[NEVER] * 8, parts=size))
     return Case("zone of a query", "", 0, "REPORT", query(zone=text))
 
 
 def zone_of_put(size):
-    return Case("zone of a PUT", zoned("DTSTART:00010101T000000", never(size)), 1, "", "")
+    return Case("zone of a PUT", zoned("DTSTART:00010101T000000", *[NEVER] * 8, parts=size), 1, "", "")
 
 
 def repeated_days(size):
@@ -281,16 +290,17 @@ WARM = [
     request("REPORT", CALENDAR, busy(1).body.encode()),
     request("DELETE", CALENDAR + "o0.ics", b""),
 ]
-DAYS, MONTHS_OF_DAYS = 182_986, 767_000  # from 1600 to 2100, and from the year 1 to 2101
+DAYS = 767_000  # from the year 1 to 2101
 # A family: how its case of a size is made, a small and a large size, the request that is meant, what of it (seconds, octets
 # at most or octets that stay), the work of a size, and the most that the limits allow in one request of one user.
 Family = namedtuple("Family", "make sizes what measure work most told")
-OF_ALARM, OF_TEST = 42, 82
+OF_ALARM, OF_SPARSE_ALARM, OF_TEST, OF_RULE = 42, 73, 82, len(NEVER) + 2
 FAMILIES = [
-    Family(alarms, (20, 40), "REPORT", "seconds", lambda n: n * INSTANCES * 4, OBJECT // OF_ALARM * INSTANCES * (BODY // OF_TEST), "alarms x instances x tests, of one object"),
-    Family(zone_of_query, (70, 140), "REPORT", "seconds", lambda n: (n + 28) * MONTHS_OF_DAYS, BODY // 4 * MONTHS_OF_DAYS, "days x items of BYDAY"),
-    Family(zone_of_put, (70, 140), "PUT", "seconds", lambda n: (n + 28) * MONTHS_OF_DAYS, OBJECT // 4 * MONTHS_OF_DAYS, "days x items of BYDAY"),
-    Family(repeated_days, (400, 800), "PUT", "seconds", lambda n: n * DAYS, OBJECT // 3 * DAYS, "days x items of BYDAY"),
+    Family(alarms, (1_500, 3_000), "REPORT", "seconds", lambda n: n * 100, OBJECT // OF_ALARM * (BODY // OF_TEST), "alarms x tests, of one object"),
+    Family(sparse_alarms, (20, 40), "REPORT", "seconds", lambda n: n * INSTANCES * 4, OBJECT // OF_SPARSE_ALARM * INSTANCES * (BODY // OF_TEST), "alarms x instances x tests, of one object"),
+    Family(zone_of_query, (1, 2), "REPORT", "seconds", lambda n: n * 8 * DAYS, BODY // OF_RULE * DAYS, "days x rules"),
+    Family(zone_of_put, (1, 2), "PUT", "seconds", lambda n: n * 8 * DAYS, OBJECT // OF_RULE * DAYS, "days x rules"),
+    Family(repeated_days, (20_000, 40_000), "PUT", "seconds", lambda n: n * 3, OBJECT, "octets of the rule"),
     Family(texts, (200, 400), "REPORT", "seconds", lambda n: n * 200_000, HOME * (BODY // 95), "octets x tests"),
     Family(busy, (2, 4), "REPORT", "seconds", lambda n: n * INSTANCES, HOME // (130 + COST) * INSTANCES, "instances of the calendar"),
     Family(busy, (2, 4), "REPORT", "most", lambda n: n * INSTANCES, HOME // (130 + COST) * INSTANCES, "instances of the calendar"),
