@@ -64,13 +64,13 @@ fn after(m: Local) -> Local
     }
 }
 
-/// How many moments the steps of a rule find.
-fn found<R: Rules>(body: &R, rule: &Rule, start: Local) -> u32
+/// How many moments the steps of a rule that is ready find.
+fn found_by<R: ReadyRule>(ready: &R, rule: &Rule, start: Local) -> u32
+    requires ready { R.IsReadyFor ready.now rule.now (moment_of_local start) false }
     requires start { IsWritten start }
     requires rule { IsUsable rule.now }
     requires coarse { is_fine rule.now.freq ≡ false }
 {
-    let ready = body.ready(rule, start, false);
     let mut from = start;
     let mut count = 0u32;
     'steps: for _ in 0..STEPS {
@@ -81,6 +81,16 @@ fn found<R: Rules>(body: &R, rule: &Rule, start: Local) -> u32
         from = after(m);
     }
     count
+}
+
+/// How many moments the steps of a rule find.
+fn found<R: Rules>(body: &R, rule: &Rule, start: Local) -> u32
+    requires start { IsWritten start }
+    requires rule { IsUsable rule.now }
+    requires coarse { is_fine rule.now.freq ≡ false }
+{
+    let ready = body.ready(rule, start, false);
+    found_by(&ready, rule, start)
 }
 
 /// The nanoseconds of a step, in the round that took least.

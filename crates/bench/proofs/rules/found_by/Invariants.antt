@@ -1,5 +1,5 @@
 use Rattle.cal_model.specs.Recurrence.NextPassing.{IsWritten}
-use Rattle.bench.proofs.rules.found.Given as goal
+use Rattle.bench.proofs.rules.found_by.Given as goal
 
 -- the next moment to ask from is a written one
 abbrev pub invariant-steps : goal.invariant-steps
