@@ -1,19 +1,20 @@
 -- Entries of a journal file that is written whole.
 use Rattle.std.proofs.Common.{◌≡◌, inl, inr, ⊎_elim, ℕ, ◌+◌, Bool, true, IsTrue, List, [], ◌∷◌, ◌++◌, length, map, Option, Some, None, IfSome, refl, sym, subst, arith}
 use Rattle.std.specs.List.{AllByRecursion}
+use Rattle.std.proofs.lemmas.Bool.{false≢true}
 use Rattle.std.proofs.lemmas.List.{map-append}
 use Rattle.cal_model.specs.History.Journal.{Entry}
 use Rattle.cal_model.specs.Users.UsersFile.{Users}
 use Rattle.cal_keeper.specs.Disks.CrashModel.{Past, reading, moment, LeavesOnly}
 use Rattle.cal_keeper.specs.Files.DraftLaws.{DraftsAreNoJournals, DraftsGoOn, DraftsAreFinished}
-use Rattle.cal_keeper.specs.Files.Drafts.{blank, IsDraft, blank_header, BeginsTold, DraftsTold, IsNoneOrWhole, FinishesTold}
+use Rattle.cal_keeper.specs.Files.Drafts.{blank, IsDraft, blank_header, BeginsDraft, BeginsTold, FailsTold, DraftsTold, IsNoneOrWhole, FinishesTold}
 use Rattle.cal_keeper.specs.Files.Headers.{users_text, header_of}
 use Rattle.cal_keeper.specs.Files.Opening.{IsNoJournal}
 use Rattle.cal_keeper.specs.Files.Payloads.{long_text, payload_of, HasForm}
 use Rattle.cal_keeper.specs.Files.RecordForm.{open_record}
 use Rattle.cal_keeper.specs.Files.Standing.{recorded, IsRecorded}
 use Rattle.cal_keeper.specs.Principals.{counts_of}
-use Rattle.cal_keeper.specs.Steps.Drafting.{LaysBlank, IsNoneOrFile, Seals}
+use Rattle.cal_keeper.specs.Steps.Drafting.{LaysBoth, LaysBlank, IsNoneOrFile, Seals}
 use Rattle.cal_keeper.specs.Steps.WriteRuns.{PutsText, Puts}
 use Rattle.cal_keeper.proofs.Appending.{leaves_more, recorded_form, all_push}
 use Rattle.cal_keeper.proofs.Beginning.{no_octets}
@@ -23,16 +24,23 @@ use Rattle.cal_keeper.proofs.DraftForms.{blank_is_no_journal, draft_longer, draf
 -- a draft of no entries
 pub begins_told : (users : Users) (text : List ℕ) (place : ℕ) (old new : Option Past) → text ≡ users_text users → place ≡ 20 + length text → IfSome old (λ p. 0 ≡ length (reading p)) → LaysBlank text true old new → BeginsTold users place old new
 begins_told users text place None new text_is place_is empty lays = lays
-begins_told users text place (Some old) new text_is place_is empty lays = (
-  lays.0,
-  lays.1,
-  record {
-    recorded = tt;
-    draft =
-        subst (λ (xs : List ℕ). IsDraft (blank ++ long_text xs) [] place lays.0) text_is
-        (subst (λ (n : ℕ). IsDraft (blank ++ long_text text) [] n lays.0) (sym place_is) (lays.2 refl (no_octets (reading old) (sym empty))));
-  },
-)
+begins_told users text place (Some old) new text_is place_is empty lays = (lays.0, lays.1, by (lays.2 (no_octets (reading old) (sym empty)))) where
+  by : LaysBoth text true old lays.0 → BeginsDraft users place old lays.0
+  by (inl short) = absurd (false≢true (sym short.0))
+  by (inr laid) = record {
+    leaves = laid.leaves;
+    drafted = record {
+      recorded = tt;
+      draft =
+          subst (λ (xs : List ℕ). IsDraft (blank ++ long_text xs) [] place lays.0) text_is
+          (subst (λ (n : ℕ). IsDraft (blank ++ long_text text) [] n lays.0) (sym place_is) (laid.drafted refl));
+    };
+  }
+
+-- where the length could not be told nothing was done
+pub unchanged_fails : (old new : Option Past) → new ≡ old → FailsTold old new
+unchanged_fails None new same = same
+unchanged_fails (Some old) new same = (old, same, inl refl)
 
 -- an entry that is added to it
 pub drafts_told : (users : Users) (entry : Entry) → HasForm (counts_of users) entry → (place next : ℕ) (ok : Bool) (old new : Option Past) → (IsTrue ok → next ≡ place + 5 + length (payload_of entry))

@@ -1,16 +1,17 @@
 -- A journal file that is written whole, whatever its header and its payloads are.
-use Rattle.std.proofs.Common.{◌≡◌, ◌⊎◌, inl, inr, ⊎_elim, ℕ, ◌+◌, ◌-◌, ◌<◌, ◌≤◌, Bool, true, false, List, [], ◌∷◌, ◌++◌, length, get_or, take, drop, flat_map, Option, Some, None, option_map, refl, sym, ◌∙◌, ap, subst, arith, length-append, length-take, append_assoc, take-append-drop}
+use Rattle.std.proofs.Common.{◌≡◌, ◌⊎◌, inl, inr, ⊎_elim, ℕ, ◌+◌, ◌-◌, ◌<◌, ◌≤◌, Bool, true, false, IsTrue, List, [], ◌∷◌, ◌++◌, length, get_or, take, drop, flat_map, Option, Some, None, option_map, refl, sym, ◌∙◌, ap, subst, arith, length-append, length-take, append_assoc, take-append-drop}
 use Rattle.std.specs.Int.{w32, to_be_bytes}
 use Rattle.std.proofs.lemmas.Bool.{false≢true, cases_eq}
 use Rattle.std.proofs.lemmas.List.{append-nil, get_or-take, get_or-append-add}
 use Rattle.std.proofs.lemmas.List.Prefix.{front_from_reads, at_from_reads}
-use Rattle.cal_keeper.specs.Disks.CrashModel.{Past, synced, reading, IsTorn, moment, LeftSince, LeavesOnly, with_piece}
-use Rattle.cal_keeper.specs.Files.Drafts.{blank, StaysBlank, IsDraft}
+use Rattle.cal_keeper.specs.Disks.CrashModel.{Past, wrote, synced, reading, IsTorn, moment, LeftSince, LeavesOnly, with_piece}
+use Rattle.cal_keeper.specs.Disks.DiskCalls.{after_write, MayTear}
+use Rattle.cal_keeper.specs.Files.Drafts.{blank, with_blank, StaysBlank, IsDraft}
 use Rattle.cal_keeper.specs.Files.Headers.{mark}
 use Rattle.cal_keeper.specs.Files.Opening.{IsNoJournal}
 use Rattle.cal_keeper.specs.Files.Payloads.{long_text}
 use Rattle.cal_keeper.specs.Files.RecordForm.{counted_payload, open_record, front_of, IsFile, IsKept}
-use Rattle.cal_keeper.specs.Steps.Drafting.{LaysBlank, IsNoneOrFile, Seals}
+use Rattle.cal_keeper.specs.Steps.Drafting.{LaysText, LaysBlank, IsNoneOrFile, Seals}
 use Rattle.cal_keeper.specs.Steps.WriteRuns.{IsSpared, Spares, PutsText, Puts, ReplacesPiece, Replaces}
 use Rattle.cal_keeper.proofs.Commits.{only_now, front_longer}
 use Rattle.cal_keeper.proofs.Gates.{get_same}
@@ -54,29 +55,49 @@ leaves_no_journal old new spares stays = record {
 
 -- A draft that is begun
 
-pub draft_begun : (text : List ℕ) (place : ℕ) (ok : Bool) (old laid settled new : Option Past) → place ≡ 16 → Puts 0 blank true old laid → Puts place (long_text text) ok settled new → settled ≡ option_map synced laid → LaysBlank text ok old new
-draft_begun text place ok None laid settled new place_is first second is = subst (λ (told : Option Past). Puts place (long_text text) ok told new) (is ∙ ap (option_map synced) first) second
-draft_begun text place ok (Some old) laid settled new place_is first second is =
-    let second = subst (λ (told : Option Past). Puts 16 (long_text text) ok told new) (is ∙ ap (option_map synced) first.1) (subst (λ (at : ℕ). Puts at (long_text text) ok settled new) place_is second) in (
-      second.0,
-      second.1,
-      λ went empty. from_empty text old first.0 second.0 empty first.2 (subst (λ (through : Bool). PutsText 16 (long_text text) through (synced first.0) second.0) went second.2),
+-- the write of the blank failed
+pub blank_torn : (text : List ℕ) (old new : Option Past) → MayTear 0 16 old new → LaysBlank text false old new
+blank_torn text None new same = same
+blank_torn text (Some old) new (inl same) = (old, same, λ empty. inl (refl, inl refl))
+blank_torn text (Some old) new (inr (octets, torn, is)) = (wrote old 0 16 octets, is, λ empty. inl (refl, inr (octets, refl)))
+
+-- the sync behind it failed
+pub blank_unsettled : (text : List ℕ) (old mid new : Option Past) → mid ≡ option_map (after_write 0 blank) old → new ≡ mid → LaysBlank text false old new
+blank_unsettled text None mid new is same = same ∙ is
+blank_unsettled text (Some old) mid new is same = (after_write 0 blank old, same ∙ is, λ empty. inl (refl, inr (with_piece 0 blank (reading old), refl)))
+
+-- behind that sync a text of users is put behind the blank
+text_behind : (text : List ℕ) (ok : Bool) (laid new : Past) → reading laid ≡ blank → StaysBlank laid → PutsText 16 (long_text text) ok laid new
+    → LeavesOnly IsNoJournal laid new × (IsTrue ok → IsDraft (blank ++ long_text text) [] (20 + length text) new)
+text_behind text ok laid new there stays puts =
+    let sixteen : 16 ≡ length (reading laid) = sym (ap length there) in
+    let size = length-append (to_be_bytes w32 (length text)) text in (
+      leaves_no_journal laid new puts.spares stays,
+      λ went. record {
+        place_is = omega (arith, size, ap length (append-nil (blank ++ long_text text)));
+        reads =
+            puts.stands went (omega (arith, sixteen))
+            ∙ piece_behind 16 (long_text text) (reading laid) sixteen
+            ∙ ap (λ (xs : List ℕ). xs ++ long_text text) there
+            ∙ sym (append-nil (blank ++ long_text text));
+        stays_blank = blank_stays laid new puts.spares stays;
+      },
+    )
+
+pub draft_begun : (text : List ℕ) (ok : Bool) (old laid settled new : Option Past) → laid ≡ option_map (after_write 0 blank) old → settled ≡ option_map synced laid → Puts 16 (long_text text) ok settled new → LaysBlank text ok old new
+draft_begun text ok None laid settled new is settles puts = subst (λ (told : Option Past). Puts 16 (long_text text) ok told new) (settles ∙ ap (option_map synced) is) puts
+draft_begun text ok (Some old) laid settled new is settles puts =
+    let puts : Puts 16 (long_text text) ok (Some (with_blank old)) new = subst (λ (told : Option Past). Puts 16 (long_text text) ok told new) (settles ∙ ap (option_map synced) is) puts in (
+      puts.0,
+      puts.1,
+      λ empty. inr (from_empty puts.0 puts.2 empty),
     )
   where
-    from_empty : (text : List ℕ) (old laid new : Past) → reading old ≡ [] → PutsText 0 blank true old laid → PutsText 16 (long_text text) true (synced laid) new → IsDraft (blank ++ long_text text) [] (20 + length text) new
-    from_empty text old laid new empty first second =
-        let blank_there : reading laid ≡ blank = first.stands refl (omega arith) ∙ ap (λ (xs : List ℕ). with_piece 0 blank xs) empty ∙ piece_behind 0 blank [] refl in
-        let sixteen : 16 ≡ length (reading laid) = sym (ap length blank_there) in
-        let size = length-append (to_be_bytes w32 (length text)) text in
-        record {
-          place_is = omega (arith, size, ap length (append-nil (blank ++ long_text text)));
-          reads =
-              second.stands refl (omega (arith, sixteen))
-              ∙ piece_behind 16 (long_text text) (reading laid) sixteen
-              ∙ ap (λ (xs : List ℕ). xs ++ long_text text) blank_there
-              ∙ sym (append-nil (blank ++ long_text text));
-          stays_blank = blank_stays (synced laid) new second.spares (λ image may. ap (take 16) (may ∙ blank_there));
-        }
+    from_empty : (last : Past) → PutsText 16 (long_text text) ok (with_blank old) last → reading old ≡ [] → LaysText text ok old last
+    from_empty last puts empty =
+        let there : reading (with_blank old) ≡ blank = ap (λ (xs : List ℕ). with_piece 0 blank xs) empty ∙ piece_behind 0 blank [] refl in
+        let both = text_behind text ok (with_blank old) last there (λ image may. ap (take 16) (may ∙ there)) puts in
+        record { leaves = both.0; drafted = both.1 }
 
 -- A draft that is written on
 

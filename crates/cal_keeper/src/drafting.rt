@@ -8,7 +8,7 @@ use crate::disk::Disk;
 use crate::draft::Draft;
 use crate::header::{BLANK, users_text};
 use crate::principals::counts_of;
-use crate::writing::{put, put_long};
+use crate::writing::put_long;
 use cal_base::{Failed, NoMemory};
 use privileges::Users;
 use std::alloc::Global;
@@ -26,8 +26,9 @@ pub enum Drafted<D: Disk> {
     NoMemory(D),
 }
 
-/// Begins a journal file of these users that is to be written whole, where there is none. A stop within
-/// this call may leave anything; one from its end on leaves what is no journal, until the file is finished.
+/// Begins a journal file of these users that is to be written whole, where there is none; a file that has
+/// octets is not written. Before the first sync a stop may leave anything; from that on it leaves what is no
+/// journal, until the file is finished.
 pub fn begin_draft<D: Disk>(alloc: Global, disk: D, users: &Users) -> Drafted<D>
     ensures drafted { IsDrafted D.past D.faults users.now disk result }
     ensures never_falls { D.faults disk ≤ D.faults (disk_left result) }
@@ -60,7 +61,7 @@ fn lay_blank<D: Disk>(disk: &mut D, text: &[u8]) -> Result<u64, Failed>
     ensures gate { IfOk result (λ place. place ≡ 20 + length text.now) }
     ensures few { IfOk result (λ place. place ≤ 2 ^ 62) }
 {
-    let at = put(disk, 0, &BLANK)?;
+    disk.write_at(0, &BLANK)?;
     disk.sync()?;
-    put_long(disk, at, text)
+    put_long(disk, 16, text)
 }

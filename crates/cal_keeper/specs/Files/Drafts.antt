@@ -9,7 +9,8 @@ use Rattle.cal_keeper.specs.declared.draft.Finished.{Finished}
 use Rattle.cal_keeper.specs.declared.draft.Finished.TheVariants as finish
 use Rattle.cal_keeper.specs.declared.drafting.Drafted.{Drafted}
 use Rattle.cal_keeper.specs.declared.drafting.Drafted.TheVariants as end
-use Rattle.cal_keeper.specs.Disks.CrashModel.{Past, reading, MayLeave, LeavesOnly}
+use Rattle.cal_keeper.specs.Disks.CrashModel.{Past, wrote, synced, reading, MayLeave, LeavesOnly}
+use Rattle.cal_keeper.specs.Disks.DiskCalls.{after_write}
 use Rattle.cal_keeper.specs.Files.Creating.{HasLength}
 use Rattle.cal_keeper.specs.Files.Headers.{users_text}
 use Rattle.cal_keeper.specs.Files.Opening.{IsNoJournal}
@@ -22,6 +23,10 @@ use Rattle.cal_keeper.specs.Principals.{counts_of}
 -- what stands in the place of the mark until then: as many zeros
 abbrev pub blank : List ℕ
 blank = replicate 16 0
+
+-- the past of a file in which the blank was written, and brought to the disk
+abbrev pub with_blank : Past → Past
+with_blank past = synced (after_write 0 blank past)
 
 -- whatever a crash now leaves begins with the blank
 abbrev pub StaysBlank : Past → Type 0
@@ -44,17 +49,35 @@ pub record IsDraftOf (users : Users) (entries : List Entry) (place : ℕ) (past 
 
 -- Beginning
 
--- the file is drafted for no entries, where the disk tells its past
+-- The file is drafted for no entries; and since the blank was on the disk, which came before all else that was done to the file, each crash left what is no journal.
+pub record BeginsDraft (users : Users) (place : ℕ) (old new : Past) : Type 0 where
+  pub leaves : LeavesOnly IsNoJournal (with_blank old) new
+  pub drafted : IsDraftOf users [] place new
+
+-- the same, where the disk tells its past
 abbrev pub BeginsTold : Users → ℕ → Option Past → Option Past → Type 0
 BeginsTold users place None new = new ≡ None
-BeginsTold users place (Some old) new = (past : Past) × (new ≡ Some past) × IsDraftOf users [] place past
+BeginsTold users place (Some old) new = (past : Past) × (new ≡ Some past) × BeginsDraft users place old past
 
--- How it ended: a draft of no entries of a file that had no octets; or a file that has some; or a failure, for which a fault was counted; or want of memory, and nothing was written.
+-- one write was tried, in the place of the mark, and nothing else was done
+abbrev pub TriesMark : Past → Past → Type 0
+TriesMark old new = (octets : List ℕ) × (new ≡ wrote old 0 16 octets)
+
+-- No draft was begun. The file is as it was; or it had no octets, and then that one write was tried, or since the blank was on the disk each crash left what is no journal.
+abbrev pub FailsToBegin : Past → Past → Type 0
+FailsToBegin old new = (new ≡ old) ⊎ ((reading old ≡ []) × (TriesMark old new ⊎ LeavesOnly IsNoJournal (with_blank old) new))
+
+-- the same, where the disk tells its past
+abbrev pub FailsTold : Option Past → Option Past → Type 0
+FailsTold None new = new ≡ None
+FailsTold (Some old) new = (past : Past) × (new ≡ Some past) × FailsToBegin old past
+
+-- How it ended: a draft of no entries of a file that had no octets; or a file that has some; or a failure, for which a fault was counted; or want of memory, and nothing was written. A file that has octets is written at no end.
 abbrev pub IsDrafted : {D : Type 0} → (D → Option Past) → (D → ℕ) → Users → D → Drafted D → Type 0
 IsDrafted past faults users disk (end.Begun draft) =
     HasLength 0 (past disk) × BeginsTold users draft.place (past disk) (past draft.disk) × (draft.principals ≡ counts_of users) × (draft.records ≡ 0) × (draft.broken ≡ false)
 IsDrafted past faults users disk (end.NotEmpty left count) = HasLength count (past disk) × (count ≢ 0) × (past left ≡ past disk)
-IsDrafted past faults users disk (end.Failed left) = Rose (faults disk) (faults left)
+IsDrafted past faults users disk (end.Failed left) = Rose (faults disk) (faults left) × FailsTold (past disk) (past left)
 IsDrafted past faults users disk (end.NoMemory left) = past left ≡ past disk
 
 -- the disk that is left

@@ -1,17 +1,26 @@
 -- A journal file that is written whole: how it is begun and finished, whatever its payloads are.
 -- Given: the pasts before and after, where the disk tells them.
-use Rattle.std.specs.Prelude.{◌≡◌, ◌⊎◌, ℕ, ◌+◌, Bool, IsTrue, List, [], ◌++◌, length, Option, Some, None}
+use Rattle.std.specs.Prelude.{◌≡◌, ◌⊎◌, ℕ, ◌+◌, Bool, false, IsTrue, List, [], ◌++◌, length, Option, Some, None}
 use Rattle.cal_keeper.specs.Disks.CrashModel.{Past, reading, LeavesOnly}
-use Rattle.cal_keeper.specs.Files.Drafts.{blank, IsDraft}
+use Rattle.cal_keeper.specs.Files.Drafts.{blank, with_blank, IsDraft, TriesMark}
 use Rattle.cal_keeper.specs.Files.Headers.{mark}
 use Rattle.cal_keeper.specs.Files.Opening.{IsNoJournal}
 use Rattle.cal_keeper.specs.Files.Payloads.{long_text}
 use Rattle.cal_keeper.specs.Files.RecordForm.{IsFile, IsKept}
 
--- the blank and a text of users are laid in an empty file
+-- The blank was brought to the disk, and a text of users was put behind it: since the blank was there each crash left what is no journal, and where the text went through, it stands there.
+pub record LaysText (text : List ℕ) (went_through : Bool) (old new : Past) : Type 0 where
+  pub leaves : LeavesOnly IsNoJournal (with_blank old) new
+  pub drafted : IsTrue went_through → IsDraft (blank ++ long_text text) [] (20 + length text) new
+
+-- how the laying of both ended: it failed before the blank was on the disk, or behind that moment, or it went through
+abbrev pub LaysBoth : List ℕ → Bool → Past → Past → Type 0
+LaysBoth text went_through old new = ((went_through ≡ false) × ((new ≡ old) ⊎ TriesMark old new)) ⊎ LaysText text went_through old new
+
+-- they are laid in an empty file, where the disk tells its past
 abbrev pub LaysBlank : List ℕ → Bool → Option Past → Option Past → Type 0
 LaysBlank text went_through None new = new ≡ None
-LaysBlank text went_through (Some old) new = (past : Past) × (new ≡ Some past) × (IsTrue went_through → reading old ≡ [] → IsDraft (blank ++ long_text text) [] (20 + length text) past)
+LaysBlank text went_through (Some old) new = (past : Past) × (new ≡ Some past) × (reading old ≡ [] → LaysBoth text went_through old past)
 
 -- the octets are no journal, or the file with this header and these payloads
 abbrev pub IsNoneOrFile : List ℕ → List (List ℕ) → List ℕ → Type 0

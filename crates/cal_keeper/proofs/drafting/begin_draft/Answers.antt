@@ -2,8 +2,11 @@ use Rattle.std.proofs.Common.{true, Option, refl, ◌∙◌, subst}
 use Rattle.cal_keeper.specs.Disks.CrashModel.{Past}
 use Rattle.cal_keeper.specs.Steps.Drafting.{LaysBlank}
 use Rattle.cal_keeper.proofs.Beginning.{counted_none}
-use Rattle.cal_keeper.proofs.DraftEntries.{begins_told}
+use Rattle.cal_keeper.proofs.DraftEntries.{begins_told, unchanged_fails}
 use Rattle.cal_keeper.proofs.drafting.begin_draft.Goals as goal
+
+pub returns-in-Err-clause-drafted : goal.returns-in-Err-clause-drafted
+returns-in-Err-clause-drafted g c = (c.in-Err.ensures.failed, unchanged_fails (g.D.Disk.past c.args.disk) (g.D.Disk.past c.len.new.self) c.in-Err.ensures.past_kept)
 
 pub returns-in-Ok-lay_blank-clause-drafted : goal.returns-in-Ok-lay_blank-clause-drafted
 returns-in-Ok-lay_blank-clause-drafted g c =
