@@ -6,13 +6,15 @@ use Rattle.cal_model.specs.State.ServerState.{directory_of, user_name, group_nam
 use Rattle.cal_model.specs.Users.UsersFile.{Users as KnownUsers}
 use Rattle.cal_keeper.specs.Disks.CrashModel.{Past, synced}
 use Rattle.cal_keeper.specs.Files.Creating.{HasLength}
+use Rattle.cal_keeper.specs.Files.Drafts.{FailsTold}
 use Rattle.cal_script.specs.UsersTaken.{AreUsersOf, IsRefusedAt}
 use Rattle.journal_migration.specs.Migrations.{IsDone, IsUserGone, IsGroupGone, IsRefused, IsMismatch, IsDeclined, IsMigrated}
+use Rattle.journal_migration.specs.Stops.{LeavesNoneOrWhole, Since}
 use Rattle.journal_migration.specs.declared.gone.Principal.TheVariants.{User, Group}
 use Rattle.journal_migration.specs.declared.migrating.Migrated.{Migrated}
 use Rattle.journal_migration.specs.declared.migrating.Migrated.TheVariants as migrated
 use Rattle.caldav_server.specs.declared.migrate.MigrateEnd.{MigrateEnd}
-use Rattle.caldav_server.specs.declared.migrate.MigrateEnd.TheVariants.{Done, Words, Line, Unread, UserGone, GroupGone, Refused, Declined, NotEmpty, Fault, NoMemory}
+use Rattle.caldav_server.specs.declared.migrate.MigrateEnd.TheVariants.{Done, Words, Line, Unread, UserGone, GroupGone, Refused, Declined, NotEmpty, OldFailed, NotBegun, NewFailed, NoMemory}
 use Rattle.caldav_server.specs.declared.migrate.Side.{Side}
 use Rattle.caldav_server.specs.declared.migrate.Side.TheVariants.{Old, New}
 
@@ -27,7 +29,9 @@ status_of (GroupGone name) = 10
 status_of (Refused place) = 9
 status_of (Declined place) = 9
 status_of (NotEmpty count) = 12
-status_of (Fault side) = 8
+status_of OldFailed = 8
+status_of NotBegun = 8
+status_of NewFailed = 8
 status_of NoMemory = 7
 
 -- the users are those of the two files, where these are told
@@ -61,8 +65,9 @@ IsEnd past faults told new_told from to from_after to_after (Refused place) = Of
 IsEnd past faults told new_told from to from_after to_after (Declined place) =
     OfBoth told new_told (λ old new. (kept made : ℕ) × IsDeclined old new (option_map synced (past from)) place kept made)
 IsEnd past faults told new_told from to from_after to_after (NotEmpty count) = HasLength count (past to) × (count ≢ 0)
-IsEnd past faults told new_told from to from_after to_after (Fault Old) = Rose (faults from) (faults from_after)
-IsEnd past faults told new_told from to from_after to_after (Fault New) = Rose (faults to) (faults to_after)
+IsEnd past faults told new_told from to from_after to_after OldFailed = Rose (faults from) (faults from_after)
+IsEnd past faults told new_told from to from_after to_after NotBegun = Rose (faults to) (faults to_after)
+IsEnd past faults told new_told from to from_after to_after NewFailed = Rose (faults to) (faults to_after)
 IsEnd past faults told new_told from to from_after to_after NoMemory = Unit {0}
 
 -- where a users file could not be read, a call that reads it failed
@@ -71,11 +76,12 @@ HasFailed files_failed new_files_failed (Unread Old) = files_failed
 HasFailed files_failed new_files_failed (Unread New) = new_files_failed
 HasFailed files_failed new_files_failed other = Unit {0}
 
--- the ends at which the new journal may be written
-abbrev pub MayWrite : MigrateEnd → Type 0
-MayWrite Done = Unit {0}
-MayWrite (Fault New) = Unit {0}
-MayWrite other = ⊥
+-- What a stop leaves of the new journal, at whichever moment of the command it comes, by the end. Where it is done, or a later call failed: since the blank was on the disk each crash left no journal, or the whole one. Where the file was not begun: what a failure of the beginning leaves. At each other end nothing was done to it.
+abbrev pub StopsLeave : (told new_told : Option (List ℕ)) → (from to to_after : Option Past) → MigrateEnd → Type 0
+StopsLeave told new_told from to to_after Done = OfBoth told new_told (λ old new. Since (LeavesNoneOrWhole old new from) to to_after)
+StopsLeave told new_told from to to_after NewFailed = OfBoth told new_told (λ old new. Since (LeavesNoneOrWhole old new from) to to_after)
+StopsLeave told new_told from to to_after NotBegun = FailsTold to to_after
+StopsLeave told new_told from to to_after other = to_after ≡ to
 
 -- The parts of the command
 
@@ -95,9 +101,9 @@ told_of old (migrated.Refused place) = Refused place
 told_of old (migrated.Mismatch place kept made) = Refused place
 told_of old (migrated.Declined place kept made) = Declined place
 told_of old (migrated.NotEmpty count) = NotEmpty count
-told_of old migrated.OldFailed = Fault Old
-told_of old migrated.NotBegun = Fault New
-told_of old migrated.NewFailed = Fault New
+told_of old migrated.OldFailed = OldFailed
+told_of old migrated.NotBegun = NotBegun
+told_of old migrated.NewFailed = NewFailed
 told_of old migrated.NoMemory = NoMemory
 
 -- somebody is gone
@@ -115,3 +121,10 @@ IsGoneOf old other = Unit {0}
 abbrev pub IsToldEnd : {D : Type 0} → (D → Option Past) → (D → ℕ) → KnownUsers → KnownUsers → (from to from_after to_after : D) → MigrateEnd → Type 0
 IsToldEnd past faults old new from to from_after to_after NoMemory = Unit {0}
 IsToldEnd past faults old new from to from_after to_after end = (made : Migrated) × (end ≡ told_of old made) × IsMigrated past faults old new from to from_after to_after made
+
+-- and what a stop leaves by it
+abbrev pub ToldStops : KnownUsers → KnownUsers → (from to to_after : Option Past) → MigrateEnd → Type 0
+ToldStops old new from to to_after Done = Since (LeavesNoneOrWhole old new from) to to_after
+ToldStops old new from to to_after NewFailed = Since (LeavesNoneOrWhole old new from) to to_after
+ToldStops old new from to to_after NotBegun = FailsTold to to_after
+ToldStops old new from to to_after other = to_after ≡ to

@@ -203,8 +203,9 @@ fn report_migrate(rt: &HostRuntime, said: &MigrateWords<'_>, end: &MigrateEnd) -
         MigrateEnd::NotEmpty(octets) => {
             eprintln!(rt; "{}: has {octets} octets already", said.to)
         }
-        MigrateEnd::Fault(Side::Old) => eprintln!(rt; "{}: journal fault", said.journal),
-        MigrateEnd::Fault(Side::New) => eprintln!(rt; "{}: journal fault", said.to),
+        MigrateEnd::OldFailed => eprintln!(rt; "{}: journal fault", said.journal),
+        MigrateEnd::NotBegun => eprintln!(rt; "{}: journal fault", said.to),
+        MigrateEnd::NewFailed => eprintln!(rt; "{}: journal fault", said.to),
         MigrateEnd::NoMemory => eprintln!(rt; "out of memory"),
     }
 }

@@ -5,8 +5,7 @@ ghost use Rattle.cal_model.specs.Users.UsersFile.{Users as KnownUsers};
 ghost use Rattle.cal_keeper.specs.Files.Opening.{IsUnwritten};
 ghost use Rattle.cal_script.specs.UsersTaken.{AreUsersOf};
 ghost use Rattle.command_words.specs.MigrateWords.{TakesMigrate, users_path, new_users_path};
-ghost use Rattle.journal_migration.specs.Migrations.{IsMigrated, IsWriting};
-ghost use Rattle.journal_migration.specs.Stops.{LeavesNoneOrWhole};
+ghost use Rattle.journal_migration.specs.Migrations.{WritesOverNothing};
 ghost use Rattle.caldav_server.specs.MigrateEnds as spec;
 
 use cal_base::{Arc, Files, List, NoMemory, Octets, Word};
@@ -45,8 +44,12 @@ pub(crate) enum MigrateEnd {
     Declined(u64),
     /// The new journal is there already, with so many octets.
     NotEmpty(u64),
-    /// A call of the disk failed.
-    Fault(Side),
+    /// A call of the old journal's disk failed.
+    OldFailed,
+    /// A call of the new journal's disk failed before the file was begun.
+    NotBegun,
+    /// A later call of that disk failed.
+    NewFailed,
     /// There was no memory.
     NoMemory,
 }
@@ -66,7 +69,9 @@ impl MigrateEnd {
             MigrateEnd::Refused(_) => 9,
             MigrateEnd::Declined(_) => 9,
             MigrateEnd::NotEmpty(_) => 12,
-            MigrateEnd::Fault(_) => 8,
+            MigrateEnd::OldFailed => 8,
+            MigrateEnd::NotBegun => 8,
+            MigrateEnd::NewFailed => 8,
             MigrateEnd::NoMemory => 7,
         }
     }
@@ -91,9 +96,11 @@ pub(crate) fn run_migrate<F: Files, D: Disk>(
     // The users files, and the journals.
     ensures ended { (result.0 ≡ MigrateEnd.Words) ⊎ spec.IsEnd D.past D.faults (F.content files.old (users_path words.now)) (F.content new_files.old (new_users_path words.now)) from to result.1 result.2 result.0 }
     ensures files_fault { spec.HasFailed (Rose (F.faults files.old) (F.faults files.new)) (Rose (F.faults new_files.old) (F.faults new_files.new)) result.0 }
+
+    // At any moment: the old journal is as it was, or was synced; and what a stop leaves of the new one.
     ensures only_read { IsUnwritten (D.past from) (D.past result.1) }
-    ensures untouched { spec.MayWrite result.0 ⊎ (D.past result.2 ≡ D.past to) }
-    ensures stops { result.0 ≡ MigrateEnd.Done → spec.OfBoth (F.content files.old (users_path words.now)) (F.content new_files.old (new_users_path words.now)) (λ old new. IfSome (D.past result.2) (LeavesNoneOrWhole old new (D.past from))) }
+    ensures over_nothing { WritesOverNothing (D.past to) (D.past result.2) }
+    ensures stops { spec.StopsLeave (F.content files.old (users_path words.now)) (F.content new_files.old (new_users_path words.now)) (D.past from) (D.past to) (D.past result.2) result.0 }
 
     // No count falls.
     ensures files_never_fall { F.faults files.old ≤ F.faults files.new }
@@ -120,8 +127,8 @@ fn migrate_files<F: Files, D: Disk>(
     ensures ended { spec.IsEnd D.past D.faults (F.content files.old said.now.users.now) (F.content new_files.old said.now.new_users.now) from to result.1 result.2 result.0 }
     ensures files_fault { spec.HasFailed (Rose (F.faults files.old) (F.faults files.new)) (Rose (F.faults new_files.old) (F.faults new_files.new)) result.0 }
     ensures only_read { IsUnwritten (D.past from) (D.past result.1) }
-    ensures untouched { spec.MayWrite result.0 ⊎ (D.past result.2 ≡ D.past to) }
-    ensures stops { result.0 ≡ MigrateEnd.Done → spec.OfBoth (F.content files.old said.now.users.now) (F.content new_files.old said.now.new_users.now) (λ old new. IfSome (D.past result.2) (LeavesNoneOrWhole old new (D.past from))) }
+    ensures over_nothing { WritesOverNothing (D.past to) (D.past result.2) }
+    ensures stops { spec.StopsLeave (F.content files.old said.now.users.now) (F.content new_files.old said.now.new_users.now) (D.past from) (D.past to) (D.past result.2) result.0 }
     ensures files_never_fall { F.faults files.old ≤ F.faults files.new }
     ensures new_files_never_fall { F.faults new_files.old ≤ F.faults new_files.new }
     ensures old_never_falls { D.faults from ≤ D.faults result.1 }
@@ -165,8 +172,8 @@ fn migrate_users<D: Disk>(
 ) -> (MigrateEnd, D, D)
     ensures ended { spec.IsToldEnd D.past D.faults old_users new_users from to result.1 result.2 result.0 }
     ensures only_read { IsUnwritten (D.past from) (D.past result.1) }
-    ensures untouched { spec.MayWrite result.0 ⊎ (D.past result.2 ≡ D.past to) }
-    ensures stops { result.0 ≡ MigrateEnd.Done → IfSome (D.past result.2) (LeavesNoneOrWhole old_users new_users (D.past from)) }
+    ensures over_nothing { WritesOverNothing (D.past to) (D.past result.2) }
+    ensures stops { spec.ToldStops old_users new_users (D.past from) (D.past to) (D.past result.2) result.0 }
     ensures old_never_falls { D.faults from ≤ D.faults result.1 }
     ensures new_never_falls { D.faults to ≤ D.faults result.2 }
 {
@@ -201,9 +208,9 @@ fn told(alloc: Global, users: &Users, migrated: Migrated) -> MigrateEnd
         Migrated::Mismatch(place, _, _) => MigrateEnd::Refused(place),
         Migrated::Declined(place, _, _) => MigrateEnd::Declined(place),
         Migrated::NotEmpty(octets) => MigrateEnd::NotEmpty(octets),
-        Migrated::OldFailed => MigrateEnd::Fault(Side::Old),
-        Migrated::NotBegun => MigrateEnd::Fault(Side::New),
-        Migrated::NewFailed => MigrateEnd::Fault(Side::New),
+        Migrated::OldFailed => MigrateEnd::OldFailed,
+        Migrated::NotBegun => MigrateEnd::NotBegun,
+        Migrated::NewFailed => MigrateEnd::NewFailed,
         Migrated::NoMemory => MigrateEnd::NoMemory,
     }
 }

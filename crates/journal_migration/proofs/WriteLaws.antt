@@ -11,14 +11,15 @@ use Rattle.cal_keeper.specs.declared.principals.PrincipalCounts.{PrincipalCounts
 use Rattle.cal_keeper.specs.Disks.CrashModel.{Past, LeavesOnly}
 use Rattle.cal_keeper.specs.Files.Creating.{HasLength}
 use Rattle.cal_keeper.specs.Files.DraftLaws.{DraftsAreNoJournals, DraftsGoOn, DraftsAreFinished}
-use Rattle.cal_keeper.specs.Files.Drafts.{IsDraftOf, BeginsTold, DraftsTold, DraftsTo, IsNoneOrWhole, FinishesTold}
+use Rattle.cal_keeper.specs.Files.Drafts.{with_blank, IsDraftOf, BeginsTold, DraftsTold, DraftsTo, IsNoneOrWhole, FinishesTold}
 use Rattle.cal_keeper.specs.Files.Opening.{IsNoJournal}
 use Rattle.cal_keeper.specs.Files.Payloads.{HasForm}
 use Rattle.cal_keeper.specs.Files.Standing.{recorded, IsRecorded}
 use Rattle.cal_keeper.specs.Keepers.{DraftState}
 use Rattle.cal_keeper.specs.Principals.{counts_of}
 use Rattle.journal_migration.specs.Migrations.{IsKeptSomewhere}
-use Rattle.journal_migration.specs.Writing.{HasAdded, HasWritten, Since, IsDraftSince, IsDraftSoFar, IsWholeSince, IsWrittenFrom, LeavesNoneOrAll, IsWrittenAs}
+use Rattle.journal_migration.specs.Stops.{Since}
+use Rattle.journal_migration.specs.Writing.{HasAdded, HasWritten, IsDraftSince, IsDraftSoFar, IsWholeSince, IsWrittenFrom, LeavesNoneOrAll, IsWrittenAs}
 use Rattle.journal_migration.specs.declared.migrating.Migrated.{Migrated}
 use Rattle.journal_migration.specs.declared.migrating.Migrated.TheVariants as migrated
 use Rattle.journal_migration.proofs.OpenLaws.{rose_since}
@@ -156,13 +157,15 @@ module _ {D : Type 0} (past : D → Option Past) (users : Users) where
 
 pub begun_draft : (users : Users) (place : ℕ) (old new : Option Past) → BeginsTold users place old new → IfSome new (IsDraftOf users [] place)
 begun_draft users place None new none = subst (λ (o : Option Past). IfSome o (IsDraftOf users [] place)) (sym none) tt
-begun_draft users place (Some first) new (past, is, drafted) = subst (λ (o : Option Past). IfSome o (IsDraftOf users [] place)) (sym is) drafted
+begun_draft users place (Some first) new (past, is, begins) = subst (λ (o : Option Past). IfSome o (IsDraftOf users [] place)) (sym is) begins.drafted
 
-module _ (users : Users) (entries : List Entry) (place : ℕ) where
-  left_since : (first : Option Past) (last : Option Past) → IfSome first (IsDraftOf users [] place) → Since (LeavesOnly (IsNoneOrWhole users entries)) first last → IfSome last (LeavesNoneOrAll users entries)
-  left_since None last drafted none = subst (λ (o : Option Past). IfSome o (LeavesNoneOrAll users entries)) (sym none) tt
-  left_since (Some first) last drafted (past, is, leaves) =
-      subst (λ (o : Option Past). IfSome o (LeavesNoneOrAll users entries)) (sym is) (record { begun = first; place = place; drafted = drafted; leaves = leaves })
+module _ (users : Users) (entries : List Entry) where
+  -- since the blank was on the disk
+  left_since : DraftsAreFinished → (place : ℕ) (disk begun left : Option Past) → BeginsTold users place disk begun → Since (LeavesOnly (IsNoneOrWhole users entries)) begun left → Since (LeavesNoneOrAll users entries) disk left
+  left_since finished place None begun left none leaves = subst (λ (o : Option Past). Since (LeavesOnly (IsNoneOrWhole users entries)) o left) none leaves
+  left_since finished place (Some first) begun left (mid, is, begins) leaves =
+      let on : Since (LeavesOnly (IsNoneOrWhole users entries)) (Some mid) left = subst (λ (o : Option Past). Since (LeavesOnly (IsNoneOrWhole users entries)) o left) is leaves in
+      (on.0, on.1, finished users entries (with_blank first) mid on.0 begins.leaves on.2)
 
   whole_leaves : (first last : Option Past) → Since (IsWholeSince users entries) first last → Since (LeavesOnly (IsNoneOrWhole users entries)) first last
   whole_leaves None last none = none
@@ -172,17 +175,20 @@ module _ (users : Users) (entries : List Entry) (place : ℕ) where
   whole_kept None last none = subst (λ (o : Option Past). IfSome o (IsKeptSomewhere users entries)) (sym none) tt
   whole_kept (Some first) last (past, is, whole) = subst (λ (o : Option Past). IfSome o (IsKeptSomewhere users entries)) (sym is) whole.1
 
-pub written_as : {D : Type 0} (past : D → Option Past) (faults : D → ℕ) (users : Users) (entries : List Entry) (disk begun left : D) (place : ℕ) (end : Migrated) → HasLength 0 (past disk) → IfSome (past begun) (IsDraftOf users [] place)
+pub written_as : {D : Type 0} (past : D → Option Past) (faults : D → ℕ) → DraftsAreFinished → (users : Users) (entries : List Entry) (disk begun left : D) (place : ℕ) (end : Migrated) → HasLength 0 (past disk) → BeginsTold users place (past disk) (past begun)
     → faults disk ≤ faults begun → faults begun ≤ faults left → IsWrittenFrom past faults users entries begun left end → IsWrittenAs past faults users entries disk left end
-written_as past faults users entries disk begun left place migrated.Done empty drafted first falls is =
-    (empty, left_since users entries place (past begun) (past left) drafted (whole_leaves users entries place (past begun) (past left) is), whole_kept users entries place (past begun) (past left) is)
-written_as past faults users entries disk begun left place migrated.NewFailed empty drafted first falls is =
-    (rose_since (faults disk) (faults begun) (faults left) first falls is.1, left_since users entries place (past begun) (past left) drafted is.0)
-written_as past faults users entries disk begun left place (migrated.Gone principal) empty drafted first falls is = absurd is
-written_as past faults users entries disk begun left place (migrated.Refused at) empty drafted first falls is = absurd is
-written_as past faults users entries disk begun left place (migrated.Mismatch at kept made) empty drafted first falls is = absurd is
-written_as past faults users entries disk begun left place (migrated.Declined at kept made) empty drafted first falls is = absurd is
-written_as past faults users entries disk begun left place (migrated.NotEmpty count) empty drafted first falls is = absurd is
-written_as past faults users entries disk begun left place migrated.OldFailed empty drafted first falls is = absurd is
-written_as past faults users entries disk begun left place migrated.NotBegun empty drafted first falls is = absurd is
-written_as past faults users entries disk begun left place migrated.NoMemory empty drafted first falls is = absurd is
+written_as past faults finished users entries disk begun left place migrated.Done empty begins first falls is = (
+  empty,
+  left_since users entries finished place (past disk) (past begun) (past left) begins (whole_leaves users entries (past begun) (past left) is),
+  whole_kept users entries (past begun) (past left) is,
+)
+written_as past faults finished users entries disk begun left place migrated.NewFailed empty begins first falls is =
+    (empty, left_since users entries finished place (past disk) (past begun) (past left) begins is.0, rose_since (faults disk) (faults begun) (faults left) first falls is.1)
+written_as past faults finished users entries disk begun left place (migrated.Gone principal) empty begins first falls is = absurd is
+written_as past faults finished users entries disk begun left place (migrated.Refused at) empty begins first falls is = absurd is
+written_as past faults finished users entries disk begun left place (migrated.Mismatch at kept made) empty begins first falls is = absurd is
+written_as past faults finished users entries disk begun left place (migrated.Declined at kept made) empty begins first falls is = absurd is
+written_as past faults finished users entries disk begun left place (migrated.NotEmpty count) empty begins first falls is = absurd is
+written_as past faults finished users entries disk begun left place migrated.OldFailed empty begins first falls is = absurd is
+written_as past faults finished users entries disk begun left place migrated.NotBegun empty begins first falls is = absurd is
+written_as past faults finished users entries disk begun left place migrated.NoMemory empty begins first falls is = absurd is

@@ -135,9 +135,6 @@ IsMigrated past faults old new from to from_after to_after NotBegun = Rose (faul
 IsMigrated past faults old new from to from_after to_after NewFailed = Rose (faults to) (faults to_after)
 IsMigrated past faults old new from to from_after to_after NoMemory = Unit {0}
 
--- the ends at which the new file was written
-abbrev pub IsWriting : Migrated → Type 0
-IsWriting Done = Unit {0}
-IsWriting NotBegun = Unit {0}
-IsWriting NewFailed = Unit {0}
-IsWriting other = ⊥
+-- the new file had no octets, or nothing was done to it
+abbrev pub WritesOverNothing : Option Past → Option Past → Type 0
+WritesOverNothing to to_after = HasLength 0 to ⊎ (to_after ≡ to)

@@ -1,16 +1,17 @@
 -- The steps in which the entries of a book are written into a new file.
 -- Given: the users, the entries, and the draft or the disk before and after. The public contracts cite none of it.
-use Rattle.std.specs.Prelude.{◌≡◌, ◌≢◌, ℕ, Bool, true, false, not, List, [], Option, Some, None, IfSome}
+use Rattle.std.specs.Prelude.{◌≡◌, ◌≢◌, ℕ, Bool, true, false, not, List, Option, Some, None, IfSome}
 use Rattle.cal_base.specs.World.Outside.{Rose}
 use Rattle.cal_model.specs.History.Journal.{Entry}
 use Rattle.cal_model.specs.Users.UsersFile.{Users}
 use Rattle.cal_keeper.specs.Disks.CrashModel.{Past, LeavesOnly}
 use Rattle.cal_keeper.specs.Files.Creating.{HasLength}
-use Rattle.cal_keeper.specs.Files.Drafts.{IsDraftOf, DraftsTo, IsNoneOrWhole}
+use Rattle.cal_keeper.specs.Files.Drafts.{with_blank, FailsTold, IsDraftOf, DraftsTo, IsNoneOrWhole}
 use Rattle.cal_keeper.specs.Files.Opening.{IsNoJournal}
 use Rattle.cal_keeper.specs.Keepers.{DraftState}
 use Rattle.cal_keeper.specs.Principals.{counts_of}
 use Rattle.journal_migration.specs.Migrations.{IsKeptSomewhere}
+use Rattle.journal_migration.specs.Stops.{Since}
 use Rattle.journal_migration.specs.declared.migrating.Migrated.{Migrated}
 use Rattle.journal_migration.specs.declared.migrating.Migrated.TheVariants as migrated
 
@@ -28,11 +29,6 @@ HasWritten past None old new went_through = (new ≡ old) × (went_through ≡ t
 HasWritten past (Some entry) old new went_through = HasAdded past entry old new went_through
 
 -- All entries
-
--- a fact of two pasts, where the first is told; the second is told exactly where the first is
-abbrev pub Since : (Past → Past → Type 0) → Option Past → Option Past → Type 0
-Since fact None new = new ≡ None
-Since fact (Some first) new = (past : Past) × (new ≡ Some past) × fact first past
 
 -- a draft of entries, and a crash since an earlier moment left no journal
 abbrev pub IsDraftSince : Users → List Entry → ℕ → Past → Past → Type 0
@@ -54,19 +50,17 @@ IsWrittenFrom past faults users entries begun left migrated.Done = Since (IsWhol
 IsWrittenFrom past faults users entries begun left migrated.NewFailed = Since (LeavesOnly (IsNoneOrWhole users entries)) (past begun) (past left) × Rose (faults begun) (faults left)
 IsWrittenFrom past faults users entries begun left other = ⊥
 
--- the file was begun, and since then a crash left no journal, or the whole one
-pub record LeavesNoneOrAll (users : Users) (entries : List Entry) (after : Past) : Type 0 where
-  pub begun : Past
-  pub place : ℕ
-  pub drafted : IsDraftOf users [] place begun
-  pub leaves : LeavesOnly (IsNoneOrWhole users entries) begun after
+-- since the blank was on the disk a crash left no journal, or the whole one
+abbrev pub LeavesNoneOrAll : Users → List Entry → Past → Past → Type 0
+LeavesNoneOrAll users entries first past = LeavesOnly (IsNoneOrWhole users entries) (with_blank first) past
 
 -- how the writing of a new file ended
 abbrev pub IsWrittenAs : {D : Type 0} → (D → Option Past) → (D → ℕ) → Users → List Entry → D → D → Migrated → Type 0
 IsWrittenAs past faults users entries disk left migrated.Done =
-    HasLength 0 (past disk) × IfSome (past left) (LeavesNoneOrAll users entries) × IfSome (past left) (IsKeptSomewhere users entries)
-IsWrittenAs past faults users entries disk left migrated.NewFailed = Rose (faults disk) (faults left) × IfSome (past left) (LeavesNoneOrAll users entries)
-IsWrittenAs past faults users entries disk left migrated.NotBegun = Rose (faults disk) (faults left)
+    HasLength 0 (past disk) × Since (LeavesNoneOrAll users entries) (past disk) (past left) × IfSome (past left) (IsKeptSomewhere users entries)
+IsWrittenAs past faults users entries disk left migrated.NewFailed =
+    HasLength 0 (past disk) × Since (LeavesNoneOrAll users entries) (past disk) (past left) × Rose (faults disk) (faults left)
+IsWrittenAs past faults users entries disk left migrated.NotBegun = Rose (faults disk) (faults left) × FailsTold (past disk) (past left)
 IsWrittenAs past faults users entries disk left (migrated.NotEmpty count) = HasLength count (past disk) × (count ≢ 0) × (past left ≡ past disk)
 IsWrittenAs past faults users entries disk left migrated.NoMemory = past left ≡ past disk
 IsWrittenAs past faults users entries disk left other = ⊥

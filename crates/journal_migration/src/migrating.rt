@@ -1,11 +1,11 @@
 //! A journal that is carried over to other users.
-ghost use Rattle.std.specs.Prelude.{◌≡◌, ◌≤◌, ◌<◌, ◌⊎◌, IfSome};
+ghost use Rattle.std.specs.Prelude.{◌≡◌, ◌≤◌, ◌<◌};
 ghost use Rattle.cal_keeper.specs.Files.Opening.{IsUnwritten};
-ghost use Rattle.journal_migration.specs.Migrations.{IsHistoryOfBoth, IsMigrated, IsWriting};
+ghost use Rattle.journal_migration.specs.Migrations.{IsHistoryOfBoth, IsMigrated, WritesOverNothing};
 ghost use Rattle.journal_migration.specs.Carrying.{AreNewBooks, AreWhole};
 ghost use Rattle.journal_migration.specs.Writing.{IsWrittenAs};
 ghost use Rattle.journal_migration.specs.Renumbering.{AreAllIn, moved_entries};
-ghost use Rattle.journal_migration.specs.Stops.{LeavesNoneOrWhole};
+ghost use Rattle.journal_migration.specs.Stops.{StopsLeave};
 
 use crate::carrying::{Books, read_old, start_books};
 use crate::gone::{Principal, first_gone};
@@ -18,8 +18,8 @@ use std::alloc::Global;
 use std::marker::Brand;
 use std::sync::ledger::{Blank, Ledger};
 
-/// How the carrying of a journal over to other users ended. The new file is written at `Done`, `NotBegun` and
-/// `NewFailed` alone.
+/// How the carrying of a journal over to other users ended. Something is done to the new file at `Done`,
+/// `NotBegun` and `NewFailed` alone.
 #[derive(Clone, Copy, PartialEq, Eq, Debug)]
 pub enum Migrated {
     /// The new file stands for all changes of the old one.
@@ -40,7 +40,8 @@ pub enum Migrated {
     NotEmpty(u64),
     /// A call of the old file's disk failed, and was counted.
     OldFailed,
-    /// A call of the new file's disk failed while the file was begun, and was counted: it has no change.
+    /// A call of the new file's disk failed before the file was begun, and was counted: it is as it was; or it
+    /// had no octets, and then it has no change, but before its first sync a stop may have left anything.
     NotBegun,
     /// A later call failed, and was counted. What the file has is no journal, or the whole one.
     NewFailed,
@@ -53,8 +54,9 @@ pub enum Migrated {
 /// order and with their statuses. Users and groups are mapped by their names, and each old one has to be
 /// among the new. Both books have to accept each change as it was before anything is written.
 ///
-/// The old file is only read. From the moment that the new one is begun, with a blank in the place of its mark,
-/// a stop at any moment leaves what is no journal, or the whole one.
+/// The old file is only read, and a new one that has octets already is not written. Once a blank is on the disk
+/// in the place of the new file's mark, which comes before all else that is done to it, a stop at any moment
+/// leaves what is no journal, or the whole one. Before that a stop may leave anything.
 /// Gives the disks back: the old file's, and the new one's. Takes memory for both books at once; the time
 /// grows with the number of changes as that of a start does, twice.
 pub fn migrate<D: Disk>(
@@ -65,9 +67,13 @@ pub fn migrate<D: Disk>(
     to: D,
 ) -> (Migrated, D, D)
     ensures end { IsMigrated D.past D.faults old_users new_users from to result.1 result.2 result.0 }
+
+    // At any moment: the old file is as it was, or was synced; and what a stop leaves of the new one.
     ensures only_read { IsUnwritten (D.past from) (D.past result.1) }
-    ensures untouched { IsWriting result.0 ⊎ (D.past result.2 ≡ D.past to) }
-    ensures stops { (result.0 ≡ Migrated.Done) ⊎ (result.0 ≡ Migrated.NewFailed) → IfSome (D.past result.2) (LeavesNoneOrWhole old_users new_users (D.past from)) }
+    ensures over_nothing { WritesOverNothing (D.past to) (D.past result.2) }
+    ensures stops { StopsLeave old_users new_users (D.past from) (D.past to) (D.past result.2) result.0 }
+
+    // No count falls.
     ensures old_never_falls { D.faults from ≤ D.faults result.1 }
     ensures new_never_falls { D.faults to ≤ D.faults result.2 }
 {
@@ -94,8 +100,8 @@ fn migrate_under<D: Disk, G: Ledger>(
     requires all { AreAllIn old_users.now new_users.now }
     ensures end { IsMigrated D.past D.faults old_users.now new_users.now from to result.1 result.2 result.0 }
     ensures only_read { IsUnwritten (D.past from) (D.past result.1) }
-    ensures untouched { IsWriting result.0 ⊎ (D.past result.2 ≡ D.past to) }
-    ensures stops { (result.0 ≡ Migrated.Done) ⊎ (result.0 ≡ Migrated.NewFailed) → IfSome (D.past result.2) (LeavesNoneOrWhole old_users.now new_users.now (D.past from)) }
+    ensures over_nothing { WritesOverNothing (D.past to) (D.past result.2) }
+    ensures stops { StopsLeave old_users.now new_users.now (D.past from) (D.past to) (D.past result.2) result.0 }
     ensures old_never_falls { D.faults from ≤ D.faults result.1 }
     ensures new_never_falls { D.faults to ≤ D.faults result.2 }
 {
@@ -126,8 +132,8 @@ fn migrate_in<D: Disk, G: Ledger>(
     requires begun { AreNewBooks old_users.now new_users.now books.old }
     ensures end { IsMigrated D.past D.faults old_users.now new_users.now from to result.1 result.2 result.0 }
     ensures only_read { IsUnwritten (D.past from) (D.past result.1) }
-    ensures untouched { IsWriting result.0 ⊎ (D.past result.2 ≡ D.past to) }
-    ensures stops { (result.0 ≡ Migrated.Done) ⊎ (result.0 ≡ Migrated.NewFailed) → IfSome (D.past result.2) (LeavesNoneOrWhole old_users.now new_users.now (D.past from)) }
+    ensures over_nothing { WritesOverNothing (D.past to) (D.past result.2) }
+    ensures stops { StopsLeave old_users.now new_users.now (D.past from) (D.past to) (D.past result.2) result.0 }
     ensures old_never_falls { D.faults from ≤ D.faults result.1 }
     ensures new_never_falls { D.faults to ≤ D.faults result.2 }
 {

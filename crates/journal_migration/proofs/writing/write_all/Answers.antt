@@ -4,7 +4,8 @@ use Rattle.cal_base.specs.World.Outside.{Rose}
 use Rattle.cal_keeper.specs.Disks.CrashModel.{LeavesOnly}
 use Rattle.cal_keeper.specs.Files.Drafts.{IsNoneOrWhole}
 use Rattle.cal_model.specs.History.Journal.{Entry}
-use Rattle.journal_migration.specs.Writing.{IsDraftSoFar, Since}
+use Rattle.journal_migration.specs.Stops.{Since}
+use Rattle.journal_migration.specs.Writing.{IsDraftSoFar}
 use Rattle.journal_migration.proofs.OpenLaws.{rose_since}
 use Rattle.journal_migration.proofs.WriteLaws.{none_so_far, one_more, failed_at, whole_since, unsealed}
 use Rattle.journal_migration.proofs.writing.write_all.Goals as goal
