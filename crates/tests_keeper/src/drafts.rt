@@ -162,25 +162,30 @@ fn a_file_written_whole_is_as_one_appended_to(rt: HostRuntime) -> Result<(), Fai
     Ok(())
 }
 
-/// What is found after a stop within a call, of `calls` in all, the last two of which write the mark and
-/// sync it.
-fn found_after_stop(call: u64, calls: u64, written: bool) -> (u32, Ending) {
+/// What is found of some records after a stop within a call, of `calls` in all, the last two of which write
+/// the mark and sync it.
+fn found_after_stop(records: u32, call: u64, calls: u64, written: bool) -> (u32, Ending) {
     if written && calls.saturating_sub(call) <= 2 {
-        (3, Ending::End)
+        (records, Ending::End)
     } else {
         (0, Ending::NotJournal)
     }
 }
 
-/// How many stops, written and not, leave what they should.
-fn count_right_stops(alloc: Global, users: &Users, disk: &MemoryDisk) -> Result<u64, NoMemory> {
+/// How many stops, written and not, in the writing of a file with some records leave what they should.
+pub(super) fn count_right_stops(
+    alloc: Global,
+    users: &Users,
+    disk: &MemoryDisk,
+    records: u32,
+) -> Result<u64, NoMemory> {
     let calls = disk.calls();
     let mut count = 0u64;
     for call in 0..calls {
         let torn = found_of_stop(alloc, users, disk, call, false)?;
         let whole = found_of_stop(alloc, users, disk, call, true)?;
-        if torn == found_after_stop(call, calls, false)
-            && whole == found_after_stop(call, calls, true)
+        if torn == found_after_stop(records, call, calls, false)
+            && whole == found_after_stop(records, call, calls, true)
         {
             count = count.wrapping_add(1);
         }
@@ -191,7 +196,7 @@ fn count_right_stops(alloc: Global, users: &Users, disk: &MemoryDisk) -> Result<
 /// How many calls write the file whole, and of how many of these a stop leaves what it should.
 fn stops_of_draft(alloc: Global, users: &Users) -> Result<(u64, u64), NoMemory> {
     let (disk, _) = draft_three(alloc, users, &[])?;
-    let right = count_right_stops(alloc, users, &disk);
+    let right = count_right_stops(alloc, users, &disk, 3);
     let calls = disk.calls();
     drop(disk);
     Ok((calls, right?))
