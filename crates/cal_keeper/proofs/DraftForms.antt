@@ -84,9 +84,9 @@ text_behind text ok laid new there stays puts =
       },
     )
 
-pub draft_begun : (text : List ℕ) (ok : Bool) (old laid settled new : Option Past) → laid ≡ option_map (after_write 0 blank) old → settled ≡ option_map synced laid → Puts 16 (long_text text) ok settled new → LaysBlank text ok old new
-draft_begun text ok None laid settled new is settles puts = subst (λ (told : Option Past). Puts 16 (long_text text) ok told new) (settles ∙ ap (option_map synced) is) puts
-draft_begun text ok (Some old) laid settled new is settles puts =
+pub draft_begun : (text : List ℕ) (ok : Bool) (old laid settled new : Option Past) → laid ≡ option_map (after_write 0 blank) old → Puts 16 (long_text text) ok settled new → settled ≡ option_map synced laid → LaysBlank text ok old new
+draft_begun text ok None laid settled new is puts settles = subst (λ (told : Option Past). Puts 16 (long_text text) ok told new) (settles ∙ ap (option_map synced) is) puts
+draft_begun text ok (Some old) laid settled new is puts settles =
     let puts : Puts 16 (long_text text) ok (Some (with_blank old)) new = subst (λ (told : Option Past). Puts 16 (long_text text) ok told new) (settles ∙ ap (option_map synced) is) puts in (
       puts.0,
       puts.1,

@@ -125,7 +125,8 @@ fn each_call_of_the_new_disk_that_fails_is_told(rt: HostRuntime) -> Result<(), F
     let (_, _, (calls, _)) = stops_of_run(rt.alloc(), &users)?;
     for call in 0..calls {
         let (end, stays, found, _) = failing_run(rt.alloc(), &users, &[], &[call])?;
-        // The first five calls begin the file. Without the last sync the file may be whole, and is not acknowledged.
+        // The first five calls begin the file. Without the last sync it may be whole, and is not
+        // acknowledged.
         let told = if call < 5 {
             Migrated::NotBegun
         } else {

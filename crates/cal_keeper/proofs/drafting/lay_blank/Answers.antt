@@ -15,4 +15,4 @@ returns-in_err-sync-clause-lays g c =
     (blank_unsettled c.args.text.now _ _ _ c.in_ok-write_at.ensures.written c.in_err-sync.ensures.past_kept)
 
 pub returns-clause-lays : goal.returns-clause-lays
-returns-clause-lays g c = draft_begun c.args.text.now _ _ _ _ _ c.in_ok-write_at.ensures.written c.in_ok-sync.ensures.settled c.put_long.ensures.puts
+returns-clause-lays g c = draft_begun c.args.text.now _ _ _ _ _ c.in_ok-write_at.ensures.written c.put_long.ensures.puts (search rules)
