@@ -12,7 +12,7 @@ The server is started on the loopback address with 500 events. Then N clients (1
 - send garbage, a head without end, a body that is not what was said, or 200 requests at once and go;
 - connect and say nothing; or wait idle behind a reply;
 - ask with a wrong password, as fast as they can;
-- ask for what takes about a second of a processor (the families of bench/worst.py, each in a calendar of its own), and
+- ask for what takes up to a second of a processor (the families of bench/worst.py, each in a calendar of its own), and
   wait for the answer or go at once.
 
 Beside them a client that behaves asks, each time on a new connection, for an object, for a month, and for the members of
@@ -30,7 +30,7 @@ import argparse, base64, os, random, re, socket, struct, subprocess, sys, tempfi
 
 sys.path.insert(0, os.path.dirname(os.path.abspath(__file__)))
 sys.dont_write_bytecode = True
-from worst import alarms, busy, expanded_often, named_days, repeated_days, texts, zone_of_put, zone_of_query
+from worst import alarms, busy, expanded_often, named_days, repeated_days, sparse_alarms, texts, zone_of_put, zone_of_query
 
 TOP = os.path.dirname(os.path.dirname(os.path.abspath(__file__)))
 HASH = "ba7816bf8f01cfea414140de5dae2223b00361a396177a9cb410ff61f20015ad"
@@ -71,12 +71,12 @@ ASKED = [
 ]
 
 
-# What takes about a second: the object that is stored before, how often, and the request.
-DEAR = [alarms(40), zone_of_query(35), zone_of_put(35), repeated_days(500), named_days(50), texts(500), busy(8), expanded_often(1500)]
+# What takes up to a second: the object that is stored before, how often, and the request.
+DEAR = [alarms(3_000), sparse_alarms(40), zone_of_query(1), zone_of_put(1), repeated_days(40_000), named_days(50), texts(5_000), busy(8), expanded_often(1_500)]
 
 
 def dear_requests():
-    """The requests that make the calendars of the dear cases, and of each case the one that takes about a second."""
+    """The requests that make the calendars of the dear cases, and of each case the one that takes that long."""
     made, asked = [], []
     for number, case in enumerate(DEAR):
         path = f"/calendars/alice/dear{number}/"
