@@ -1,7 +1,8 @@
 //! Steps of rules, and the table of a zone, with both bodies that find the next moment of a rule.
 ghost use Rattle.std.specs.Prelude.{◌≡◌, ◌<◌, ◌≤◌, ◌*◌, All, IfOk, false};
 ghost use Rattle.std.specs.Int.{IsInRange};
-ghost use Rattle.cal_model.specs.Recurrence.NextPassing.{IsWritten, IsUsable, IsDayPart, end_day, is_fine};
+ghost use Rattle.cal_model.specs.Recurrence.NextPassing.{end_day, is_fine};
+ghost use Rattle.cal_model.specs.Recurrence.RuleBounds.{IsWritten, IsUsable, IsDayPart};
 ghost use Rattle.cal_model.specs.TimeZones.TableBounds.{IsOffset, IsPart};
 ghost use Rattle.cal_model.specs.Values.LocalTimes.{moment_of_local};
 ghost use Rattle.cal_model.specs.Words.Lists.{is_empty};

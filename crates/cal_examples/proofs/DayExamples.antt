@@ -4,7 +4,7 @@ use Rattle.cal_examples.proofs.ZoneExamples.{written}
 use Rattle.cal_model.specs.declared.rule.Until.{Until}
 use Rattle.cal_model.specs.declared.rule.Until.TheVariants.{Day}
 use Rattle.std.specs.Prelude.{Some}
-use Rattle.cal_model.specs.Recurrence.NextPassing.{IsWrittenUntil}
+use Rattle.cal_model.specs.Recurrence.RuleBounds.{IsWrittenUntil}
 use Rattle.cal_model.specs.Recurrence.RecurrenceSet.{utc_reading, last_written}
 use Rattle.cal_moment.specs.Calendar.{moment_of_date}
 use Rattle.cal_model.specs.Instances.Alignment.{midnight_of, names_start, on_day}

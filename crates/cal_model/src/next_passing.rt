@@ -3,7 +3,8 @@
 ghost use Rattle.std.specs.Prelude.{◌≡◌, ℕ, Bool, false, ◌*◌, IfSome, IfNone};
 ghost use Rattle.cal_model.specs.declared.rule.Rule.{Rule as RuleSpec};
 ghost use Rattle.cal_model.specs.Values.LocalTimes.{moment_of_local};
-ghost use Rattle.cal_model.specs.Recurrence.NextPassing.{end_day, is_fine, IsWritten, IsUsable, NonePasses, IsNextPassing};
+ghost use Rattle.cal_model.specs.Recurrence.NextPassing.{end_day, is_fine, NonePasses, IsNextPassing};
+ghost use Rattle.cal_model.specs.Recurrence.RuleBounds.{IsWritten, IsUsable};
 
 use crate::rule::Rule;
 use cal_moment::Local;

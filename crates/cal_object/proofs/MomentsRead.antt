@@ -11,7 +11,7 @@ use Rattle.cal_moment.specs.declared.stamp.Period.{Period}
 use Rattle.cal_moment.specs.declared.stamp.PeriodEnd.{PeriodEnd}
 use Rattle.cal_moment.specs.declared.stamp.Stamp.{Stamp}
 use Rattle.cal_moment.specs.declared.stamp.Stamp.TheVariants.{Date, Utc}
-use Rattle.cal_model.specs.Recurrence.NextPassing.{IsWritten}
+use Rattle.cal_model.specs.Recurrence.RuleBounds.{IsWritten}
 use Rattle.cal_model.specs.Values.ValueTexts.{date_of, date_time_of, utc_of_local, moment_of, cut}
 use Rattle.cal_model.specs.Values.StampTexts.{stamp_of_time, time_stamp, utc_stamp, stamp_of, stamps_in_grammar, is_one_of, utc_names, is_date_text, line_zone, items_of, period_of_ends, written_period_end, period_with, period_of, periods_in_grammar}
 use Rattle.cal_model.specs.Objects.ComponentLines.{all_of}

@@ -14,7 +14,7 @@ use Rattle.cal_moment.specs.declared.stamp.Stamp.{Stamp}
 use Rattle.cal_moment.specs.declared.stamp.Stamp.TheVariants.{Date, Utc}
 use Rattle.cal_model.specs.Filters.DateProperties.{as_floating}
 use Rattle.cal_model.specs.Instances.Alignment.{written_value}
-use Rattle.cal_model.specs.Recurrence.NextPassing.{IsWritten}
+use Rattle.cal_model.specs.Recurrence.RuleBounds.{IsWritten}
 use Rattle.cal_model.specs.Values.LocalTimes.{local_seconds}
 use Rattle.cal_model.specs.Values.ValueTexts.{date_of, date_time_of, moment_of, utc_of_local}
 use Rattle.cal_model.specs.Values.StampTexts.{stamp_of_time, time_stamp, utc_stamp, stamp_of, stamps_in_grammar, stamps_of, is_known, if_known, is_one_of, utc_names, is_date_text, line_zone, items_of}

@@ -6,7 +6,8 @@ use Rattle.cal_moment.specs.declared.stamp.PeriodEnd.TheVariants.{At, After}
 use Rattle.cal_model.specs.declared.object.Component.{Component}
 use Rattle.cal_model.specs.declared.rule.Rule.{Rule}
 use Rattle.cal_model.specs.Objects.ObjectFacts.{IsServed}
-use Rattle.cal_model.specs.Recurrence.NextPassing.{IsUsable, is_fine}
+use Rattle.cal_model.specs.Recurrence.NextPassing.{is_fine}
+use Rattle.cal_model.specs.Recurrence.RuleBounds.{IsUsable}
 use Rattle.override_merge.specs.Conversions.{HasConvertibleRow, IsConvertible, IsShortLength}
 
 -- the ends of an RDATE period

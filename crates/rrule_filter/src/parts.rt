@@ -2,7 +2,7 @@
 ghost use Rattle.std.specs.Prelude.{◌≡◌, ℕ, ◌+◌, ◌-◌, ◌*◌, ◌/◌, ◌%◌, ◌<◌, ◌≤◌};
 ghost use Rattle.std.specs.List.{list_any};
 ghost use Rattle.cal_moment.specs.Calendar as cal;
-ghost use Rattle.cal_model.specs.Recurrence.NextPassing.{IsUsable};
+ghost use Rattle.cal_model.specs.Recurrence.RuleBounds.{IsUsable};
 ghost use Rattle.cal_model.specs.Words.Integers as integers;
 ghost use Rattle.cal_model.specs.Words.Lists as lists;
 ghost use Rattle.cal_model.specs.Recurrence.Passing as spec;

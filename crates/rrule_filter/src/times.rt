@@ -1,7 +1,8 @@
 //! The times of a day that a rule asks for, hour by hour, minute by minute (RFC 5545, 3.3.10).
 ghost use Rattle.std.specs.Prelude.{◌≡◌, ℕ, ◌+◌, ◌-◌, ◌*◌, ◌/◌, ◌%◌, ◌<◌, ◌≤◌, true, false};
 ghost use Rattle.cal_model.specs.Words.Lists as lists;
-ghost use Rattle.cal_model.specs.Recurrence.NextPassing.{IsUsable, is_fine};
+ghost use Rattle.cal_model.specs.Recurrence.NextPassing.{is_fine};
+ghost use Rattle.cal_model.specs.Recurrence.RuleBounds.{IsUsable};
 ghost use Rattle.cal_model.specs.Recurrence.Passing as spec;
 ghost use Rattle.rrule_filter.specs.StartMoment.{moment_of};
 ghost use Rattle.cal_model.proofs.Recurrence.DayTimes.{Finds, hour_opens};

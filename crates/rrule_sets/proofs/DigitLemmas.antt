@@ -12,7 +12,8 @@ use Rattle.cal_model.specs.declared.zone.ZoneTable.{ZoneTable}
 use Rattle.cal_moment.specs.declared.stamp.Local.{Local}
 use Rattle.cal_model.specs.Values.LocalTimes.{local_seconds, moment_of_local}
 use Rattle.cal_model.proofs.Walks.KeptLemmas.{seconds_of_written}
-use Rattle.cal_model.specs.Recurrence.NextPassing.{IsWritten, end_day}
+use Rattle.cal_model.specs.Recurrence.NextPassing.{end_day}
+use Rattle.cal_model.specs.Recurrence.RuleBounds.{IsWritten}
 use Rattle.cal_model.specs.Recurrence.RecurrenceSet.{Reading, later_moments, every_moment, first_moment}
 use Rattle.cal_model.specs.Walks.KeptMoments.{starts_by, starts_between}
 use Rattle.cal_moment.specs.declared.stamp.Stamp.TheVariants.{Date, Floating, Zoned, Utc}

@@ -10,7 +10,8 @@ use Rattle.cal_model.specs.declared.rule.Rule.{Rule}
 use Rattle.cal_model.specs.declared.rule.Freq.TheVariants.{Daily, Weekly}
 use Rattle.cal_model.specs.Words.Lists.{numbers_between}
 use Rattle.cal_model.specs.Recurrence.Passing.{passes, period_passes, day_passes, time_passes, week_number_of}
-use Rattle.cal_model.specs.Recurrence.NextPassing.{NonePasses, IsUsable, end_day}
+use Rattle.cal_model.specs.Recurrence.NextPassing.{NonePasses, end_day}
+use Rattle.cal_model.specs.Recurrence.RuleBounds.{IsUsable}
 use Rattle.cal_model.specs.Recurrence.RecurrenceSet.{Reading, every_moment, first_moment, found_moments, last_written, later_moments, until_passes}
 use Rattle.cal_model.specs.Walks.KeptMoments.{found_from, one_less, starts_by, wanted}
 use Rattle.cal_model.proofs.Walks.BeginLemmas.{wanted_of_kept}

@@ -2,7 +2,8 @@
 //! 3.3.10).
 ghost use Rattle.std.specs.Prelude.{◌≡◌, ◌⊎◌, ◌+◌, ◌*◌, ◌<◌, ◌≤◌, ◌^◌, ◌++◌, ℕ, ℤ, pos, ◌+ℤ◌, true, false, None, nat_le, nat_lt, ◌&&◌, ◌∷◌, [], if◌then◌else◌, Some, IfSome, OnOk};
 ghost use Rattle.cal_moment.specs.Calendar.{seconds_since_1970};
-ghost use Rattle.cal_model.specs.Recurrence.NextPassing.{IsUsable, IsWritten, end_day};
+ghost use Rattle.cal_model.specs.Recurrence.NextPassing.{end_day};
+ghost use Rattle.cal_model.specs.Recurrence.RuleBounds.{IsUsable, IsWritten};
 ghost use Rattle.cal_model.specs.Recurrence.Passing.{passes};
 ghost use Rattle.cal_model.specs.Recurrence.RecurrenceSet.{last_written};
 ghost use Rattle.cal_model.specs.Values.LocalTimes.{moment_of_local};

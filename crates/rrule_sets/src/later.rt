@@ -1,7 +1,8 @@
 //! The later starts of rules in a range of digits (RFC 5545, 3.8.5.3).
 ghost use Rattle.std.specs.Prelude.{◌≡◌, ℕ, ◌+◌, ◌*◌, ◌<◌, ◌≤◌, ◌++◌, length, flat_map, map, sum, count_by, All, OnOk, false};
 ghost use Rattle.cal_model.specs.declared.rule.Rule.{Rule};
-ghost use Rattle.cal_model.specs.Recurrence.NextPassing.{IsWritten, IsUsable, end_day, is_fine};
+ghost use Rattle.cal_model.specs.Recurrence.NextPassing.{end_day, is_fine};
+ghost use Rattle.cal_model.specs.Recurrence.RuleBounds.{IsWritten, IsUsable};
 ghost use Rattle.cal_model.specs.Recurrence.RecurrenceSet.{every_moment};
 ghost use Rattle.cal_model.specs.Objects.ObjectFacts.{IsServed};
 ghost use Rattle.cal_model.specs.Ranges.Cost.{passing_up_to};

@@ -2,7 +2,8 @@
 ghost use Rattle.std.specs.Prelude.{◌≡◌, ℕ, ◌*◌, ◌<◌, ◌≤◌, ◌<ℤ◌, ◌≤ℤ◌, pos, neg_ℤ, ◌+ℤ◌, ◌*ℤ◌, nat_le, nat_lt, int_le, int_lt};
 ghost use Rattle.cal_model.specs.Instances.Rows.{window_seconds};
 ghost use Rattle.cal_moment.specs.Calendar.{seconds_since_1970};
-ghost use Rattle.cal_model.specs.Recurrence.NextPassing.{IsWritten, end_day};
+ghost use Rattle.cal_model.specs.Recurrence.NextPassing.{end_day};
+ghost use Rattle.cal_model.specs.Recurrence.RuleBounds.{IsWritten};
 ghost use Rattle.cal_model.specs.Recurrence.RecurrenceSet.{first_moment};
 ghost use Rattle.cal_model.specs.Values.LocalTimes.{moment_of_local};
 ghost use Rattle.rrule_sets.specs.DigitRanges.{in_digits};

@@ -1,7 +1,8 @@
 //! The periods that INTERVAL lets count, and the steps from one to the next.
 ghost use Rattle.std.specs.Prelude.{◌≡◌, ℕ, ◌+◌, ◌-◌, ◌*◌, ◌/◌, ◌%◌, ◌<◌, ◌≤◌, true, false, if◌then◌else◌, min};
 ghost use Rattle.cal_moment.specs.Calendar as cal;
-ghost use Rattle.cal_model.specs.Recurrence.NextPassing.{IsUsable, NonePasses, is_fine};
+ghost use Rattle.cal_model.specs.Recurrence.NextPassing.{NonePasses, is_fine};
+ghost use Rattle.cal_model.specs.Recurrence.RuleBounds.{IsUsable};
 ghost use Rattle.cal_model.specs.Recurrence.Passing as spec;
 ghost use Rattle.rrule_step.specs.Periods.{is_counted, month_begin};
 ghost use Rattle.rrule_step.specs.Firsts.{NoneHolds};

@@ -3,7 +3,7 @@
 ghost use Rattle.std.specs.Prelude.{◌≡◌, ◌≢◌, ℕ, ◌+◌, ◌*◌, ◌/◌, ◌%◌, ◌^◌, ◌<◌, ◌≤◌, true, false, if◌then◌else◌, ◌==◌};
 ghost use Rattle.std.specs.List.{list_any};
 ghost use Rattle.cal_moment.specs.Calendar as cal;
-ghost use Rattle.cal_model.specs.Recurrence.NextPassing.{IsUsable};
+ghost use Rattle.cal_model.specs.Recurrence.RuleBounds.{IsUsable};
 ghost use Rattle.cal_model.specs.Recurrence.Passing as spec;
 ghost use Rattle.cal_model.specs.declared.rule.DayPart.{DayPart as SpecDayPart};
 ghost use Rattle.rrule_step.specs.Plans.{IsPlan};

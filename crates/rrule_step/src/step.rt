@@ -1,7 +1,8 @@
 //! The steps from month to month, and in a month from day to day.
 ghost use Rattle.std.specs.Prelude.{◌≡◌, ℕ, ◌+◌, ◌-◌, ◌*◌, ◌/◌, ◌%◌, ◌<◌, ◌≤◌, true, false, IfNone, IfSome, MatchOption, pos, neg_ℤ, ◌≤ℤ◌};
 ghost use Rattle.cal_moment.specs.Calendar as cal;
-ghost use Rattle.cal_model.specs.Recurrence.NextPassing.{IsWritten, IsUsable, NonePasses, IsNextPassing, end_day, is_fine};
+ghost use Rattle.cal_model.specs.Recurrence.NextPassing.{NonePasses, IsNextPassing, end_day, is_fine};
+ghost use Rattle.cal_model.specs.Recurrence.RuleBounds.{IsWritten, IsUsable};
 ghost use Rattle.cal_model.specs.Values.LocalTimes.{moment_of_local};
 ghost use Rattle.cal_model.specs.Recurrence.Passing as spec;
 ghost use Rattle.rrule_step.specs.StartMoment.{moment_of};

@@ -1,7 +1,7 @@
 //! BYWEEKNO: the weeks of the year that touch a month, each tested once (RFC 5545, 3.3.10).
 ghost use Rattle.std.specs.Prelude.{◌≡◌, ◌≢◌, ℕ, ◌+◌, ◌-◌, ◌*◌, ◌/◌, ◌%◌, ◌<◌, ◌≤◌, ◌==◌, true, false, if◌then◌else◌};
 ghost use Rattle.cal_moment.specs.Calendar as cal;
-ghost use Rattle.cal_model.specs.Recurrence.NextPassing.{IsUsable};
+ghost use Rattle.cal_model.specs.Recurrence.RuleBounds.{IsUsable};
 ghost use Rattle.cal_model.specs.Recurrence.Passing as spec;
 ghost use Rattle.cal_model.specs.Words.Integers as integers;
 ghost use Rattle.cal_model.specs.Words.Lists as lists;

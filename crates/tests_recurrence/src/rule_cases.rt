@@ -1,7 +1,8 @@
 //! Rules and moments to test with, whose parts keep their bounds.
 ghost use Rattle.std.specs.Prelude.{◌≡◌, ℕ, ◌+◌, ◌*◌, ◌<◌, ◌≤◌, All, IfSome, false, true};
 ghost use Rattle.std.specs.Int.{IsInRange};
-ghost use Rattle.cal_model.specs.Recurrence.NextPassing.{IsWritten, IsUsable, IsPlace, IsDayPart, is_fine, end_day};
+ghost use Rattle.cal_model.specs.Recurrence.NextPassing.{is_fine, end_day};
+ghost use Rattle.cal_model.specs.Recurrence.RuleBounds.{IsWritten, IsUsable, IsPlace, IsDayPart};
 ghost use Rattle.cal_model.specs.Values.LocalTimes.{moment_of_local};
 
 use cal_base::List;

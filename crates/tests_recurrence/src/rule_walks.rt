@@ -1,6 +1,7 @@
 //! The moments of rules: the examples of RFC 5545, 3.8.5.3, and the two bodies side by side.
 ghost use Rattle.std.specs.Prelude.{◌≡◌, ◌<◌, ◌≤◌, false, true, IfSome};
-ghost use Rattle.cal_model.specs.Recurrence.NextPassing.{IsWritten, IsUsable, is_fine};
+ghost use Rattle.cal_model.specs.Recurrence.NextPassing.{is_fine};
+ghost use Rattle.cal_model.specs.Recurrence.RuleBounds.{IsWritten, IsUsable};
 ghost use Rattle.cal_model.specs.Values.LocalTimes.{moment_of_local};
 
 use crate::rule_cases::{NONE, Parts, after, moment, rule_of};

@@ -1,6 +1,7 @@
 //! The tables of zones that calendars have.
 ghost use Rattle.std.specs.Prelude.{◌≡◌, ◌<◌, All, IfSome, false, true};
-ghost use Rattle.cal_model.specs.Recurrence.NextPassing.{IsWritten, IsWrittenUntil, IsUsable, is_fine};
+ghost use Rattle.cal_model.specs.Recurrence.NextPassing.{is_fine};
+ghost use Rattle.cal_model.specs.Recurrence.RuleBounds.{IsWritten, IsWrittenUntil, IsUsable};
 ghost use Rattle.cal_model.specs.TimeZones.TableBounds.{IsPart, IsOffset};
 
 use crate::rule_cases::{NONE, Parts, moment, rule_of};

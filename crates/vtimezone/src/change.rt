@@ -1,6 +1,7 @@
 //! A change of a zone's offset (RFC 5545, 3.6.5).
 ghost use Rattle.std.specs.Prelude.{◌≡◌, ◌++◌, ◌∷◌, [], ◌*◌, nat_lt, OnOk};
-ghost use Rattle.cal_model.specs.Recurrence.NextPassing.{IsWritten, end_day};
+ghost use Rattle.cal_model.specs.Recurrence.NextPassing.{end_day};
+ghost use Rattle.cal_model.specs.Recurrence.RuleBounds.{IsWritten};
 ghost use Rattle.cal_model.specs.Values.LocalTimes.{moment_of_local};
 ghost use Rattle.cal_model.specs.TimeZones.TableBounds.{IsPart};
 ghost use Rattle.vtimezone.specs.Gathered as spec;

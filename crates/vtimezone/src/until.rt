@@ -1,7 +1,8 @@
 //! Where the walk of a rule of a zone ends (RFC 5545, 3.3.10).
 ghost use Rattle.std.specs.Prelude.{◌≡◌, ℕ, true, ◌+◌, ◌*◌, ◌<◌, Some, ℤ, pos, neg_ℤ, ◌+ℤ◌, ◌*ℤ◌, ◌≤ℤ◌, ◌<ℤ◌};
 ghost use Rattle.cal_moment.specs.Calendar.{IsCalendarMoment, day_number};
-ghost use Rattle.cal_model.specs.Recurrence.NextPassing.{IsWritten, IsWrittenUntil, end_day};
+ghost use Rattle.cal_model.specs.Recurrence.NextPassing.{end_day};
+ghost use Rattle.cal_model.specs.Recurrence.RuleBounds.{IsWritten, IsWrittenUntil};
 ghost use Rattle.cal_model.specs.Recurrence.RecurrenceSet.{not_past, onset_reading, until_passes};
 ghost use Rattle.cal_model.specs.Values.LocalTimes.{moment_of_local};
 ghost use Rattle.cal_model.specs.TimeZones.TableBounds.{IsOffset};

@@ -33,7 +33,7 @@ use Rattle.cal_model.specs.Ranges.Overlap.{seconds_of}
 use Rattle.cal_model.specs.Words.Lists.{is_empty}
 use Rattle.cal_model.specs.Instances.Rows.{masters}
 use Rattle.cal_model.specs.Recurrence.RecurrenceSet.{every_moment}
-use Rattle.cal_model.specs.Recurrence.NextPassing.{IsUsable}
+use Rattle.cal_model.specs.Recurrence.RuleBounds.{IsUsable}
 use Rattle.cal_model.specs.Ranges.Nearness.{IsTimed}
 use Rattle.cal_model.specs.Values.RuleTexts.{rule_of}
 use Rattle.cal_model.proofs.Objects.RuleBounds.{IsUsable-rule_of}

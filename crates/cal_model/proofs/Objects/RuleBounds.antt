@@ -18,7 +18,7 @@ use Rattle.cal_model.specs.declared.rule.Freq.{Freq}
 use Rattle.cal_model.specs.declared.rule.Rule.{Rule}
 use Rattle.cal_model.specs.declared.rule.Until.{Until}
 use Rattle.cal_model.specs.declared.rule.Until.TheVariants.{Day as UntilDay}
-use Rattle.cal_model.specs.Recurrence.NextPassing.{IsPlace, IsDayPart, IsWritten, IsWrittenUntil, IsUsable}
+use Rattle.cal_model.specs.Recurrence.RuleBounds.{IsPlace, IsDayPart, IsWritten, IsWrittenUntil, IsUsable}
 use Rattle.cal_model.specs.Values.ValueTexts.{integer_of, date_of, date_time_of}
 use Rattle.cal_model.specs.Values.RuleTexts.{Part, weekdays, weekday_named, if_between, number_of, if_place, place_number, second_number, ordinal_of, day_part, day_of, until_of, until_time, freq_of, list_of, is_part_named, meanings, with_part, with_parts, every_time, if_allowed, is_allowed, rule_of_freq, rule_of_parts, rule_parts, freq_in, is_each_once, rule_in_grammar, if_within_bound, is_within_bound, rule_of}
 use Rattle.cal_model.proofs.Words.EachLemmas.{both_hold}

@@ -9,7 +9,7 @@ use Rattle.cal_moment.proofs.CalendarLaws.{first_of_year-le, day_of_date-within}
 use Rattle.cal_moment.specs.declared.stamp.Day.{Day}
 use Rattle.cal_moment.specs.declared.stamp.Local.{Local}
 use Rattle.cal_moment.specs.Texts.{date_text, time_text, utc_text}
-use Rattle.cal_model.specs.Recurrence.NextPassing.{IsWritten}
+use Rattle.cal_model.specs.Recurrence.RuleBounds.{IsWritten}
 use Rattle.cal_model.specs.Values.ValueTexts.{number_at, is_calendar_date, is_clock_time, date_of, time_of, date_time_of, local_time}
 use Rattle.cal_model.proofs.Words.EachLemmas.{both_hold}
 

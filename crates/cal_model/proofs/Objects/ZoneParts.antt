@@ -7,7 +7,8 @@ use Rattle.std.proofs.lemmas.Option.{none-some, cond_some}
 use Rattle.cal_moment.specs.Calendar.{IsBetween, day_since_1970, IsCalendarMoment, moment_of_seconds, seconds_since_1970, day_of_moment, second_of_day}
 use Rattle.cal_moment.proofs.CalendarLaws.{seconds_since_1970-moment_of_seconds}
 use Rattle.cal_moment.specs.declared.stamp.Local.{Local}
-use Rattle.cal_model.specs.Recurrence.NextPassing.{IsWritten, IsUsable, is_fine}
+use Rattle.cal_model.specs.Recurrence.NextPassing.{is_fine}
+use Rattle.cal_model.specs.Recurrence.RuleBounds.{IsWritten, IsUsable}
 use Rattle.std.specs.List.{AllByRecursion as Each}
 use Rattle.cal_base.specs.declared.line.Line.{Line}
 use Rattle.cal_moment.specs.declared.stamp.Stamp.{Stamp}

@@ -10,7 +10,8 @@ use Rattle.cal_model.specs.declared.rule.Freq.{Freq}
 use Rattle.cal_model.specs.declared.rule.Freq.TheVariants.{Secondly, Minutely, Hourly, Daily, Weekly, Monthly, Yearly}
 use Rattle.cal_model.specs.Words.Lists.{numbers_between, counted_from}
 use Rattle.cal_model.specs.Values.LocalTimes.{moment_of_local}
-use Rattle.cal_model.specs.Recurrence.NextPassing.{NonePasses, IsWritten, is_fine}
+use Rattle.cal_model.specs.Recurrence.NextPassing.{NonePasses, is_fine}
+use Rattle.cal_model.specs.Recurrence.RuleBounds.{IsWritten}
 use Rattle.cal_model.specs.Recurrence.Passing.{passes, period_number, period_passes, day_passes, time_passes}
 use Rattle.cal_model.specs.Recurrence.RecurrenceSet.{Reading}
 use Rattle.cal_model.specs.Walks.DayTimes.{times_of_day}

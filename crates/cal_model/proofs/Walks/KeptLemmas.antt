@@ -12,7 +12,8 @@ use Rattle.cal_model.specs.declared.rule.Rule.{Rule}
 use Rattle.cal_model.specs.Words.Lists.{is_empty, numbers_between, counted_from}
 use Rattle.cal_model.specs.Words.Integers.{some_names_place}
 use Rattle.cal_model.specs.Values.LocalTimes.{moment_of_local, local_seconds}
-use Rattle.cal_model.specs.Recurrence.NextPassing.{NonePasses, IsWritten, end_day}
+use Rattle.cal_model.specs.Recurrence.NextPassing.{NonePasses, end_day}
+use Rattle.cal_model.specs.Recurrence.RuleBounds.{IsWritten}
 use Rattle.cal_model.specs.Recurrence.Passing.{passes, period_number}
 use Rattle.cal_model.specs.Recurrence.RecurrenceSet.{Reading, found_moments, at_places, place_in_period, size_of_period}
 use Rattle.cal_model.proofs.Words.CountedLemmas.{numbers_between-cut, filter-none}

@@ -20,7 +20,7 @@ use Rattle.cal_model.specs.Words.Limits.{first_date, last_date}
 use Rattle.cal_model.specs.Instances.Alignment.{written_value}
 use Rattle.cal_model.specs.Ranges.Nearness.{IsTimed}
 use Rattle.cal_model.specs.Ranges.Overlap.{seconds_of}
-use Rattle.cal_model.specs.Recurrence.NextPassing.{IsUsable}
+use Rattle.cal_model.specs.Recurrence.RuleBounds.{IsUsable}
 use Rattle.cal_model.specs.Values.StampTexts.{is_known}
 use Rattle.cal_model.specs.TimeZones.TableBounds.{IsPart}
 use Rattle.cal_model.specs.TimeZones.ZoneOnsets.{table_of}

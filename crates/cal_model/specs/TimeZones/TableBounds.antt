@@ -6,7 +6,8 @@ use Rattle.cal_model.specs.declared.rule.Rule.{Rule}
 use Rattle.cal_model.specs.declared.zone.Onset.{Onset}
 use Rattle.cal_model.specs.declared.zone.ZonePart.{ZonePart}
 use Rattle.cal_model.specs.declared.zone.ZoneTable.{ZoneTable}
-use Rattle.cal_model.specs.Recurrence.NextPassing.{IsWritten, IsUsable, is_fine}
+use Rattle.cal_model.specs.Recurrence.NextPassing.{is_fine}
+use Rattle.cal_model.specs.Recurrence.RuleBounds.{IsWritten, IsUsable}
 
 -- the onsets stand in rising order, at distinct moments
 pub record IsRising (onsets : List Onset) : Type 0 where

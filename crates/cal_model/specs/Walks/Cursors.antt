@@ -1,7 +1,8 @@
 -- Places among the moments of a rule.
 use Rattle.std.specs.Prelude.{◌≡◌, ℕ, ◌*◌, ◌<◌, ◌≤◌, Bool, true}
 use Rattle.cal_model.specs.declared.rule.Rule.{Rule}
-use Rattle.cal_model.specs.Recurrence.NextPassing.{IsWritten, end_day}
+use Rattle.cal_model.specs.Recurrence.NextPassing.{end_day}
+use Rattle.cal_model.specs.Recurrence.RuleBounds.{IsWritten}
 use Rattle.cal_model.specs.Values.LocalTimes.{moment_of_local}
 use Rattle.cal_model.specs.Recurrence.Passing.{passes}
 use Rattle.cal_model.specs.declared.walk.cursor.Cursor.{Cursor}

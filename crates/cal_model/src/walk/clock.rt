@@ -1,7 +1,7 @@
 //! How the local moments of a start are read (RFC 5545, 3.3.5).
 ghost use Rattle.std.specs.Prelude.{◌≡◌, true};
 ghost use Rattle.cal_moment.specs.Calendar.{seconds_since_1970};
-ghost use Rattle.cal_model.specs.Recurrence.NextPassing.{IsWritten};
+ghost use Rattle.cal_model.specs.Recurrence.RuleBounds.{IsWritten};
 ghost use Rattle.cal_model.specs.Values.LocalTimes.{moment_of_local, local_seconds};
 ghost use Rattle.cal_model.specs.TimeZones.TableBounds.{IsDigits};
 ghost use Rattle.cal_model.specs.Walks.Clocks.{reading_by, IsClock};

@@ -1,6 +1,7 @@
 //! The moments of a rule, taken one after the other.
 ghost use Rattle.std.specs.Prelude.{◌≡◌, ℕ, ◌+◌, ◌-◌, ◌*◌, ◌<◌, ◌≤◌, true, false, nat_lt, IfSome, IfNone, [], ◌∷◌, MatchOption, All};
-ghost use Rattle.cal_model.specs.Recurrence.NextPassing.{NonePasses, IsWritten, IsUsable, end_day, is_fine};
+ghost use Rattle.cal_model.specs.Recurrence.NextPassing.{NonePasses, end_day, is_fine};
+ghost use Rattle.cal_model.specs.Recurrence.RuleBounds.{IsWritten, IsUsable};
 ghost use Rattle.cal_model.specs.Values.LocalTimes.{moment_of_local};
 ghost use Rattle.cal_model.specs.Words.Lists.{is_empty};
 ghost use Rattle.cal_model.specs.Recurrence.Passing.{passes};

@@ -1,7 +1,8 @@
 //! The times of a day at which the moments of a rule stand (RFC 5545, 3.3.10).
 ghost use Rattle.std.specs.Prelude.{◌≡◌, ◌+◌, ◌*◌, ◌<◌, ◌++◌, false, filter, OnOk};
 ghost use Rattle.cal_model.specs.declared.rule.Freq.TheVariants.{Hourly};
-ghost use Rattle.cal_model.specs.Recurrence.NextPassing.{is_fine, IsUsable, IsWritten};
+ghost use Rattle.cal_model.specs.Recurrence.NextPassing.{is_fine};
+ghost use Rattle.cal_model.specs.Recurrence.RuleBounds.{IsUsable, IsWritten};
 ghost use Rattle.cal_model.specs.Recurrence.Passing.{part_passes};
 ghost use Rattle.cal_model.specs.Values.LocalTimes.{moment_of_local};
 ghost use Rattle.cal_model.specs.Walks.DayTimes.{minute_passes, second_passes, times_of_day, AreTimes};

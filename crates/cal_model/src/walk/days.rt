@@ -3,7 +3,8 @@
 ghost use Rattle.std.specs.Prelude.{◌≡◌, ◌+◌, ◌*◌, ◌<◌, ◌≤◌, ◌++◌, true, false, All, OnOk};
 ghost use Rattle.cal_moment.specs.Calendar.{day_of_moment};
 ghost use Rattle.cal_model.specs.declared.rule.Freq.TheVariants.{Hourly};
-ghost use Rattle.cal_model.specs.Recurrence.NextPassing.{IsWritten, end_day, is_fine};
+ghost use Rattle.cal_model.specs.Recurrence.NextPassing.{end_day, is_fine};
+ghost use Rattle.cal_model.specs.Recurrence.RuleBounds.{IsWritten};
 ghost use Rattle.cal_model.specs.Recurrence.Passing.{passes};
 ghost use Rattle.cal_model.specs.Values.LocalTimes.{moment_of_local};
 ghost use Rattle.cal_model.specs.Walks.Clocks.{reading_by, IsClock};

@@ -1,6 +1,7 @@
 //! The moments of a rule's set in order, with BYSETPOS or without (RFC 5545, 3.3.10).
 ghost use Rattle.std.specs.Prelude.{◌≡◌, ℕ, ◌+◌, ◌*◌, ◌<◌, ◌≤◌, true, false, [], ◌∷◌, OnOk, IfOk, IfSome, All, MatchOption};
-ghost use Rattle.cal_model.specs.Recurrence.NextPassing.{IsWritten, IsUsable, end_day, is_fine};
+ghost use Rattle.cal_model.specs.Recurrence.NextPassing.{end_day, is_fine};
+ghost use Rattle.cal_model.specs.Recurrence.RuleBounds.{IsWritten, IsUsable};
 ghost use Rattle.cal_model.specs.Values.LocalTimes.{moment_of_local};
 ghost use Rattle.cal_model.specs.Words.Lists.{is_empty};
 ghost use Rattle.cal_model.specs.Walks.Budgets.{left_to_take};

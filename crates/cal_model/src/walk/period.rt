@@ -1,7 +1,8 @@
 //! The period in which a moment lies (RFC 5545, 3.3.10).
 ghost use Rattle.std.specs.Prelude.{◌≡◌, ◌*◌, ◌<◌, ◌≤◌, false};
 ghost use Rattle.cal_moment.specs.Calendar as cal;
-ghost use Rattle.cal_model.specs.Recurrence.NextPassing.{IsWritten, IsUsable, is_fine};
+ghost use Rattle.cal_model.specs.Recurrence.NextPassing.{is_fine};
+ghost use Rattle.cal_model.specs.Recurrence.RuleBounds.{IsWritten, IsUsable};
 ghost use Rattle.cal_model.specs.Values.LocalTimes.{moment_of_local};
 ghost use Rattle.cal_model.specs.Walks.KeptMoments.{number_of, IsPeriodFirst};
 

@@ -1,6 +1,7 @@
 //! BYSETPOS: the moments of one period, and those of them that are picked (RFC 5545, 3.3.10).
 ghost use Rattle.std.specs.Prelude.{◌≡◌, ℕ, ◌+◌, ◌-◌, ◌*◌, ◌<◌, ◌≤◌, ◌^◌, true, false, ◌++◌, [], ◌∷◌, OnOk, if◌then◌else◌, All, AllPairs, length, drop, IfSome, MatchOption};
-ghost use Rattle.cal_model.specs.Recurrence.NextPassing.{NonePasses, IsWritten, IsUsable, end_day, is_fine};
+ghost use Rattle.cal_model.specs.Recurrence.NextPassing.{NonePasses, end_day, is_fine};
+ghost use Rattle.cal_model.specs.Recurrence.RuleBounds.{IsWritten, IsUsable};
 ghost use Rattle.cal_model.specs.Words.Lists as lists;
 ghost use Rattle.cal_model.specs.Values.LocalTimes.{moment_of_local};
 ghost use Rattle.cal_model.specs.declared.rule.Freq.TheVariants.{Hourly};

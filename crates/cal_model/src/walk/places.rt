@@ -2,7 +2,8 @@
 ghost use Rattle.std.specs.Prelude.{◌≡◌, ℕ, ◌*◌, ◌<◌, ◌≤◌, true, false, count_by};
 ghost use Rattle.std.specs.List.{list_any};
 ghost use Rattle.cal_model.specs.declared.rule.Freq.TheVariants.{Hourly, Monthly, Weekly, Yearly};
-ghost use Rattle.cal_model.specs.Recurrence.NextPassing.{IsUsable, is_fine};
+ghost use Rattle.cal_model.specs.Recurrence.NextPassing.{is_fine};
+ghost use Rattle.cal_model.specs.Recurrence.RuleBounds.{IsUsable};
 ghost use Rattle.cal_model.specs.Recurrence.Passing.{has_day_part, part_passes};
 ghost use Rattle.cal_model.specs.Walks.Places.{has_weekday, is_place_within, HasDaysAtMost, IsMostInPeriod, PicksNothing};
 ghost use Rattle.cal_model.specs.Words.Lists.{has_number, is_empty, numbers_between};

@@ -1,6 +1,7 @@
 //! The later moments of a rule's set that lie in a range, one after the other (RFC 5545, 3.8.5.3).
 ghost use Rattle.std.specs.Prelude.{◌≡◌, ◌⊎◌, ℕ, None, ◌+◌, ◌*◌, ◌<◌, ◌≤◌, Bool, true, false, ◌++◌, Some, List, [], filter, nat_le, nat_lt, ◌&&◌, if◌then◌else◌, count_by, OnOk, IfOk, IfSome, MatchOption, ◌∷◌};
-ghost use Rattle.cal_model.specs.Recurrence.NextPassing.{IsWritten, IsUsable, end_day, is_fine, IsWrittenUntil};
+ghost use Rattle.cal_model.specs.Recurrence.NextPassing.{end_day, is_fine};
+ghost use Rattle.cal_model.specs.Recurrence.RuleBounds.{IsWritten, IsUsable, IsWrittenUntil};
 ghost use Rattle.cal_model.specs.Values.LocalTimes.{moment_of_local};
 ghost use Rattle.cal_model.specs.Words.Lists.{is_empty};
 ghost use Rattle.cal_model.specs.Recurrence.RecurrenceSet.{Reading, every_moment, first_moment, last_written, later_moments};

@@ -1,6 +1,6 @@
 //! The places of BYSETPOS as tables that are made once for a walk (RFC 5545, 3.3.10).
 ghost use Rattle.std.specs.Prelude.{◌≡◌, ℕ, ℤ, List, ◌+◌, ◌<◌, ◌≤◌, ◌==◌, ◌||◌, false, All, slice_index_or};
-ghost use Rattle.cal_model.specs.Recurrence.NextPassing.{IsPlace};
+ghost use Rattle.cal_model.specs.Recurrence.RuleBounds.{IsPlace};
 ghost use Rattle.cal_model.specs.Walks.SetPlaces.{AreSetPlaces, is_back, is_front};
 ghost use Rattle.cal_model.specs.Words.Integers.{some_names_place};
 

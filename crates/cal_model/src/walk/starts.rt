@@ -1,6 +1,7 @@
 //! The starts that a rule gives in a range.
 ghost use Rattle.std.specs.Prelude.{◌≡◌, ℕ, ◌+◌, ◌*◌, ◌≤◌, false, List, ◌++◌, ◌∷◌, count_by, OnOk};
-ghost use Rattle.cal_model.specs.Recurrence.NextPassing.{IsWritten, IsUsable, end_day, is_fine};
+ghost use Rattle.cal_model.specs.Recurrence.NextPassing.{end_day, is_fine};
+ghost use Rattle.cal_model.specs.Recurrence.RuleBounds.{IsWritten, IsUsable};
 ghost use Rattle.cal_model.specs.Values.LocalTimes.{moment_of_local};
 ghost use Rattle.cal_model.specs.Recurrence.RecurrenceSet.{every_moment};
 ghost use Rattle.cal_model.specs.Walks.Budgets.{last_period, passes_by};

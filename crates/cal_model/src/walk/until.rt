@@ -1,11 +1,10 @@
 //! UNTIL (RFC 5545, 3.3.10).
 ghost use Rattle.std.specs.Prelude.{◌≡◌, Some, nat_le, nat_lt, pos, ◌*◌, ◌<◌, ◌^◌, ◌+ℤ◌, ◌≤ℤ◌};
 ghost use Rattle.cal_moment.specs.Calendar.{IsCalendarDay, IsCalendarMoment, day_number, day_of_moment, moment_of_seconds};
-ghost use Rattle.cal_model.specs.Recurrence.NextPassing.{IsWritten};
+ghost use Rattle.cal_model.specs.Recurrence.RuleBounds.{IsWritten, IsWrittenUntil};
 ghost use Rattle.cal_model.specs.Values.LocalTimes.{moment_of_local};
 ghost use Rattle.cal_model.specs.Recurrence.RecurrenceSet as spec;
 ghost use Rattle.cal_model.specs.Walks.Clocks.{reading_by, IsClock};
-ghost use Rattle.cal_model.specs.Recurrence.NextPassing.{IsWrittenUntil};
 
 use crate::rule::Until;
 use crate::walk::clock::Clock;

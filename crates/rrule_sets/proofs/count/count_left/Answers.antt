@@ -3,7 +3,8 @@ use Rattle.std.specs.Prelude.{length}
 use Rattle.cal_model.specs.declared.rule.Rule.{Rule}
 use Rattle.cal_model.specs.Instances.Starts.{own_start}
 use Rattle.cal_model.specs.Objects.ObjectFacts.{IsServed}
-use Rattle.cal_model.specs.Recurrence.NextPassing.{IsUsable, is_fine}
+use Rattle.cal_model.specs.Recurrence.NextPassing.{is_fine}
+use Rattle.cal_model.specs.Recurrence.RuleBounds.{IsUsable}
 use Rattle.override_merge.proofs.StampLemmas.{convertible_some, own_start_convertible}
 use Rattle.rrule_sets.proofs.CountLemmas.{rules_kept, rules_served}
 use Rattle.rrule_sets.proofs.NearLemmas.{recurring_start, served_start}

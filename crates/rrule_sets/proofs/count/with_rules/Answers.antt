@@ -4,7 +4,8 @@ use Rattle.std.proofs.lemmas.List.Elements.{All-head, All-tail}
 use Rattle.cal_model.specs.declared.rule.Rule.{Rule}
 use Rattle.cal_model.specs.Instances.Starts.{ascending}
 use Rattle.cal_model.specs.Objects.ObjectFacts.{IsServed}
-use Rattle.cal_model.specs.Recurrence.NextPassing.{IsUsable, is_fine}
+use Rattle.cal_model.specs.Recurrence.NextPassing.{is_fine}
+use Rattle.cal_model.specs.Recurrence.RuleBounds.{IsUsable}
 use Rattle.override_merge.specs.Conversions.{tables_of}
 use Rattle.rrule_sets.specs.CountedRows.{all_later, is_left}
 use Rattle.rrule_sets.proofs.CountLemmas.{rule_counted, rules_too_many}

@@ -3,7 +3,8 @@ use Rattle.std.specs.Prelude.{All, filter, flat_map}
 use Rattle.cal_model.specs.declared.rule.Rule.{Rule}
 use Rattle.cal_model.specs.Instances.Starts.{ascending}
 use Rattle.cal_model.specs.Objects.ObjectFacts.{IsServed}
-use Rattle.cal_model.specs.Recurrence.NextPassing.{IsUsable, is_fine}
+use Rattle.cal_model.specs.Recurrence.NextPassing.{is_fine}
+use Rattle.cal_model.specs.Recurrence.RuleBounds.{IsUsable}
 use Rattle.override_merge.specs.Conversions.{tables_of}
 use Rattle.rrule_sets.specs.CountedRows.{all_later, is_left}
 use Rattle.rrule_sets.proofs.count.with_rules.Given as goal

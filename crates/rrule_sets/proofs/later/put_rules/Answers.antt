@@ -7,7 +7,8 @@ use Rattle.cal_model.specs.Walks.Clocks.{reading_by}
 use Rattle.cal_model.specs.Walks.KeptMoments.{starts_between}
 use Rattle.std.proofs.lemmas.List.Elements.{All-head, All-tail}
 use Rattle.cal_model.specs.declared.rule.Rule.{Rule}
-use Rattle.cal_model.specs.Recurrence.NextPassing.{IsUsable, is_fine}
+use Rattle.cal_model.specs.Recurrence.NextPassing.{is_fine}
+use Rattle.cal_model.specs.Recurrence.RuleBounds.{IsUsable}
 use Rattle.rrule_sets.proofs.AskedLemmas.{more, counted_more}
 use Rattle.rrule_sets.proofs.later.put_rules.Goals as goal
 

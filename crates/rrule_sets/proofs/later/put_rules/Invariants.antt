@@ -1,7 +1,8 @@
 use Rattle.std.proofs.Common.{◌≡◌, ◌+◌, ◌≤◌, ◌++◌, length, map, false}
 use Rattle.std.specs.Prelude.{All, flat_map, sum, count_by}
 use Rattle.cal_model.specs.declared.rule.Rule.{Rule}
-use Rattle.cal_model.specs.Recurrence.NextPassing.{IsUsable, is_fine}
+use Rattle.cal_model.specs.Recurrence.NextPassing.{is_fine}
+use Rattle.cal_model.specs.Recurrence.RuleBounds.{IsUsable}
 use Rattle.cal_model.specs.Recurrence.RecurrenceSet.{every_moment}
 use Rattle.cal_model.specs.Values.LocalTimes.{moment_of_local}
 use Rattle.cal_model.specs.Walks.Budgets.{last_period, passes_by}

@@ -1,6 +1,6 @@
 use Rattle.std.proofs.Common.{◌<◌}
 use Rattle.std.specs.Prelude.{All}
-use Rattle.cal_model.specs.Recurrence.NextPassing.{IsPlace}
+use Rattle.cal_model.specs.Recurrence.RuleBounds.{IsPlace}
 use Rattle.tests_recurrence.proofs.rule_cases.places.Given as goal
 
 -- what was kept so far

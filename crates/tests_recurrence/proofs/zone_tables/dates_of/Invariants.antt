@@ -1,5 +1,5 @@
 use Rattle.std.specs.Prelude.{All}
-use Rattle.cal_model.specs.Recurrence.NextPassing.{IsWritten}
+use Rattle.cal_model.specs.Recurrence.RuleBounds.{IsWritten}
 use Rattle.tests_recurrence.proofs.zone_tables.dates_of.Given as goal
 
 -- what was kept so far

@@ -1,5 +1,5 @@
 use Rattle.std.proofs.Common.{◌∷◌, ◌++◌, [], map}
-use Rattle.cal_model.specs.Recurrence.NextPassing.{IsWritten}
+use Rattle.cal_model.specs.Recurrence.RuleBounds.{IsWritten}
 use Rattle.cal_model.specs.Values.LocalTimes.{moment_of_local}
 use Rattle.std.proofs.lemmas.List.Elements.{All-tail}
 use Rattle.vtimezone.specs.Gathered as spec

@@ -1,5 +1,5 @@
 use Rattle.std.proofs.Common.{◌≡◌, ◌++◌, map, All, length}
-use Rattle.cal_model.specs.Recurrence.NextPassing.{IsWritten}
+use Rattle.cal_model.specs.Recurrence.RuleBounds.{IsWritten}
 use Rattle.cal_model.specs.Values.LocalTimes.{moment_of_local}
 use Rattle.vtimezone.specs.Gathered as spec
 use Rattle.vtimezone.proofs.gather.add_dates.Given as goal

@@ -1,7 +1,8 @@
 use Rattle.std.proofs.Common.{◌≡◌, ◌++◌, false, flat_map, arith}
 use Rattle.std.proofs.lemmas.List.Elements.{All-head, All-tail}
 use Rattle.cal_model.specs.declared.rule.Rule.{Rule}
-use Rattle.cal_model.specs.Recurrence.NextPassing.{IsUsable, is_fine}
+use Rattle.cal_model.specs.Recurrence.NextPassing.{is_fine}
+use Rattle.cal_model.specs.Recurrence.RuleBounds.{IsUsable}
 use Rattle.cal_model.specs.Recurrence.RecurrenceSet.{every_moment}
 use Rattle.cal_model.specs.TimeZones.ZoneOnsets as zone
 use Rattle.vtimezone.specs.Gathered as spec

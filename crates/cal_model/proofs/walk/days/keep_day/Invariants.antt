@@ -1,7 +1,7 @@
 use Rattle.std.proofs.Common.{◌≡◌, ◌<◌, ◌*◌, ◌++◌, length}
 use Rattle.std.specs.Prelude.{All}
 use Rattle.cal_moment.specs.Calendar.{day_of_moment, second_of_day}
-use Rattle.cal_model.specs.Recurrence.NextPassing.{IsWritten}
+use Rattle.cal_model.specs.Recurrence.RuleBounds.{IsWritten}
 use Rattle.cal_model.specs.Values.LocalTimes.{moment_of_local}
 use Rattle.cal_model.specs.Walks.Clocks.{reading_by}
 use Rattle.cal_model.specs.Walks.KeptMoments.{moments_of}

@@ -1,6 +1,7 @@
 use Rattle.std.proofs.Common.{◌≡◌, ◌+◌, ◌-◌, ◌*◌, ◌≤◌, true}
 use Rattle.std.specs.Prelude.{All}
-use Rattle.cal_model.specs.Recurrence.NextPassing.{IsWritten, end_day}
+use Rattle.cal_model.specs.Recurrence.NextPassing.{end_day}
+use Rattle.cal_model.specs.Recurrence.RuleBounds.{IsWritten}
 use Rattle.cal_model.specs.Values.LocalTimes.{moment_of_local}
 use Rattle.cal_model.specs.Walks.Budgets.{left_to_take}
 use Rattle.cal_model.specs.Walks.Clocks.{reading_by}

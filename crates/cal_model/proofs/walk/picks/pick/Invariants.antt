@@ -1,6 +1,6 @@
 use Rattle.std.proofs.Common.{◌≡◌, ◌++◌, take}
 use Rattle.std.specs.Prelude.{All, filter}
-use Rattle.cal_model.specs.Recurrence.NextPassing.{IsWritten}
+use Rattle.cal_model.specs.Recurrence.RuleBounds.{IsWritten}
 use Rattle.cal_model.specs.Walks.KeptMoments.{moments_of}
 use Rattle.cal_model.proofs.Walks.PickLemmas.{is_picked}
 use Rattle.cal_model.proofs.walk.picks.pick.Given as goal
