@@ -13,7 +13,8 @@ use Rattle.cal_model.specs.declared.request.Request.{Request}
 use Rattle.cal_model.specs.History.Journal.{entry_of}
 use Rattle.cal_model.specs.History.KeptChanges.{is_deletion}
 use Rattle.cal_model.specs.Replies.BareReplies.{bare_reply}
-use Rattle.cal_model.specs.Requests.BookableRequests.{SizeIsTold, Suits}
+use Rattle.cal_model.specs.Requests.MethodContents.{Suits}
+use Rattle.cal_model.specs.Requests.ContentBounds.{SizeIsTold}
 use Rattle.cal_model.specs.Serving.EventReplies.{reply_to, reply_of, reply_to_change}
 use Rattle.cal_model.specs.Serving.Outcomes.{accepted, outcome}
 use Rattle.cal_model.specs.State.Changes.{Change, delete_object, delete_calendar, effect, change_of, change_of_object, change_of_calendar}

@@ -26,7 +26,7 @@ use Rattle.cal_model.specs.Refusals.ReportRefusals.{report_faults}
 use Rattle.cal_model.specs.Refusals.RequestLimits.{answer_limit}
 use Rattle.cal_model.specs.Refusals.SharedRefusals.{fault_of, held, is_conditional, is_missing, is_options, is_object_missing, makes_or_asks, need, shared_rows, unmet}
 use Rattle.cal_model.specs.Replies.BareReplies.{bare_reply}
-use Rattle.cal_model.specs.Requests.BookableRequests.{Suits, is_plain}
+use Rattle.cal_model.specs.Requests.MethodContents.{Suits, is_plain}
 use Rattle.cal_model.specs.Requests.Methods.{has_method}
 use Rattle.cal_model.specs.Serving.EventReplies.{reply_of, reply_to}
 use Rattle.cal_model.specs.Serving.Outcomes.{changed, is_reading, outcome, outcome_where, rows_of_change, scene_by, unless_refused}

@@ -17,7 +17,7 @@ use Rattle.cal_model.specs.History.Claims.{Work}
 use Rattle.cal_model.specs.History.Journal.{Entry, entry_of, IsLegal}
 use Rattle.cal_model.specs.History.RightPieces.{IsRight, live_pieces}
 use Rattle.cal_model.specs.Objects.ObjectReading.{first_there}
-use Rattle.cal_model.specs.Requests.BookableRequests.{Suits, refusals_of, own_refusals}
+use Rattle.cal_model.specs.Requests.MethodContents.{Suits, refusals_of, own_refusals}
 use Rattle.cal_model.specs.Serving.EventReplies.{reply_to, reply_of, state_of, state_after}
 use Rattle.cal_model.specs.Serving.Outcomes.{Outcome, accepted, unchanged, outcome, outcome_where, is_reading, rows_of_change, changed, scene_by}
 use Rattle.cal_model.specs.Serving.ServingLaws.{IsNoWant}

@@ -52,7 +52,8 @@ use Rattle.cal_model.specs.Paths.TargetPaths.{target_path}
 use Rattle.cal_model.specs.Replies.BareReplies.{bare_reply}
 use Rattle.cal_model.specs.Replies.Statuses.{reasons, reason}
 use Rattle.cal_model.specs.Requests.AskedRequests.{Asked, asked, refused, not_allowed, request_at, asked_by, asked_with, asked_of}
-use Rattle.cal_model.specs.Requests.BookableRequests.{Suits, refusals_of, IsBookable}
+use Rattle.cal_model.specs.Requests.BookableRequests.{IsBookable}
+use Rattle.cal_model.specs.Requests.MethodContents.{Suits, refusals_of}
 use Rattle.cal_model.specs.Requests.Methods.{has_method, method_of}
 use Rattle.cal_model.specs.Users.Credentials.{authenticated}
 use Rattle.cal_model.specs.Users.UsersFile.{Users}

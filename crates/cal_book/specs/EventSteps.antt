@@ -5,7 +5,7 @@ use Rattle.cal_model.specs.declared.request.Event.{Event}
 use Rattle.cal_model.specs.History.Claims.{Work, latest_after}
 use Rattle.cal_model.specs.History.Journal.{Entry, entry_of, replay, IsLegal}
 use Rattle.cal_model.specs.History.RightPieces.{live_pieces}
-use Rattle.cal_model.specs.Requests.BookableRequests.{SizeIsTold}
+use Rattle.cal_model.specs.Requests.ContentBounds.{SizeIsTold}
 use Rattle.cal_model.specs.Serving.EventReplies.{reply_to, state_after}
 use Rattle.cal_model.specs.Serving.Outcomes.{Outcome, accepted, outcome}
 use Rattle.cal_model.specs.State.Changes.{Change, change_of}

@@ -7,7 +7,8 @@ use Rattle.cal_model.specs.declared.privilege.Who.TheVariants.{Everyone, Owner, 
 use Rattle.cal_model.specs.Bodies.AclLaws.{IsAmong}
 use Rattle.cal_model.specs.History.Journal.{asked, request_for, replay_from, IsLegalFrom}
 use Rattle.cal_model.specs.Paths.TargetPaths.{is_path}
-use Rattle.cal_model.specs.Requests.BookableRequests.{GrantsAmong, SizeIsTold, ZoneIsShort, PropertiesAreFew, Suits}
+use Rattle.cal_model.specs.Requests.MethodContents.{Suits}
+use Rattle.cal_model.specs.Requests.ContentBounds.{GrantsAmong, SizeIsTold, ZoneIsShort, PropertiesAreFew}
 use Rattle.cal_model.specs.Requests.Methods.{has_method}
 use Rattle.cal_model.specs.Serving.Outcomes.{outcome, outcome_where, is_reading, accepted}
 use Rattle.cal_model.specs.Serving.EventReplies.{state_of, state_after}

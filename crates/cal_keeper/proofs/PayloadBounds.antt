@@ -6,7 +6,7 @@ use Rattle.cal_model.specs.declared.property.PropSet.{PropSet}
 use Rattle.cal_model.specs.Bodies.AclBodies.{grant_limit}
 use Rattle.cal_model.specs.Bodies.ContentSizes.{octets_in, values_size}
 use Rattle.cal_model.specs.History.Journal.{Entry}
-use Rattle.cal_model.specs.Requests.BookableRequests.{most_properties}
+use Rattle.cal_model.specs.Requests.ContentBounds.{most_properties}
 use Rattle.cal_model.specs.State.Changes.{Change, put, delete_object, delete_calendar, make, patch, acl}
 use Rattle.cal_model.specs.State.PropertyTexts.{name_size}
 use Rattle.cal_model.specs.Streams.WireLimits.{body_limit}

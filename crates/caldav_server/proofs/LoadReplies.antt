@@ -13,7 +13,7 @@ use Rattle.cal_model.specs.Load.LoadRequests.{load_user, put_of, asked_after}
 use Rattle.cal_model.specs.Load.LoadSummary.{load_event, replies}
 use Rattle.cal_model.specs.Replies.BareReplies.{bare_reply}
 use Rattle.cal_model.specs.Requests.AskedRequests.{asked_of}
-use Rattle.cal_model.specs.Requests.BookableRequests.{SizeIsTold}
+use Rattle.cal_model.specs.Requests.ContentBounds.{SizeIsTold}
 use Rattle.cal_model.specs.Serving.EventReplies.{reply_to, state_after}
 use Rattle.cal_model.specs.Serving.Outcomes.{Outcome, accepted, unchanged, outcome}
 use Rattle.cal_model.specs.State.Changes.{Change, change_of}

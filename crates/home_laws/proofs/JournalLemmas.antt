@@ -6,7 +6,7 @@ use Rattle.std.proofs.lemmas.List.{append-nil}
 use Rattle.cal_model.specs.declared.request.Event.{Event}
 use Rattle.cal_model.specs.History.Journal.{Entry, entry_of, replay, IsLegal}
 use Rattle.cal_model.specs.Objects.ObjectReading.{first_there}
-use Rattle.cal_model.specs.Requests.BookableRequests.{SizeIsTold}
+use Rattle.cal_model.specs.Requests.ContentBounds.{SizeIsTold}
 use Rattle.cal_model.specs.Serving.EventReplies.{state_of, state_after}
 use Rattle.cal_model.specs.Serving.Outcomes.{Outcome, accepted, unchanged, outcome, outcome_where, is_reading, rows_of_change, changed, scene_by}
 use Rattle.cal_model.specs.Sight.Views.{whole_sight}

@@ -1,7 +1,7 @@
 //! Numbers of users and groups, mapped by their names.
 ghost use Rattle.std.specs.Prelude.{◌≡◌, ◌<◌, All, length, map, IfOk};
 ghost use Rattle.cal_model.specs.Bodies.AclLaws.{IsAmong, IsGrantAmong};
-ghost use Rattle.cal_model.specs.Requests.BookableRequests.{GrantsAmong};
+ghost use Rattle.cal_model.specs.Requests.ContentBounds.{GrantsAmong};
 ghost use Rattle.journal_migration.specs.Renumbering.{moved_user, moved_group, moved_who, moved_grant, moved_content, moved_event};
 
 use cal_base::{List, NoMemory};

@@ -7,7 +7,7 @@ use Rattle.cal_model.specs.declared.request.Content.TheVariants as content
 use Rattle.cal_model.specs.declared.request.Method.{Method}
 use Rattle.cal_model.specs.declared.request.Method.TheVariants.{Report}
 use Rattle.cal_model.specs.Refusals.SharedRefusals.{fault_of}
-use Rattle.cal_model.specs.Requests.BookableRequests.{Suits}
+use Rattle.cal_model.specs.Requests.MethodContents.{Suits}
 use Rattle.cal_model.specs.Serving.ReadingReplies.{report_rows}
 
 -- a REPORT asks for a report

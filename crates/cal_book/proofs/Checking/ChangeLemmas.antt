@@ -19,7 +19,7 @@ use Rattle.cal_model.specs.Sight.Views.{whole_sight, view_by}
 use Rattle.cal_model.specs.State.Changes.{change_at, change_of, change_of_object, change_of_calendar}
 use Rattle.cal_model.specs.State.ServerState.{Directory, ServerState, directory_of, user_number}
 use Rattle.cal_model.specs.State.SoundStates.{IsToUser, AreToUsers}
-use Rattle.cal_model.specs.Requests.BookableRequests.{GrantsAmong}
+use Rattle.cal_model.specs.Requests.ContentBounds.{GrantsAmong}
 use Rattle.cal_model.specs.Users.UsersFile.{User, Users}
 use Rattle.request_checks.specs.declared.scenes.Scene.{Scene}
 use Rattle.cal_book.specs.declared.changes.places.Place.{Place}

@@ -9,7 +9,7 @@ use Rattle.cal_model.specs.declared.reply.Refusal.{Refusal}
 use Rattle.cal_model.specs.declared.request.Content.{Content}
 use Rattle.cal_model.specs.declared.request.Content.TheVariants.{Bad}
 use Rattle.cal_model.specs.declared.request.Method.TheVariants.{Delete}
-use Rattle.cal_model.specs.Requests.BookableRequests.{Suits}
+use Rattle.cal_model.specs.Requests.MethodContents.{Suits}
 use Rattle.cal_model.specs.Sight.Scenes.{scene_at}
 use Rattle.cal_model.specs.Sight.Views.{whole_sight, view_by}
 use Rattle.cal_model.specs.State.ServerState.{Directory, ServerState}

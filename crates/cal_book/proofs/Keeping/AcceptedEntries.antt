@@ -3,7 +3,7 @@
 use Rattle.std.proofs.Common.{◌≡◌, ℕ, Some, sym, ap, ◌∙◌}
 use Rattle.cal_model.specs.declared.request.Event.{Event}
 use Rattle.cal_model.specs.History.Journal.{entry_of}
-use Rattle.cal_model.specs.Requests.BookableRequests.{SizeIsTold}
+use Rattle.cal_model.specs.Requests.ContentBounds.{SizeIsTold}
 use Rattle.cal_model.specs.Serving.EventReplies.{state_of as state_behind}
 use Rattle.cal_model.specs.Serving.Outcomes.{accepted, outcome}
 use Rattle.cal_model.specs.State.Changes.{Change, change_of}

@@ -2,7 +2,7 @@
 ghost use Rattle.std.specs.Prelude.{◌≡◌, ◌<◌, length, ℤ, None, IfOk};
 ghost use Rattle.cal_model.specs.declared.request.Method.{Method as How};
 ghost use Rattle.cal_model.specs.Refusals.SharedRefusals.{fault_of};
-ghost use Rattle.cal_model.specs.Requests.BookableRequests.{Suits};
+ghost use Rattle.cal_model.specs.Requests.MethodContents.{Suits};
 ghost use Rattle.cal_model.specs.Serving.SeenResources.{scene_seen};
 ghost use Rattle.cal_book.specs.Answering.OwnReplies.{own_reply};
 

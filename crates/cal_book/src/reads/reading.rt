@@ -1,7 +1,8 @@
 //! The reply to a request that only reads (RFC 9110, 9.2.1).
 ghost use Rattle.std.specs.Prelude.{◌≡◌, ◌+◌, ◌≤◌, ◌<◌, ◌≤ℤ◌, ℕ, true, List, [], length, pos, None, IfOk, IfSome, IsTrue, OnErr};
 ghost use Rattle.cal_model.specs.Paths.TargetPaths.{is_path};
-ghost use Rattle.cal_model.specs.Requests.BookableRequests.{Suits, ZoneIsShort};
+ghost use Rattle.cal_model.specs.Requests.MethodContents.{Suits};
+ghost use Rattle.cal_model.specs.Requests.ContentBounds.{ZoneIsShort};
 ghost use Rattle.cal_model.specs.Requests.Methods.{has_method};
 ghost use Rattle.cal_model.specs.Serving.Outcomes.{is_reading, scene_by};
 ghost use Rattle.cal_model.specs.Serving.ReadingReplies.{reading_reply};

@@ -1,7 +1,8 @@
 //! The answer to a REPORT (RFC 3253, 3.6; RFC 4791, 7).
 ghost use Rattle.std.specs.Prelude.{◌≡◌, ◌+◌, ◌≤◌, ◌<◌, ◌≤ℤ◌, ℕ, List, length, pos, IfOk, IfSome, IsTrue};
 ghost use Rattle.cal_model.specs.declared.request.Method.{Method as How};
-ghost use Rattle.cal_model.specs.Requests.BookableRequests.{Suits, ZoneIsShort};
+ghost use Rattle.cal_model.specs.Requests.MethodContents.{Suits};
+ghost use Rattle.cal_model.specs.Requests.ContentBounds.{ZoneIsShort};
 ghost use Rattle.cal_model.specs.Requests.Methods.{has_method};
 ghost use Rattle.cal_model.specs.Serving.SeenResources.{scene_seen};
 ghost use Rattle.cal_model.specs.Sight.Scenes.{calendar_in};

@@ -3,7 +3,7 @@ ghost use Rattle.std.specs.Prelude.{◌≡◌, ◌<◌, ◌^◌, length, IfOk};
 ghost use Rattle.cal_model.specs.Objects.ObjectReading as spec;
 ghost use Rattle.cal_model.specs.Properties.Settings as settings;
 ghost use Rattle.cal_model.specs.Refusals.ReportRefusals.{zone_text};
-ghost use Rattle.cal_model.specs.Requests.BookableRequests.{ZoneIsShort};
+ghost use Rattle.cal_model.specs.Requests.ContentBounds.{ZoneIsShort};
 ghost use Rattle.cal_model.specs.declared.request.Content.{Content as Asked};
 ghost use Rattle.dav_reports.specs.ReportOutcomes as outcomes;
 

@@ -10,7 +10,7 @@ use Rattle.cal_model.specs.Bodies.AclBodies.{grant_limit}
 use Rattle.cal_model.specs.Bodies.ContentSizes.{values_size}
 use Rattle.cal_model.specs.History.Journal.{Entry}
 use Rattle.cal_model.specs.Paths.TargetPaths.{is_resource_name}
-use Rattle.cal_model.specs.Requests.BookableRequests.{most_properties}
+use Rattle.cal_model.specs.Requests.ContentBounds.{most_properties}
 use Rattle.cal_model.specs.State.Changes.{Change, put, delete_object, delete_calendar, make, patch, acl}
 use Rattle.cal_model.specs.Streams.WireLimits.{body_limit}
 use Rattle.cal_model.specs.Words.Limits.{last_moment}

@@ -10,7 +10,7 @@ use Rattle.cal_model.specs.declared.request.Method.{Method}
 use Rattle.cal_model.specs.declared.request.Method.TheVariants as method
 use Rattle.cal_model.specs.declared.request.Tags.{Tags}
 use Rattle.cal_model.specs.Objects.ObjectReading.{first_there}
-use Rattle.cal_model.specs.Requests.BookableRequests.{SizeIsTold}
+use Rattle.cal_model.specs.Requests.ContentBounds.{SizeIsTold}
 use Rattle.cal_model.specs.State.ServerState.{Directory, ServerState, user_number}
 use Rattle.cal_model.specs.State.Changes.{Change, change_of, change_of_object, change_of_calendar}
 use Rattle.cal_model.specs.Sight.Scenes.{Scene}

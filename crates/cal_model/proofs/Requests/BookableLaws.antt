@@ -31,7 +31,9 @@ use Rattle.cal_model.proofs.Bodies.GrantLaws.{grants_are_among}
 use Rattle.cal_model.proofs.Paths.NamedPaths.{named, all_some}
 use Rattle.cal_model.specs.Bodies.ContentSizes.{ContentFits}
 use Rattle.cal_model.specs.Streams.WireLimits.{body_limit}
-use Rattle.cal_model.specs.Requests.BookableRequests.{GrantsAmong, SizeIsTold, ZoneIsShort, PropertiesAreFew, Suits, IsBookable, RequestsAreBookable, RequestsFit}
+use Rattle.cal_model.specs.Requests.BookableRequests.{IsBookable, RequestsAreBookable, RequestsFit}
+use Rattle.cal_model.specs.Requests.MethodContents.{Suits}
+use Rattle.cal_model.specs.Requests.ContentBounds.{GrantsAmong, SizeIsTold, ZoneIsShort, PropertiesAreFew}
 use Rattle.cal_model.proofs.Bodies.BodySizes.{finds_fit, patches_fit, makes_fit, reports_fit}
 use Rattle.cal_model.proofs.Bodies.AclSizes.{acls_fit}
 use Rattle.cal_model.proofs.Requests.ContentParts.{OfMethod, OfDepth, content-holds}

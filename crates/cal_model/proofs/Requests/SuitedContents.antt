@@ -25,7 +25,7 @@ use Rattle.cal_model.specs.Bodies.AskedProperties.{property_name, asked_props, p
 use Rattle.cal_model.specs.Bodies.ReportBodies.{report_rows, report_unless, asked_data, query_with, multiget_content, free_busy_with, report_content}
 use Rattle.cal_model.specs.Bodies.RangeElements.{is_bad_range, stated}
 use Rattle.cal_model.specs.Users.UsersFile.{Users}
-use Rattle.cal_model.specs.Requests.BookableRequests.{refusals_of, AsksSomething, Suits}
+use Rattle.cal_model.specs.Requests.MethodContents.{refusals_of, AsksSomething, Suits}
 use Rattle.cal_model.proofs.Bodies.AclSizes.{grants_are_few}
 use Rattle.cal_model.proofs.Bodies.SoundReportLaws.{reports_are_sound}
 use Rattle.cal_model.proofs.Requests.ContentParts.{OfMethod, OfDepth, if-holds, content-holds}

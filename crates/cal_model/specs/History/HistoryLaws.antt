@@ -7,7 +7,7 @@ use Rattle.cal_model.specs.declared.request.Event.{Event}
 use Rattle.cal_model.specs.History.Journal.{Entry, asked, replay, IsLegal, entry_of}
 use Rattle.cal_model.specs.History.Origins.{Origins, origins_after, AreLive}
 use Rattle.cal_model.specs.History.RightPieces.{IsRight, live_pieces}
-use Rattle.cal_model.specs.Requests.BookableRequests.{SizeIsTold}
+use Rattle.cal_model.specs.Requests.ContentBounds.{SizeIsTold}
 use Rattle.cal_model.specs.Serving.Outcomes.{accepted, outcome}
 use Rattle.cal_model.specs.State.Changes.{Change, change_of}
 use Rattle.cal_model.specs.State.ServerState.{Directory, ServerState}

@@ -1,6 +1,6 @@
 use Rattle.std.proofs.Common.{sym, ap, ◌∙◌, subst}
 use Rattle.cal_model.specs.Replies.ReplyForms.{options_reply}
-use Rattle.cal_model.specs.Requests.BookableRequests.{Suits}
+use Rattle.cal_model.specs.Requests.MethodContents.{Suits}
 use Rattle.cal_model.specs.Serving.SeenResources.{scene_seen}
 use Rattle.cal_book.specs.Answering.OwnReplies.{own_reply}
 use Rattle.cal_book.specs.Answering.ReadingCost.{report_in}

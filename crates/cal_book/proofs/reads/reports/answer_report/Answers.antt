@@ -2,7 +2,7 @@ use Rattle.std.proofs.Common.{rules, ◌+◌, ◌≤◌, sym, ap, ◌∙◌, sub
 use Rattle.std.specs.Prelude.{IsSome}
 use Rattle.cal_model.specs.declared.path.Path.TheVariants.{Calendar as CalendarPath}
 use Rattle.cal_model.specs.Access.Privileges.{has_all}
-use Rattle.cal_model.specs.Requests.BookableRequests.{Suits}
+use Rattle.cal_model.specs.Requests.MethodContents.{Suits}
 use Rattle.cal_model.specs.Serving.SeenResources.{scene_seen}
 use Rattle.cal_model.specs.Sight.Scenes.{Scene, held_in}
 use Rattle.cal_model.specs.State.ServerState.{calendar_at}
