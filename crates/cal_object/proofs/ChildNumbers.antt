@@ -6,7 +6,7 @@ use Rattle.std.proofs.Math.Seq.{take-append_seam}
 use Rattle.std.proofs.lemmas.List.Sums.{sum_by-append}
 use Rattle.cal_base.specs.declared.line.Line.{Line}
 use Rattle.cal_base.specs.Lines.ComponentTrees.{is_begin, is_end, depth}
-use Rattle.cal_model.specs.Objects.ObjectFaults.{begins_child}
+use Rattle.cal_model.specs.Objects.CalendarChildren.{begins_child}
 use Rattle.cal_object.specs.Scan.{child_numbers}
 use Rattle.cal_object.specs.Children.{counted, begins_here, children_from}
 

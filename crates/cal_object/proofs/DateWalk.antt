@@ -16,7 +16,8 @@ use Rattle.cal_model.specs.Words.Limits.{first_date, last_date}
 use Rattle.std.specs.Prelude.{int_lt}
 use Rattle.cal_model.specs.Values.StampTexts.{line_zone, zone_number}
 use Rattle.cal_model.specs.Objects.ComponentLines.{kind_named}
-use Rattle.cal_model.specs.Objects.ObjectFaults.{is_in_kind, is_in_alarm, dated_stamps, trigger_stamps, stamps_of_line, all_stamps, is_early, is_late, stamp_outside}
+use Rattle.cal_model.specs.Objects.DateFaults.{is_in_kind, is_in_alarm, trigger_stamps, stamps_of_line, all_stamps, is_early, is_late, stamp_outside}
+use Rattle.cal_model.specs.Objects.DatedLines.{dated_stamps}
 use Rattle.cal_object.specs.declared.outside.FoundDate.{FoundDate}
 use Rattle.cal_object.specs.declared.outside.OpenKind.{OpenKind}
 use Rattle.cal_object.specs.declared.outside.OpenKind.TheVariants.{Kind, Alarm, Other}

@@ -16,7 +16,10 @@ use Rattle.cal_model.specs.declared.zone.ZoneTable.{ZoneTable}
 use Rattle.cal_model.specs.Recurrence.RecurrenceSet.{every_moment}
 use Rattle.cal_model.specs.Objects.ComponentLines.{is_named, children_of}
 use Rattle.cal_model.specs.Objects.LineValues.{lines_in, own_fault}
-use Rattle.cal_model.specs.Objects.ObjectFaults.{Child, child_places, children_in, kinds_among, component_fault, resource_fault, stamp_outside}
+use Rattle.cal_model.specs.Objects.DateFaults.{stamp_outside}
+use Rattle.cal_model.specs.Objects.ResourceFaults.{resource_fault}
+use Rattle.cal_model.specs.Objects.ComponentFaults.{component_fault}
+use Rattle.cal_model.specs.Objects.CalendarChildren.{Child, child_places, children_in, kinds_among}
 use Rattle.cal_model.specs.Objects.ObjectReading.{Unread, not_calendar, not_resource, date_outside, place_at, line_of_fault, first_there, calendar_faults, object_in, settled, object_faults, read_tree, read_lines_by, read_by}
 use Rattle.cal_model.specs.Objects.ZoneReading.{zones_of, zone_names}
 use Rattle.cal_model.proofs.Objects.ReadingSteps.{unless_line, unless_nested, of_tree}
@@ -126,7 +129,7 @@ module _ (placed : List Placed) (object : Object) where
 -- the object of a tree, by its zones
 pub object_in-with : (zones : List ZoneTable) (placed : List Placed) (calendar : Node) → zones ≡ zones_of every_moment calendar → object_with zones calendar ≡ object_in every_moment placed calendar
 object_in-with zones placed calendar are =
-    object_of-children zones placed calendar ∙ ap (λ those. Rattle.cal_model.specs.Objects.ObjectFaults.object_of those calendar (kinds_among (children_in placed calendar))) are
+    object_of-children zones placed calendar ∙ ap (λ those. Rattle.cal_model.specs.Objects.CalendarChildren.object_of those calendar (kinds_among (children_in placed calendar))) are
 
 abbrev unless : {X : Type 0} → Option Unread → Result X Unread → Result X Unread
 unless found reading = elim found [ Some fault ↦ Err fault | None ↦ reading ]

@@ -10,7 +10,7 @@ use Rattle.cal_model.specs.declared.zone.ZoneTable.{ZoneTable}
 use Rattle.cal_model.specs.Words.Integers.{same_int}
 use Rattle.cal_model.specs.Instances.Alignment.{Aligned, at, on_day, align}
 use Rattle.cal_model.specs.Instances.Rows.{ids_start}
-use Rattle.cal_model.specs.Objects.ObjectFaults.{can_align, same_aligned, has_repeat, aligned_ids}
+use Rattle.cal_model.specs.Objects.ResourceFaults.{can_align, same_aligned, has_repeat, aligned_ids}
 use Rattle.cal_object.specs.Identifiers.{ids_beside, values_in, days_in, has_double}
 
 -- Numbers

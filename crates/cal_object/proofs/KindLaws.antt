@@ -17,8 +17,10 @@ use Rattle.cal_model.specs.Words.Lists.{is_empty}
 use Rattle.cal_model.specs.Instances.Rows.{Numbered, numbered_from, has_id}
 use Rattle.cal_model.specs.Objects.ComponentLines.{has, lines_of, name_of, children_of, component_kind}
 use Rattle.cal_model.specs.Objects.ComponentReading.{component_of}
-use Rattle.cal_model.specs.Objects.ObjectFaults as spec
-use Rattle.cal_model.specs.Objects.ObjectFaults.{Child, child_at, child_places, children_in, kinds_among, component_of_child, are_different, some_has, lacks_zone, has_component_fault, component_fault, resource_faults, resource_fault, object_of}
+use Rattle.cal_model.specs.Objects.CalendarChildren as spec
+use Rattle.cal_model.specs.Objects.ResourceFaults.{are_different, some_has, lacks_zone, resource_faults, resource_fault}
+use Rattle.cal_model.specs.Objects.ComponentFaults.{has_component_fault, component_fault}
+use Rattle.cal_model.specs.Objects.CalendarChildren.{Child, child_at, child_places, children_in, kinds_among, component_of_child, object_of}
 use Rattle.cal_model.specs.Objects.ZoneReading.{zone_names}
 use Rattle.cal_object.specs.KindNodes.{is_kind, some_kind, lacks_uid, names_of, uids_of, component_at, components_from, object_with, first_bad_component, masters_among, row_that_holds, plain_rows, other_rows, resource_rows}
 

@@ -21,7 +21,8 @@ use Rattle.cal_model.specs.Values.ValueTexts.{date_of, date_time_of, moment_of, 
 use Rattle.cal_model.specs.Values.StampTexts.{is_one_of, utc_names, utc_stamp, stamp_of_time, time_stamp, is_date_text, stamp_of, line_zone, zone_number, param_value, items_of, stamps_in_grammar, length_ahead, written_period_end, period_of_ends, period_with, period_of, periods_in_grammar, trigger_of}
 use Rattle.cal_model.specs.Objects.ComponentLines.{has_name}
 use Rattle.cal_model.specs.Objects.LineValues.{is_of_periods, stamps_in, periods_in}
-use Rattle.cal_model.specs.Objects.ObjectFaults.{dated_names, dated_stamps, stamps_of_period, stamps_of_end, trigger_moment, trigger_stamps}
+use Rattle.cal_model.specs.Objects.DateFaults.{trigger_moment, trigger_stamps}
+use Rattle.cal_model.specs.Objects.DatedLines.{dated_names, dated_stamps, stamps_of_period, stamps_of_end}
 use Rattle.cal_model.proofs.Objects.TestedLines.{period_by}
 use Rattle.cal_object.specs.DatesOutside.{numbered}
 

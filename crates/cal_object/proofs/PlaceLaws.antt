@@ -8,7 +8,7 @@ use Rattle.std.proofs.lemmas.Option.{slice_get-get_or, slice_get-map, get_or_fro
 use Rattle.cal_base.specs.declared.line.Line.{Line}
 use Rattle.cal_base.specs.Lines.ContentLines.{Placed}
 use Rattle.cal_model.specs.Objects.LineValues.{lines_in, has_own_fault, own_fault}
-use Rattle.cal_model.specs.Objects.ObjectFaults.{begins_child, child_places}
+use Rattle.cal_model.specs.Objects.CalendarChildren.{begins_child, child_places}
 use Rattle.cal_model.specs.Objects.ObjectReading.{place_at}
 use Rattle.cal_object.specs.Scan.{own_number, child_numbers}
 

@@ -10,7 +10,8 @@ use Rattle.cal_base.specs.declared.line.Node.{Node}
 use Rattle.cal_base.specs.Lines.ContentLines.{Placed}
 use Rattle.cal_model.specs.Recurrence.RecurrenceSet.{every_moment}
 use Rattle.cal_model.specs.Objects.ComponentLines.{children_of}
-use Rattle.cal_model.specs.Objects.ObjectFaults.{Child, child_at, child_places, children_in, zones_among, is_bad_zone as is_bad_among, zone_fault}
+use Rattle.cal_model.specs.Objects.ZoneFaults.{is_bad_zone as is_bad_among, zone_fault}
+use Rattle.cal_model.specs.Objects.CalendarChildren.{Child, child_at, child_places, children_in, zones_among}
 use Rattle.cal_model.specs.Objects.ZoneReading.{is_zone, has_zone_fault, are_too_many}
 use Rattle.cal_model.proofs.Words.EachLemmas.{neither}
 use Rattle.cal_object.specs.ZoneFaults.{zone_count, is_bad, first_bad}

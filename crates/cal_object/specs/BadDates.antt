@@ -5,7 +5,7 @@ use Rattle.cal_base.specs.declared.line.Line.{Line}
 use Rattle.cal_moment.specs.declared.stamp.Stamp.{Stamp}
 use Rattle.cal_model.specs.declared.zone.ZoneTable.{ZoneTable}
 use Rattle.cal_model.specs.Objects.LineValues.{periods_at, stamp_at}
-use Rattle.cal_model.specs.Objects.ObjectFaults.{is_bad_end, is_bad_period}
+use Rattle.cal_model.specs.Objects.ComponentFaults.{is_bad_end, is_bad_period}
 
 -- DTEND or DUE does not fit the start, or a period ends before it starts
 abbrev pub has_bad_dates : List (List ℕ) → List ZoneTable → Option Stamp → List Line → Bool

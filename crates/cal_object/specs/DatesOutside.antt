@@ -5,7 +5,8 @@ use Rattle.cal_base.specs.Lines.ComponentTrees.{is_begin, is_end, component_name
 use Rattle.cal_moment.specs.declared.stamp.Stamp.{Stamp}
 use Rattle.cal_moment.specs.declared.stamp.Stamp.TheVariants.{Zoned}
 use Rattle.cal_model.specs.Values.StampTexts.{param_value, zone_number}
-use Rattle.cal_model.specs.Objects.ObjectFaults.{dated_stamps, trigger_stamps, is_early, is_late}
+use Rattle.cal_model.specs.Objects.DateFaults.{trigger_stamps, is_early, is_late}
+use Rattle.cal_model.specs.Objects.DatedLines.{dated_stamps}
 use Rattle.cal_object.specs.declared.outside.FoundDate.{FoundDate}
 use Rattle.cal_object.specs.declared.outside.OpenKind.{OpenKind}
 use Rattle.cal_object.specs.declared.outside.OpenKind.TheVariants.{Kind, Alarm, Other}

@@ -7,7 +7,7 @@ use Rattle.cal_model.specs.declared.zone.ZoneTable.{ZoneTable}
 use Rattle.cal_model.specs.Words.Integers.{same_int}
 use Rattle.cal_model.specs.Instances.Alignment.{Aligned, at, on_day, align}
 use Rattle.cal_model.specs.Instances.Rows.{start_or_due}
-use Rattle.cal_model.specs.Objects.ObjectFaults.{can_align}
+use Rattle.cal_model.specs.Objects.ResourceFaults.{can_align}
 use Rattle.cal_object.specs.PartDates.{HasMoment}
 
 -- The start beside which they are aligned

@@ -15,7 +15,8 @@ use Rattle.cal_model.specs.declared.zone.ZoneTable.{ZoneTable}
 use Rattle.cal_model.specs.Objects.ComponentLines.{has, lines_of, name_of, children_of, component_kind}
 use Rattle.cal_model.specs.Objects.ComponentReading.{component_of}
 use Rattle.cal_model.specs.Objects.LineValues.{value_at}
-use Rattle.cal_model.specs.Objects.ObjectFaults.{are_different, has_repeat, aligned_ids, lacks_zone, has_component_fault}
+use Rattle.cal_model.specs.Objects.ResourceFaults.{are_different, has_repeat, aligned_ids, lacks_zone}
+use Rattle.cal_model.specs.Objects.ComponentFaults.{has_component_fault}
 use Rattle.cal_model.specs.Objects.ZoneReading.{zone_names}
 
 abbrev pub is_kind : Node → Bool

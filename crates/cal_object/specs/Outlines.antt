@@ -6,7 +6,8 @@ use Rattle.cal_base.specs.Lines.ComponentTrees.{nesting_fault, tree_of}
 use Rattle.cal_model.specs.Recurrence.RecurrenceSet.{every_moment}
 use Rattle.cal_model.specs.Objects.ComponentLines.{children_of, is_named}
 use Rattle.cal_model.specs.Objects.LineValues.{lines_in, own_fault}
-use Rattle.cal_model.specs.Objects.ObjectFaults.{children_in, zones_among, zone_fault}
+use Rattle.cal_model.specs.Objects.ZoneFaults.{zone_fault}
+use Rattle.cal_model.specs.Objects.CalendarChildren.{children_in, zones_among}
 use Rattle.cal_model.specs.Objects.ObjectReading.{Unread, not_calendar, place_at, line_of_fault}
 use Rattle.cal_object.specs.declared.scan.Scan.{Scan}
 use Rattle.cal_object.specs.Scan.{IsScanOf}

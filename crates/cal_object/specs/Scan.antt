@@ -3,7 +3,8 @@ use Rattle.std.specs.Prelude.{◌≡◌, ℕ, List, map, find, filter, Option, o
 use Rattle.std.specs.List.{enumerate_from}
 use Rattle.cal_base.specs.declared.line.Line.{Line}
 use Rattle.cal_model.specs.Objects.LineValues.{has_own_fault}
-use Rattle.cal_model.specs.Objects.ObjectFaults.{begins_child, stamp_outside}
+use Rattle.cal_model.specs.Objects.DateFaults.{stamp_outside}
+use Rattle.cal_model.specs.Objects.CalendarChildren.{begins_child}
 use Rattle.cal_object.specs.declared.scan.Scan.{Scan}
 use Rattle.cal_object.specs.DatesOutside.{stamp_beside}
 

@@ -1,7 +1,7 @@
 //! A stamp beside a start (RFC 5545, 3.8.4.4 and 3.8.5.1).
 ghost use Rattle.std.specs.Prelude.{◌≡◌, true, ◌<◌, length};
 ghost use Rattle.cal_model.specs.Instances.Alignment as spec;
-ghost use Rattle.cal_model.specs.Objects.ObjectFaults.{can_align};
+ghost use Rattle.cal_model.specs.Objects.ResourceFaults.{can_align};
 ghost use Rattle.cal_model.specs.TimeZones.TableBounds.{IsDigits};
 ghost use Rattle.cal_model.specs.Values.LocalTimes.{local_seconds};
 ghost use Rattle.cal_object.specs.Alignments.{tables_of, aligned_by, HasZone, HasZoneBeside};

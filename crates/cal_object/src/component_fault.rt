@@ -8,7 +8,7 @@ ghost use Rattle.cal_model.specs.Instances.Alignment as alignment;
 ghost use Rattle.cal_model.specs.Objects.ComponentLines.{lines_of};
 ghost use Rattle.cal_model.specs.Objects.ComponentReading.{component_of, stored_busy_of};
 ghost use Rattle.cal_model.specs.Objects.LineValues.{periods_at, value_at};
-ghost use Rattle.cal_model.specs.Objects.ObjectFaults as spec;
+ghost use Rattle.cal_model.specs.Objects.ComponentFaults as spec;
 ghost use Rattle.cal_model.specs.Objects.ZoneReading.{zone_names};
 ghost use Rattle.cal_model.specs.Ranges.Overlap as overlap;
 ghost use Rattle.cal_model.specs.Values.StampTexts as texts;

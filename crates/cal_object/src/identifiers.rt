@@ -2,7 +2,7 @@
 ghost use Rattle.std.specs.Prelude.{◌≡◌, ◌∷◌, ◌++◌, [], All, option_to_list, IfOk, OnOk};
 ghost use Rattle.cal_model.specs.Instances.Rows as rows;
 ghost use Rattle.cal_model.specs.Instances.Starts as starts;
-ghost use Rattle.cal_model.specs.Objects.ObjectFaults as spec;
+ghost use Rattle.cal_model.specs.Objects.ResourceFaults as spec;
 ghost use Rattle.cal_model.specs.Objects.ZoneReading.{zone_names};
 ghost use Rattle.cal_model.specs.Values.StampTexts.{is_known};
 ghost use Rattle.cal_object.specs.Alignments.{tables_of, aligned_by};

@@ -4,7 +4,7 @@ ghost use Rattle.std.specs.List.{list_any};
 ghost use Rattle.cal_base.specs.Lines.ComponentTrees.{first};
 ghost use Rattle.cal_model.specs.Objects.ComponentLines as lines;
 ghost use Rattle.cal_model.specs.Objects.ComponentReading as components;
-ghost use Rattle.cal_model.specs.Objects.ObjectFaults as faults;
+ghost use Rattle.cal_model.specs.Objects.ResourceFaults as faults;
 ghost use Rattle.cal_object.specs.KindNodes as spec;
 ghost use Rattle.ical_values.specs.Parts.{text_there};
 

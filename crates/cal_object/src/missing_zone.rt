@@ -1,7 +1,7 @@
 //! Dates in a zone that is not there (RFC 4791, 4.1).
 ghost use Rattle.std.specs.Prelude.{◌≡◌, not, IfOk};
 ghost use Rattle.std.specs.List.{list_any};
-ghost use Rattle.cal_model.specs.Objects.ObjectFaults as faults;
+ghost use Rattle.cal_model.specs.Objects.ResourceFaults as faults;
 ghost use Rattle.cal_model.specs.Values.StampTexts.{is_known};
 ghost use Rattle.cal_object.specs.KindNodes as spec;
 

@@ -4,7 +4,7 @@ ghost use Rattle.cal_base.specs.Lines.ContentLines.{line_fault, placed_lines};
 ghost use Rattle.cal_base.specs.Lines.ComponentTrees.{nesting_fault};
 ghost use Rattle.cal_base.specs.Lines.LineGrammar.{IsReadLine};
 ghost use Rattle.cal_model.specs.Objects.LineValues.{lines_in};
-ghost use Rattle.cal_model.specs.Objects.ObjectFaults.{child_places};
+ghost use Rattle.cal_model.specs.Objects.CalendarChildren.{child_places};
 ghost use Rattle.cal_model.specs.Objects.ObjectReading.{place_at};
 ghost use Rattle.ical_objects.specs.Faults.{IsFaultOf as IsNestingFault};
 ghost use Rattle.cal_object.specs.declared.fault.ReadFault.TheVariants.{NotCalendar as Refused};

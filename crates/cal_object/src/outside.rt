@@ -5,7 +5,8 @@ ghost use Rattle.std.specs.Option.{option_copied};
 ghost use Rattle.cal_base.specs.Texts.Text.{raised_all};
 ghost use Rattle.cal_base.specs.Lines.ComponentTrees.{component_name, nesting_fault, or_else};
 ghost use Rattle.cal_model.specs.Values.StampTexts as texts;
-ghost use Rattle.cal_model.specs.Objects.ObjectFaults as faults;
+ghost use Rattle.cal_model.specs.Objects.DatedLines as dated;
+ghost use Rattle.cal_model.specs.Objects.DateFaults as faults;
 ghost use Rattle.cal_object.specs.DatesOutside as spec;
 
 use crate::dates::{periods_in, stamps_in};
@@ -75,7 +76,7 @@ fn go_over(levels: &mut Stack<OpenKind>, line: &Line) -> Result<(), NoMemory>
 
 /// Whether a line has dates that are looked at in a component of the four kinds.
 fn is_dated(line: &Line) -> bool
-    ensures { result ≡ texts.is_one_of faults.dated_names line.now }
+    ensures { result ≡ texts.is_one_of dated.dated_names line.now }
 {
     has_name(line, b"DTSTART")
         || has_name(line, b"DTEND")
@@ -88,7 +89,7 @@ fn is_dated(line: &Line) -> bool
 
 /// Puts the stamps of periods behind others: of each its start, and its end where that is a stamp.
 fn put_stamps(periods: &[Period], stamps: &mut List<Stamp>) -> Result<(), NoMemory>
-    ensures { OnOk result (stamps.new ≡ stamps.old ++ flat_map faults.stamps_of_period periods.now) }
+    ensures { OnOk result (stamps.new ≡ stamps.old ++ flat_map dated.stamps_of_period periods.now) }
 {
     let mut rest = periods;
     'periods: while let Some((period, behind)) = rest.split_first() {
@@ -100,7 +101,7 @@ fn put_stamps(periods: &[Period], stamps: &mut List<Stamp>) -> Result<(), NoMemo
 
 /// Puts the stamps of one period behind others.
 fn put_period(period: Period, stamps: &mut List<Stamp>) -> Result<(), NoMemory>
-    ensures { OnOk result (stamps.new ≡ stamps.old ++ faults.stamps_of_period period) }
+    ensures { OnOk result (stamps.new ≡ stamps.old ++ dated.stamps_of_period period) }
 {
     stamps.push(period.start)?;
     match period.end {
@@ -111,7 +112,7 @@ fn put_period(period: Period, stamps: &mut List<Stamp>) -> Result<(), NoMemory>
 
 /// The dates of a line of a component of the four kinds.
 pub fn dated_stamps(alloc: Global, zones: &ZoneNames, line: &Line) -> Result<List<Stamp>, NoMemory>
-    ensures { IfOk result (λ stamps. stamps ≡ faults.dated_stamps zones.now line.now) }
+    ensures { IfOk result (λ stamps. stamps ≡ dated.dated_stamps zones.now line.now) }
 {
     if !is_dated(line) {
         return Ok(List::new(alloc));

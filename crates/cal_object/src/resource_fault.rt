@@ -2,7 +2,8 @@
 ghost use Rattle.std.specs.Prelude.{◌≡◌, All, List, nat_lt, length, IfOk};
 ghost use Rattle.cal_base.specs.Lines.ContentLines.{Placed};
 ghost use Rattle.cal_model.specs.Objects.ComponentLines.{children_of};
-ghost use Rattle.cal_model.specs.Objects.ObjectFaults as faults;
+ghost use Rattle.cal_model.specs.Objects.CalendarChildren.{children_in, kinds_among};
+ghost use Rattle.cal_model.specs.Objects.ResourceFaults as faults;
 ghost use Rattle.cal_model.specs.Objects.ZoneReading.{zone_names};
 ghost use Rattle.cal_object.specs.Alignments.{tables_of};
 ghost use Rattle.cal_object.specs.Identifiers.{HasReadId};
@@ -92,7 +93,7 @@ pub(crate) fn resource_fault(
     requires zones { tables_of zones.now ≡ object.now.zones }
     requires names { names.now ≡ zone_names object.now.zones }
     requires ids { All HasReadId object.now.components }
-    ensures { IfOk result (λ fault. (placed : List Placed) → fault ≡ faults.resource_fault object.now (faults.kinds_among (faults.children_in placed object.now.tree))) }
+    ensures { IfOk result (λ fault. (placed : List Placed) → fault ≡ faults.resource_fault object.now (kinds_among (children_in placed object.now.tree))) }
 {
     match plain_fault(object) {
         Some(fault) => Ok(Some(fault)),

@@ -3,7 +3,8 @@ ghost use Rattle.std.specs.Prelude.{◌≡◌, ◌+◌, ◌++◌, ℕ, List, [],
 ghost use Rattle.cal_base.specs.Lines.ContentLines.{Placed};
 ghost use Rattle.cal_model.specs.Recurrence.RecurrenceSet.{every_moment};
 ghost use Rattle.cal_model.specs.TimeZones.TableBounds.{IsTable};
-ghost use Rattle.cal_model.specs.Objects.ObjectFaults.{child_places, children_in, zones_among, zone_fault};
+ghost use Rattle.cal_model.specs.Objects.ZoneFaults.{zone_fault};
+ghost use Rattle.cal_model.specs.Objects.CalendarChildren.{child_places, children_in, zones_among};
 ghost use Rattle.cal_model.specs.Objects.ZoneReading as spec;
 ghost use Rattle.cal_object.specs.ZoneFaults.{first_bad, is_bad_zone, room_behind, tables_from, IsMadeOf};
 

@@ -24,7 +24,7 @@ use Rattle.cal_model.specs.Instances.Rows.{Numbered, has_id, is_dated, masters, 
 use Rattle.cal_model.specs.Instances.Starts.{own_start}
 use Rattle.cal_model.specs.Objects.LineValues.{is_short}
 use Rattle.cal_model.specs.Objects.ObjectFacts.{HasShortEnd, IsRead, IsReadComponent, IsServed, stamps_of_extent}
-use Rattle.cal_model.specs.Objects.ObjectFaults.{stamps_of_period}
+use Rattle.cal_model.specs.Objects.DatedLines.{stamps_of_period}
 use Rattle.cal_model.specs.Objects.ObjectReading.{read_object}
 use Rattle.cal_model.specs.Ranges.Cost.{extent_length, greatest, length_to, lengths, longest}
 use Rattle.cal_model.specs.Ranges.Nearness.{HasShortOffsets}

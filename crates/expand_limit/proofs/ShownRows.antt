@@ -26,7 +26,7 @@ use Rattle.cal_model.specs.Instances.Rows.{Governor, Numbered, end_from, end_of_
 use Rattle.cal_model.specs.Instances.Starts.{end_beside, own_start, own_start_of}
 use Rattle.cal_model.specs.Objects.LineValues.{is_short}
 use Rattle.cal_model.specs.Objects.ObjectFacts.{HasShortEnd, IsRead, IsReadComponent, IsReadObject, IsServed, IsShort, lengths_of_extent, stamps_of_extent}
-use Rattle.cal_model.specs.Objects.ObjectFaults.{stamps_of_period}
+use Rattle.cal_model.specs.Objects.DatedLines.{stamps_of_period}
 use Rattle.cal_model.specs.Ranges.Cost.{extent_length, greatest, length_to, lengths, longest}
 use Rattle.cal_model.specs.Ranges.Nearness.{HasShortOffsets}
 use Rattle.cal_model.specs.Ranges.Overlap.{seconds_of}

@@ -24,7 +24,8 @@ use Rattle.cal_model.specs.Recurrence.RecurrenceSet.{every_moment}
 use Rattle.cal_model.specs.TimeZones.TableBounds.{IsTable}
 use Rattle.cal_model.specs.Objects.ComponentLines.{lines_of, one_of}
 use Rattle.cal_model.specs.Objects.ZoneReading.{zone_names, zones_of}
-use Rattle.cal_model.specs.Objects.ObjectFaults.{Child, children_in, kinds_among, component_of_child, stamps_of_period}
+use Rattle.cal_model.specs.Objects.DatedLines.{stamps_of_period}
+use Rattle.cal_model.specs.Objects.CalendarChildren.{Child, children_in, kinds_among, component_of_child}
 use Rattle.cal_model.specs.Instances.Rows.{ids_start}
 use Rattle.cal_model.specs.Objects.ObjectReading.{object_in, settled_component}
 use Rattle.cal_model.specs.Objects.ObjectFacts.{IsRead, IsReadComponent, IsZone, IsKnown, IsServed, IsShort, lengths_of_extent, stamps_of_extent, component_stamps}

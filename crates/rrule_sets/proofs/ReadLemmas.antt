@@ -22,7 +22,8 @@ use Rattle.cal_model.specs.Objects.ComponentLines.{all_of, lines_of}
 use Rattle.cal_model.specs.Objects.ObjectReading.{object_in, settled_component}
 use Rattle.cal_model.specs.Objects.LineValues.{is_of_periods, periods_in, periods_at}
 use Rattle.cal_model.specs.Objects.ObjectFacts.{IsRead, IsReadComponent, IsServed, HasShortEnd, stamps_of_extent}
-use Rattle.cal_model.specs.Objects.ObjectFaults.{Child, children_in, kinds_among, component_of_child, stamps_of_end, stamps_of_period}
+use Rattle.cal_model.specs.Objects.DatedLines.{stamps_of_end, stamps_of_period}
+use Rattle.cal_model.specs.Objects.CalendarChildren.{Child, children_in, kinds_among, component_of_child}
 use Rattle.cal_model.specs.Objects.ZoneReading.{zone_names, zones_of}
 use Rattle.cal_model.specs.Recurrence.NextPassing.{is_fine}
 use Rattle.cal_model.specs.Recurrence.RecurrenceSet.{every_moment}

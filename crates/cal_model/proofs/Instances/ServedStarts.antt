@@ -24,7 +24,7 @@ use Rattle.cal_model.specs.declared.zone.ZoneTable.{ZoneTable}
 use Rattle.cal_model.specs.Words.Limits.{first_date, last_date}
 use Rattle.cal_model.specs.Recurrence.RecurrenceSet.{first_counted, later_moments, last_written}
 use Rattle.cal_model.specs.Objects.ObjectFacts.{IsServed, IsReadComponent, IsReadObject, stamps_of_extent}
-use Rattle.cal_model.specs.Objects.ObjectFaults.{stamps_of_period, stamps_of_end}
+use Rattle.cal_model.specs.Objects.DatedLines.{stamps_of_period, stamps_of_end}
 use Rattle.cal_model.specs.Instances.Alignment.{Aligned, reading_of, value_of, kind_of, written_value, written_moment, midnight_of}
 use Rattle.cal_model.specs.Instances.Starts.{own_start, own_start_of, recurs, is_excepted, rule_starts, date_start, period_starts, plain_starts, ascending, starts_from, starts_of, is_date, end_from, end_of_instance}
 use Rattle.cal_model.specs.Instances.Rows.{Numbered, numbered, has_id, masters, overrides, ids_start, id_of_override, named_by, is_named, row_of, undated_row, undated_rows, is_dated, starts, master_row, Governor, moved_digits, are_served, moved_row, row_at, override_row, override_row_from, dated_rows, rows_by, rows_over, rows, nominal_beside, nominal_start, window_of, window_seconds}

@@ -18,7 +18,9 @@ use Rattle.cal_model.specs.Values.ValueTexts.{length_of}
 use Rattle.cal_model.specs.Objects.ComponentLines.{has_name, one_of, lines_of, name_of, children_of, kind_named, component_kind}
 use Rattle.cal_model.specs.Objects.ComponentReading.{no_length, alarm_with, alarm_of, is_alarm}
 use Rattle.cal_model.specs.Objects.LineValues.{is_short_trigger, value_at, lines_in, own_fault}
-use Rattle.cal_model.specs.Objects.ObjectFaults.{Child, dated_stamps, trigger_moment, trigger_stamps, is_in_kind, is_in_alarm, stamps_of_line, stamp_outside}
+use Rattle.cal_model.specs.Objects.DateFaults.{trigger_moment, trigger_stamps, is_in_kind, is_in_alarm, stamps_of_line, stamp_outside}
+use Rattle.cal_model.specs.Objects.DatedLines.{dated_stamps}
+use Rattle.cal_model.specs.Objects.CalendarChildren.{Child}
 use Rattle.cal_model.specs.Objects.ObjectFacts.{IsShort, IsServed, IsBoundedTrigger, IsReadAlarm}
 use Rattle.cal_model.proofs.Objects.TestedLines.{IsTested, test_holds}
 use Rattle.cal_model.proofs.Objects.PlacedComponents.{LineIn, NodeAt, OuterAt}

@@ -25,7 +25,9 @@ use Rattle.cal_model.specs.Objects.ComponentLines.{has_name, all_of, component_k
 use Rattle.cal_model.specs.Objects.ComponentReading.{class_of, stored_busy_of, end_by_start, extent_without_end, extent_of, component_of}
 use Rattle.cal_model.specs.Objects.ObjectFacts.{stamps_of_extent, component_stamps}
 use Rattle.cal_model.proofs.Words.EachLemmas.{each_of_any, each-weaker, each-both, each-filter, each_passes, each-map, each-append, each_of_append, each-flat_map, each_of_flat_map}
-use Rattle.cal_model.specs.Objects.ObjectFaults.{Child, component_of_child, dated_names, dated_stamps, stamps_of_period, lacks_zone}
+use Rattle.cal_model.specs.Objects.ResourceFaults.{lacks_zone}
+use Rattle.cal_model.specs.Objects.DatedLines.{dated_names, dated_stamps, stamps_of_period}
+use Rattle.cal_model.specs.Objects.CalendarChildren.{Child, component_of_child}
 
 -- Components
 

@@ -43,7 +43,11 @@ use Rattle.cal_model.specs.Objects.ObjectFacts.{component_stamps, IsKnown, IsRea
 use Rattle.cal_model.proofs.Objects.TestedLines.{IsTested}
 use Rattle.cal_model.proofs.Objects.PlacedComponents.{tree_at}
 use Rattle.cal_model.proofs.Words.EachLemmas.{neither, none_of_map, each_of_find, each_of_any, each-weaker, each-filter, each_passes, each_of_map, each-filter_map, each-both}
-use Rattle.cal_model.specs.Objects.ObjectFaults.{Child, children_in, kinds_among, component_fault, resource_fault, component_of_child, dated_stamps, lacks_zone, object_of, has_component_fault, is_bad_end, is_bad_period, is_bad_length, is_part_of_day, has_two_ends, are_different, resource_faults, child_at, child_places, zones_among, zone_fault, is_bad_zone}
+use Rattle.cal_model.specs.Objects.ResourceFaults.{resource_fault, lacks_zone, are_different, resource_faults}
+use Rattle.cal_model.specs.Objects.DatedLines.{dated_stamps}
+use Rattle.cal_model.specs.Objects.ComponentFaults.{component_fault, has_component_fault, is_bad_end, is_bad_period, is_bad_length, is_part_of_day, has_two_ends}
+use Rattle.cal_model.specs.Objects.ZoneFaults.{zone_fault, is_bad_zone}
+use Rattle.cal_model.specs.Objects.CalendarChildren.{Child, children_in, kinds_among, component_of_child, object_of, child_at, child_places, zones_among}
 use Rattle.cal_model.specs.Objects.ObjectReading.{Unread, not_resource, first_there, calendar_faults, object_in, read_lines_by, read_tree, read_zone_tree, read_zone, not_calendar, place_at}
 use Rattle.cal_model.proofs.Objects.ReadingSteps.{after_lines, lines_none, after_nesting, of_tree, after_tree, read_from, is_sound, IsChildOf, children_are, head_none, tail_none}
 use Rattle.cal_model.proofs.Objects.SettledObjects.{IsReadObject-settled}

@@ -15,7 +15,11 @@ use Rattle.cal_model.specs.Objects.LineValues.{lines_in, own_fault}
 use Rattle.cal_model.specs.Objects.ZoneReading.{zones_of, zone_names}
 use Rattle.cal_model.specs.Objects.ComponentLines.{is_named, children_of}
 use Rattle.cal_model.proofs.Words.EachLemmas.{none_of_map}
-use Rattle.cal_model.specs.Objects.ObjectFaults.{Child, child_at, child_places, children_in, zones_among, kinds_among, zone_fault, component_fault, resource_fault, stamp_outside}
+use Rattle.cal_model.specs.Objects.DateFaults.{stamp_outside}
+use Rattle.cal_model.specs.Objects.ResourceFaults.{resource_fault}
+use Rattle.cal_model.specs.Objects.ComponentFaults.{component_fault}
+use Rattle.cal_model.specs.Objects.ZoneFaults.{zone_fault}
+use Rattle.cal_model.specs.Objects.CalendarChildren.{Child, child_at, child_places, children_in, zones_among, kinds_among}
 use Rattle.cal_model.specs.Objects.ObjectReading.{Unread, not_calendar, not_resource, date_outside, place_at, line_of_fault, first_there, calendar_faults, object_in, settled, object_faults, read_tree, read_lines_by, read_object_over}
 
 -- Where a reading is Ok, no fault was there

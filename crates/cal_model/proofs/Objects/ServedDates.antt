@@ -17,7 +17,9 @@ use Rattle.cal_model.specs.Instances.Alignment.{written_value}
 use Rattle.cal_model.specs.Words.Limits.{first_date, last_date}
 use Rattle.cal_model.proofs.Objects.PlacedComponents.{LineIn, NodeAt, OuterAt}
 use Rattle.cal_model.proofs.Words.EachLemmas.{each_of_find, each-weaker, each-both, each_of_flat_map}
-use Rattle.cal_model.specs.Objects.ObjectFaults.{Child, dated_stamps, stamp_outside, all_stamps, stamps_of_line, is_early, is_late, is_in_kind, is_in_alarm, trigger_stamps}
+use Rattle.cal_model.specs.Objects.DateFaults.{stamp_outside, all_stamps, stamps_of_line, is_early, is_late, is_in_kind, is_in_alarm, trigger_stamps}
+use Rattle.cal_model.specs.Objects.DatedLines.{dated_stamps}
+use Rattle.cal_model.specs.Objects.CalendarChildren.{Child}
 use Rattle.cal_model.proofs.Objects.ReadingSteps.{IsChildOf}
 
 -- Dates that are served

@@ -29,7 +29,7 @@ use Rattle.cal_model.specs.Objects.ObjectFacts.{IsShort, HasShortEnd, lengths_of
 use Rattle.cal_model.proofs.Objects.TestedLines.{IsTested, test_holds, line_short}
 use Rattle.cal_model.proofs.Objects.PlacedComponents.{NodeAt, OuterAt}
 use Rattle.cal_model.proofs.Words.EachLemmas.{none_of_map, each_of_find, each-weaker, each-both, each-filter, each_passes, each-map, each-flat_map}
-use Rattle.cal_model.specs.Objects.ObjectFaults.{Child}
+use Rattle.cal_model.specs.Objects.CalendarChildren.{Child}
 use Rattle.cal_model.proofs.Objects.ReadingSteps.{IsChildOf}
 use Rattle.cal_model.proofs.Objects.ServedDates.{each_numbered, each_at}
 

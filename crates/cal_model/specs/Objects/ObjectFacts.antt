@@ -28,7 +28,7 @@ use Rattle.cal_model.specs.Instances.Rows.{masters}
 use Rattle.cal_model.specs.Objects.ComponentLines.{children_of, component_kind}
 use Rattle.cal_model.specs.Objects.LineValues.{is_short, is_short_end}
 use Rattle.cal_model.specs.Objects.ZoneReading.{zone_names}
-use Rattle.cal_model.specs.Objects.ObjectFaults.{stamps_of_period}
+use Rattle.cal_model.specs.Objects.DatedLines.{stamps_of_period}
 use Rattle.cal_model.specs.Objects.ObjectReading.{read_object}
 
 -- some octets are read as this object

@@ -17,7 +17,11 @@ use Rattle.cal_model.specs.Instances.Rows.{ids_start}
 use Rattle.cal_model.specs.Objects.ComponentLines.{is_named}
 use Rattle.cal_model.specs.Objects.LineValues.{lines_in, own_fault}
 use Rattle.cal_model.specs.Objects.ZoneReading.{zones_of, zone_names}
-use Rattle.cal_model.specs.Objects.ObjectFaults.{children_in, zones_among, kinds_among, object_of, same_kind, zone_fault, component_fault, resource_fault, stamp_outside}
+use Rattle.cal_model.specs.Objects.DateFaults.{stamp_outside}
+use Rattle.cal_model.specs.Objects.ResourceFaults.{resource_fault}
+use Rattle.cal_model.specs.Objects.ComponentFaults.{same_kind, component_fault}
+use Rattle.cal_model.specs.Objects.ZoneFaults.{zone_fault}
+use Rattle.cal_model.specs.Objects.CalendarChildren.{children_in, zones_among, kinds_among, object_of}
 
 -- why octets are not read: they are no calendar, by the place of the fault; it cannot be stored; or a date of an object of a kind lies outside
 pub data Unread : Type 0 where

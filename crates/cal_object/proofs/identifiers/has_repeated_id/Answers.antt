@@ -1,6 +1,6 @@
 use Rattle.std.proofs.Common.{◌≡◌, ◌∙◌, sym, ap, Some}
 use Rattle.cal_model.specs.Instances.Rows.{ids_start}
-use Rattle.cal_model.specs.Objects.ObjectFaults.{has_repeat, aligned_ids}
+use Rattle.cal_model.specs.Objects.ResourceFaults.{has_repeat, aligned_ids}
 use Rattle.cal_object.specs.Alignments.{tables_of}
 use Rattle.cal_object.specs.Identifiers.{ids_beside}
 use Rattle.cal_object.proofs.Answered.{ok_moved}

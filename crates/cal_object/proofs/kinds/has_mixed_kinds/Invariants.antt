@@ -1,5 +1,5 @@
 use Rattle.std.proofs.Common.{◌≡◌, length}
-use Rattle.cal_model.specs.Objects.ObjectFaults.{are_different}
+use Rattle.cal_model.specs.Objects.ResourceFaults.{are_different}
 use Rattle.ical_values.specs.Parts.{text_there}
 use Rattle.cal_object.specs.KindNodes.{differ_from, names_of}
 use Rattle.cal_object.proofs.kinds.has_mixed_kinds.Given as goal

@@ -1,5 +1,5 @@
 use Rattle.std.proofs.Common.{◌≡◌, length}
-use Rattle.cal_model.specs.Objects.ObjectFaults.{lacks_zone}
+use Rattle.cal_model.specs.Objects.ResourceFaults.{lacks_zone}
 use Rattle.cal_object.specs.KindNodes.{some_kind}
 use Rattle.cal_object.proofs.missing_zone.has_missing_zone.Given as goal
 

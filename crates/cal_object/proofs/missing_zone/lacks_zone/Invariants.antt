@@ -1,5 +1,5 @@
 use Rattle.std.proofs.Common.{◌≡◌, length}
-use Rattle.cal_model.specs.Objects.ObjectFaults as faults
+use Rattle.cal_model.specs.Objects.ResourceFaults as faults
 use Rattle.cal_object.proofs.missing_zone.lacks_zone.Given as goal
 
 abbrev pub invariant-lines : goal.invariant-lines

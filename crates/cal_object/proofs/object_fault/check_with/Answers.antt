@@ -2,7 +2,9 @@ use Rattle.std.proofs.Common.{◌≡◌, ◌∙◌, sym, ap, Some, None}
 use Rattle.cal_base.specs.Lines.ContentLines.{placed_lines}
 use Rattle.cal_model.specs.Objects.ComponentLines.{children_of}
 use Rattle.cal_model.specs.Objects.LineValues.{lines_in}
-use Rattle.cal_model.specs.Objects.ObjectFaults.{children_in, kinds_among, resource_fault, stamp_outside}
+use Rattle.cal_model.specs.Objects.DateFaults.{stamp_outside}
+use Rattle.cal_model.specs.Objects.ResourceFaults.{resource_fault}
+use Rattle.cal_model.specs.Objects.CalendarChildren.{children_in, kinds_among}
 use Rattle.cal_object.specs.Alignments.{tables_of}
 use Rattle.cal_object.specs.KindNodes.{first_bad_component}
 use Rattle.cal_object.proofs.FaultLaws.{component_told, resource_told, outside_told, object_good}

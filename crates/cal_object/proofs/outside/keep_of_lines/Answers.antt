@@ -1,6 +1,6 @@
 use Rattle.std.proofs.Common.{refl}
 use Rattle.cal_base.specs.Lines.ComponentTrees.{or_else}
-use Rattle.cal_model.specs.Objects.ObjectFaults.{is_early, is_late}
+use Rattle.cal_model.specs.Objects.DateFaults.{is_early, is_late}
 use Rattle.cal_object.specs.declared.outside.FoundDate.{FoundDate}
 use Rattle.cal_object.specs.DatesOutside as spec
 use Rattle.cal_object.proofs.DateWalk.{found_more}

@@ -1,7 +1,7 @@
 use Rattle.std.proofs.Common.{ap, sym, ◌∙◌, get_or}
 use Rattle.std.specs.Prelude.{option_map}
 use Rattle.std.proofs.lemmas.Result.{IfOk-weaker}
-use Rattle.cal_model.specs.Objects.ObjectFaults.{child_places}
+use Rattle.cal_model.specs.Objects.CalendarChildren.{child_places}
 use Rattle.cal_object.specs.ZoneFaults.{first_bad}
 use Rattle.cal_object.proofs.ZoneWalk.{zone_fault-first_bad}
 use Rattle.cal_object.proofs.zones.read_zones.Goals as goal
