@@ -2,6 +2,7 @@ pub mod Words
 pub mod Values
 pub mod Recurrence
 pub mod TimeZones
+pub mod Conversions
 pub mod Objects
 pub mod Walks
 pub mod Instances

@@ -1,8 +1,5 @@
 -- What a time zone does (RFC 5545, 3.6.5 and 3.3.5): the offset at an instant, the instant of a local time, and the table that its parts make.
--- Given: a table, or the parts of a VTIMEZONE. Zones is read first. Stretches, LocalSpans and ZonesAtHand are for the contracts of bodies alone.
+-- Given: a table, or the parts of a VTIMEZONE. Zones is read first.
 pub mod Zones
 pub mod ZoneOnsets
 pub mod TableBounds
-pub mod Stretches
-pub mod LocalSpans
-pub mod ZonesAtHand

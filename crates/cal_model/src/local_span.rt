@@ -4,7 +4,7 @@ ghost use Rattle.std.specs.Prelude.{ℕ, pos, ◌+ℤ◌, neg_ℤ, ◌<ℤ◌, �
 ghost use Rattle.std.specs.List.{AllWithin};
 ghost use Rattle.cal_model.specs.declared.local_span.Span.{Span};
 ghost use Rattle.cal_model.specs.Instances.Starts.{ascending};
-ghost use Rattle.cal_model.specs.TimeZones.LocalSpans as spec;
+ghost use Rattle.cal_model.specs.Conversions.LocalSpans as spec;
 ghost use Rattle.cal_model.specs.TimeZones.TableBounds.{IsTable, IsDigits, IsOffset};
 
 use crate::zone::ZoneTable;
@@ -46,7 +46,7 @@ fn best(first: Found, second: Found) -> Found
 }
 
 /// How many spans begin at or before a local time.
-#[tactic(auto, using(crate::proofs::TimeZones::SpanLemmas::spans_partitioned))]
+#[tactic(auto, using(crate::proofs::Conversions::SpanLemmas::spans_partitioned))]
 fn spans_until(spans: &[Span], local: i64) -> usize
     requires { AllPairs (λ (a b : Span). a.from <ℤ b.from) spans.now }
     ensures bound { result ≤ length spans.now }
@@ -65,7 +65,7 @@ fn found_of(spans: &[Span], k: usize) -> Found
 }
 
 /// What the last span at or before a local time says.
-#[tactic(auto, using(crate::proofs::TimeZones::SpanLemmas::value_at_none))]
+#[tactic(auto, using(crate::proofs::Conversions::SpanLemmas::value_at_none))]
 pub fn value_at(spans: &[Span], local: i64) -> Found
     requires { AllPairs (λ (a b : Span). a.from <ℤ b.from) spans.now }
     ensures { result ≡ spec.value_at spans.now local }

@@ -3,7 +3,7 @@ ghost use Rattle.std.specs.Prelude.{ℕ, ◌≡◌, ◌+◌, length, IfOk, IfSom
 ghost use Rattle.std.specs.Bool.{OnTrue, OnFalse};
 ghost use Rattle.std.proofs.Props.{props};
 ghost use Rattle.cal_model.specs.Values.LocalTimes.{local_seconds};
-ghost use Rattle.cal_model.specs.TimeZones.LocalSpans.{IsSpansOf, IsSpansOf-prop, IsTable-prop};
+ghost use Rattle.cal_model.specs.Conversions.LocalSpans.{IsSpansOf, IsSpansOf-prop, IsTable-prop};
 ghost use Rattle.cal_model.specs.TimeZones.TableBounds.{IsTable, IsDigits};
 ghost use Rattle.cal_model.specs.TimeZones.Zones as spec;
 

@@ -5,7 +5,7 @@ ghost use Rattle.std.specs.Bool.{OnTrue, OnFalse};
 ghost use Rattle.std.specs.List.{AllWithin};
 ghost use Rattle.cal_model.specs.declared.zone.Onset.{Onset};
 ghost use Rattle.cal_model.specs.Values.LocalTimes.{local_seconds};
-ghost use Rattle.cal_model.specs.TimeZones.Stretches as stretches;
+ghost use Rattle.cal_model.specs.Conversions.Stretches as stretches;
 ghost use Rattle.cal_model.specs.TimeZones.TableBounds.{IsRising, IsTable, IsDigits};
 ghost use Rattle.cal_model.specs.TimeZones.Zones as spec;
 
@@ -83,7 +83,7 @@ fn instant_by(table: &ZoneTable, local: i64, k: usize) -> i64
 }
 
 /// Whether a stretch has a moment with this local time.
-#[tactic(auto, unfolding(crate::specs::TimeZones::Stretches::has_local))]
+#[tactic(auto, unfolding(crate::specs::Conversions::Stretches::has_local))]
 pub fn has_local(table: &ZoneTable, local: i64, k: usize) -> bool
     requires near { IsDigits local }
     requires within { k ≤ length table.now.onsets }
@@ -137,7 +137,7 @@ fn first_stretch(table: &ZoneTable, local: i64) -> Option<usize>
 }
 
 /// Whether some instant has this local time.
-#[tactic(auto, using(crate::proofs::TimeZones::StretchLemmas::exists_in_stretch, crate::proofs::TimeZones::StretchLemmas::exists_in_none))]
+#[tactic(auto, using(crate::proofs::Conversions::StretchLemmas::exists_in_stretch, crate::proofs::Conversions::StretchLemmas::exists_in_none))]
 fn exists_at(table: &ZoneTable, local: i64) -> bool
     requires table { IsTable table.now }
     requires near { IsDigits local }

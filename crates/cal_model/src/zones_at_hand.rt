@@ -1,7 +1,7 @@
 //! The zones of an object at hand for many conversions (RFC 5545, 3.3.5 and 3.6.5).
 ghost use Rattle.std.specs.Prelude.{◌≡◌, All, IfOk};
 ghost use Rattle.cal_model.specs.TimeZones.TableBounds.{IsTable};
-ghost use Rattle.cal_model.specs.TimeZones.ZonesAtHand.{tables_of};
+ghost use Rattle.cal_model.specs.Conversions.ZonesAtHand.{tables_of};
 
 use crate::local_times::LocalTimes;
 use crate::zone::ZoneTable;

@@ -3,7 +3,7 @@ use Rattle.std.specs.Prelude.{ℕ}
 use Rattle.cal_moment.specs.declared.stamp.Stamp.{Stamp}
 use Rattle.cal_moment.specs.declared.stamp.Stamp.TheVariants.{Floating}
 use Rattle.cal_model.specs.Instances.Alignment as spec
-pub use Rattle.cal_model.specs.TimeZones.ZonesAtHand.{tables_of, HasZone}
+pub use Rattle.cal_model.specs.Conversions.ZonesAtHand.{tables_of, HasZone}
 use Rattle.cal_object.specs.declared.aligned.Aligned.{Aligned}
 use Rattle.cal_object.specs.declared.aligned.Aligned.TheVariants.{At, OnDay}
 

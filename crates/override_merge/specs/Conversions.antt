@@ -10,7 +10,7 @@ use Rattle.cal_model.specs.declared.object.Object.{Object}
 use Rattle.cal_model.specs.declared.row.Row.{Row}
 use Rattle.cal_model.specs.Instances.Alignment.{written_value}
 use Rattle.cal_model.specs.TimeZones.TableBounds.{IsTable}
-pub use Rattle.cal_model.specs.TimeZones.ZonesAtHand.{tables_of, HasZone}
+pub use Rattle.cal_model.specs.Conversions.ZonesAtHand.{tables_of, HasZone}
 
 -- a moment of a row: some 35,000 years from 1970 at most
 abbrev pub IsRowTime : ℤ → Type 0

@@ -6,7 +6,7 @@ use Rattle.std.proofs.lemmas.Bool.{cases_Bool, ltb-true, ltb-false}
 use Rattle.cal_model.specs.declared.zone.Onset.{Onset}
 use Rattle.cal_model.specs.declared.zone.ZoneTable.{ZoneTable}
 use Rattle.cal_model.specs.Words.Integers.{same_int, least_of}
-use Rattle.cal_model.specs.TimeZones.Stretches.{no_onset}
+use Rattle.cal_model.specs.Conversions.Stretches.{no_onset}
 use Rattle.cal_model.specs.TimeZones.TableBounds.{IsRising}
 use Rattle.cal_model.proofs.TimeZones.Onsets.{offset_among_none}
 use Rattle.cal_model.specs.TimeZones.Zones.{offset_among, offset_at, local_at, offsets, instants_of, instant_of, onsets_past, after_gap, least_or_after_gap, IsLeastInstant, IsFirstPast, IsSkipped, IsInstantOf}

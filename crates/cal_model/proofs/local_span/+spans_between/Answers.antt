@@ -1,5 +1,5 @@
 use Rattle.std.proofs.Common.{arith, ◌-◌, ◌+◌, ◌/◌, ◌<◌, ◌≤◌}
-use Rattle.cal_model.proofs.TimeZones.SpanLemmas.{IsSpans-between}
+use Rattle.cal_model.proofs.Conversions.SpanLemmas.{IsSpans-between}
 use Rattle.cal_model.proofs.local_span.+spans_between.Goals as goal
 
 pub returns : goal.returns

@@ -1,7 +1,7 @@
 use Rattle.std.proofs.Common.{rules, of_calls, int_le}
 use Rattle.std.proofs.lemmas.Fn.{always_returns_same}
 use Rattle.cal_model.specs.declared.local_span.Span.{Span}
-use Rattle.cal_model.proofs.TimeZones.SpanLemmas.{spans_partitioned}
+use Rattle.cal_model.proofs.Conversions.SpanLemmas.{spans_partitioned}
 use Rattle.cal_model.proofs.local_span.spans_until.Goals as goal
 
 pub returns-clause-before : goal.returns-clause-before

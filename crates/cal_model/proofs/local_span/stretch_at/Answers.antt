@@ -1,7 +1,7 @@
 use Rattle.std.proofs.Common.{◌++◌, ◌∷◌, [], rules, get_or, List, sym, ◌∙◌, ap, pos, to_z-of_z, FitsSigned, w64, arith}
 use Rattle.std.proofs.lemmas.List.{map_more}
 use Rattle.cal_model.specs.declared.local_span.Span.{Span}
-use Rattle.cal_model.specs.TimeZones.LocalSpans.{span_at, found_in}
+use Rattle.cal_model.specs.Conversions.LocalSpans.{span_at, found_in}
 use Rattle.cal_model.proofs.local_span.stretch_at.Goals as goal
 
 pub loop-p-preserved : goal.loop-p-preserved

@@ -1,5 +1,5 @@
 use Rattle.std.proofs.Common.{◌≡◌, map, take}
-use Rattle.cal_model.specs.TimeZones.LocalSpans.{span_at, found_in}
+use Rattle.cal_model.specs.Conversions.LocalSpans.{span_at, found_in}
 use Rattle.cal_model.proofs.local_span.stretch_at.Given as goal
 
 -- a span for each border so far

@@ -1,4 +1,4 @@
-use Rattle.cal_model.proofs.TimeZones.SpanLemmas.{borders_of}
+use Rattle.cal_model.proofs.Conversions.SpanLemmas.{borders_of}
 use Rattle.cal_model.proofs.local_span.stretch_borders.Goals as goal
 
 pub returns : goal.returns

@@ -1,5 +1,5 @@
 use Rattle.std.proofs.Common.{◌∙◌}
-use Rattle.cal_model.proofs.TimeZones.SpanLemmas.{digits_rising, IsSpans-stretch}
+use Rattle.cal_model.proofs.Conversions.SpanLemmas.{digits_rising, IsSpans-stretch}
 use Rattle.cal_model.proofs.local_span.stretch_spans.Goals as goal
 
 pub stretch_at-requires-clause-digits : goal.stretch_at-requires-clause-digits

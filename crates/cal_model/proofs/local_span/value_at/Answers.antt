@@ -1,7 +1,7 @@
 use Rattle.std.proofs.Common.{rules, ◌∙◌, sym, arith, pos, to_z-of_z, FitsSigned, w64, ◌<◌}
 use Rattle.cal_model.specs.declared.local_span.Found.TheVariants.{Nowhere}
 use Rattle.cal_model.specs.declared.local_span.Span.{Span}
-use Rattle.cal_model.proofs.TimeZones.SpanLemmas.{value_among-at}
+use Rattle.cal_model.proofs.Conversions.SpanLemmas.{value_among-at}
 use Rattle.cal_model.proofs.local_span.value_at.Goals as goal
 
 none : Span

@@ -1,7 +1,7 @@
 use Rattle.std.proofs.Common.{rules, subst, get_or, length, ◌==◌, to_z-of_z, FitsSigned, w32, w64}
-use Rattle.cal_model.specs.TimeZones.Stretches.{no_onset}
-use Rattle.cal_model.specs.TimeZones.LocalSpans.{IsWith, end_border}
-use Rattle.cal_model.proofs.TimeZones.SpanLemmas.{with_pushed, with_beyond}
+use Rattle.cal_model.specs.Conversions.Stretches.{no_onset}
+use Rattle.cal_model.specs.Conversions.LocalSpans.{IsWith, end_border}
+use Rattle.cal_model.proofs.Conversions.SpanLemmas.{with_pushed, with_beyond}
 use Rattle.cal_model.proofs.local_span.with_end.Goals as goal
 
 pub returns-in_ok-all-in-Some : goal.returns-in_ok-all-in-Some

@@ -1,5 +1,5 @@
 use Rattle.std.proofs.Common.{rules, ◌∙◌, to_z-of_z, FitsSigned, w64}
-use Rattle.cal_model.proofs.TimeZones.SpanLemmas.{is_shown-found}
+use Rattle.cal_model.proofs.Conversions.SpanLemmas.{is_shown-found}
 use Rattle.cal_model.proofs.local_times.exists_in.Goals as goal
 
 pub returns : goal.returns

@@ -1,5 +1,5 @@
 use Rattle.std.proofs.Common.{rules, ◌∙◌, to_z-of_z, FitsSigned, w64}
-use Rattle.cal_model.proofs.TimeZones.SpanLemmas.{instant_by-found}
+use Rattle.cal_model.proofs.Conversions.SpanLemmas.{instant_by-found}
 use Rattle.cal_model.proofs.local_times.instant_in.Goals as goal
 
 pub returns : goal.returns

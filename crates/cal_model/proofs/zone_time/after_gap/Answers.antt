@@ -1,5 +1,5 @@
 use Rattle.std.proofs.Common.{rules, to_z-of_z, FitsSigned, w64}
-use Rattle.cal_model.proofs.TimeZones.StretchLemmas.{IsInstantOf-first_past, some_leads_past}
+use Rattle.cal_model.proofs.Conversions.StretchLemmas.{IsInstantOf-first_past, some_leads_past}
 use Rattle.cal_model.proofs.zone_time.after_gap.Goals as goal
 
 pub returns-in-Some : goal.returns-in-Some

@@ -1,7 +1,7 @@
 use Rattle.std.proofs.Common.{rules, ◌≡◌, sym, ◌∙◌, false, nat_lt, arith, inl, inr, to_z-of_z, FitsSigned, w64}
 use Rattle.std.proofs.lemmas.Bool.{cases_Bool, ltb-true, ltb-false}
-use Rattle.cal_model.specs.TimeZones.Stretches.{has_local}
-use Rattle.cal_model.proofs.TimeZones.StretchLemmas.{has_local-early, has_local-late}
+use Rattle.cal_model.specs.Conversions.Stretches.{has_local}
+use Rattle.cal_model.proofs.Conversions.StretchLemmas.{has_local-early, has_local-late}
 use Rattle.cal_model.proofs.zone_time.first_stretch.Goals as goal
 
 pub loop-k-init : goal.loop-k-init

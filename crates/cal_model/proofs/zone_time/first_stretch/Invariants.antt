@@ -1,5 +1,5 @@
 use Rattle.std.proofs.Common.{◌≡◌, ℕ, ◌<◌, false}
-use Rattle.cal_model.specs.TimeZones.Stretches.{has_local}
+use Rattle.cal_model.specs.Conversions.Stretches.{has_local}
 use Rattle.cal_model.proofs.zone_time.first_stretch.Given as goal
 
 -- no stretch before has it

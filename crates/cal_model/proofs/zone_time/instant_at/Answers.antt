@@ -1,5 +1,5 @@
 use Rattle.std.proofs.Common.{rules, to_z-of_z, FitsSigned, w64, inl}
-use Rattle.cal_model.proofs.TimeZones.StretchLemmas.{IsLeastInstant-stretch, IsSkipped-stretches}
+use Rattle.cal_model.proofs.Conversions.StretchLemmas.{IsLeastInstant-stretch, IsSkipped-stretches}
 use Rattle.cal_model.proofs.zone_time.instant_at.Goals as goal
 
 pub after_gap-requires-clause-skipped : goal.after_gap-requires-clause-skipped

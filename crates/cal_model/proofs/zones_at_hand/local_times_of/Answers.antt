@@ -1,6 +1,6 @@
 use Rattle.std.proofs.lemmas.List.Elements.{All-tail}
 use Rattle.cal_model.specs.TimeZones.TableBounds.{IsTable}
-use Rattle.cal_model.proofs.TimeZones.ZonesAtHandLemmas.{tables_more}
+use Rattle.cal_model.proofs.Conversions.ZonesAtHandLemmas.{tables_more}
 use Rattle.cal_model.proofs.zones_at_hand.local_times_of.Goals as goal
 
 pub tables-preserved : goal.tables-preserved

@@ -1,7 +1,7 @@
 use Rattle.std.proofs.Common.{◌≡◌, ◌++◌, length}
 use Rattle.std.specs.Prelude.{All}
 use Rattle.cal_model.specs.TimeZones.TableBounds.{IsTable}
-use Rattle.cal_model.specs.TimeZones.ZonesAtHand.{tables_of}
+use Rattle.cal_model.specs.Conversions.ZonesAtHand.{tables_of}
 use Rattle.cal_model.proofs.zones_at_hand.local_times_of.Given as goal
 
 -- the zones so far, and those that are left

@@ -1,7 +1,7 @@
 use Rattle.std.proofs.Common.{rules, to_z-of_z, FitsSigned, w64}
 use Rattle.cal_model.specs.Values.LocalTimes.{local_seconds}
 use Rattle.cal_model.proofs.TimeZones.ConversionLaws.{OnTrue_exists_in, OnFalse_exists_in}
-use Rattle.cal_model.proofs.TimeZones.SpanLemmas.{spans_kept}
+use Rattle.cal_model.proofs.Conversions.SpanLemmas.{spans_kept}
 use Rattle.cal_model.proofs.local_times.LocalTimes.exists.Goals as goal
 
 pub exists_in-requires-clause-spans : goal.exists_in-requires-clause-spans

@@ -1,4 +1,4 @@
--- The local times of a zone as spans in rising order, for the contracts of the functions that make them and search in them. What a local time is stands in `Zones`, which knows no span.
+-- The local times of a zone as spans in rising order, for the contracts of the functions that make them and search in them. What a local time is stands in `TimeZones/Zones`, which knows no span.
 use Rattle.std.specs.Prelude.{◌≡◌, ℕ, zero, suc, ◌-◌, ◌+◌, Bool, true, false, ◌==◌, if◌then◌else◌, List, [], ◌∷◌, ◌++◌, map, length, get_or, Contains, All, AllPairs, ◌⊎◌, ℤ, pos, neg_ℤ, ◌+ℤ◌, ◌-ℤ◌, ◌<ℤ◌, int_le, refl}
 use Rattle.std.specs.Coded.{Coded-set, code_by, coded×, coded_ℕ, coded_ℤ}
 use Rattle.std.proofs.Props.{props}
@@ -6,7 +6,7 @@ use Rattle.cal_model.specs.declared.local_span.Found.{Found}
 use Rattle.cal_model.specs.declared.local_span.Found.TheVariants.{Shown, Skipped, Nowhere}
 use Rattle.cal_model.specs.declared.local_span.Span.{Span}
 use Rattle.cal_model.specs.declared.zone.ZoneTable.{ZoneTable}
-use Rattle.cal_model.specs.TimeZones.Stretches.{no_onset, offset_of_stretch, has_local, leads_past}
+use Rattle.cal_model.specs.Conversions.Stretches.{no_onset, offset_of_stretch, has_local, leads_past}
 use Rattle.cal_model.specs.TimeZones.TableBounds.{IsDigits, IsTable}
 use Rattle.cal_model.specs.Instances.Starts.{ascending}
 

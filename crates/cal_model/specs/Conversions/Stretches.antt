@@ -1,5 +1,5 @@
 -- The stretches of a zone's time between its onsets (RFC 5545, 3.6.5), for the contracts of the functions that go over them. Stretch 0 lies before the first onset, and the last one from the last onset on.
--- What a local time is stands in `Zones`, which knows no stretch.
+-- What a local time is stands in `TimeZones/Zones`, which knows no stretch.
 use Rattle.std.specs.Prelude.{ℕ, ◌-◌, Bool, true, ◌&&◌, ◌==◌, if◌then◌else◌, List, length, get_or, ℤ, pos, ◌-ℤ◌, int_le, int_lt}
 use Rattle.cal_model.specs.declared.zone.Onset.{Onset}
 use Rattle.cal_model.specs.declared.zone.ZoneTable.{ZoneTable}

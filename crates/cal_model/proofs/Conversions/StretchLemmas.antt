@@ -6,7 +6,7 @@ use Rattle.std.proofs.lemmas.Int.{ints, by_lt_z}
 use Rattle.std.proofs.lemmas.Bool.{cases_Bool, ltb-true, ltb-false}
 use Rattle.cal_model.specs.declared.zone.Onset.{Onset}
 use Rattle.cal_model.specs.declared.zone.ZoneTable.{ZoneTable}
-use Rattle.cal_model.specs.TimeZones.Stretches.{no_onset, offset_of_stretch, begins_by, ends_after, is_in_stretch, has_local, leads_past}
+use Rattle.cal_model.specs.Conversions.Stretches.{no_onset, offset_of_stretch, begins_by, ends_after, is_in_stretch, has_local, leads_past}
 use Rattle.cal_model.specs.TimeZones.TableBounds.{IsRising, IsTable, IsOffset}
 use Rattle.cal_model.specs.TimeZones.Zones.{offset_at, local_at, exists_in, instants_of, IsLeastInstant, IsSkipped, IsInstantOf}
 use Rattle.cal_model.proofs.TimeZones.Instants.{In, here, nth, Latest, FirstPast, latest_onset, offset_from, later_onset, first_moment_past, is_past, some_past, instants_of-all, instants_of-only}

@@ -14,14 +14,14 @@ use Rattle.cal_model.specs.declared.local_span.Found.TheVariants.{Shown, Skipped
 use Rattle.cal_model.specs.declared.local_span.Span.{Span}
 use Rattle.cal_model.specs.declared.zone.Onset.{Onset}
 use Rattle.cal_model.specs.declared.zone.ZoneTable.{ZoneTable}
-use Rattle.cal_model.specs.TimeZones.Stretches.{no_onset, offset_of_stretch, begins_by, ends_after, has_local, leads_past}
+use Rattle.cal_model.specs.Conversions.Stretches.{no_onset, offset_of_stretch, begins_by, ends_after, has_local, leads_past}
 use Rattle.cal_model.specs.TimeZones.TableBounds.{IsRising, IsDigits, IsOffset}
 use Rattle.cal_model.specs.TimeZones.Zones.{exists_in, instant_of, IsInstantOf}
 use Rattle.cal_model.specs.Instances.Starts.{ascending}
-use Rattle.cal_model.specs.TimeZones.LocalSpans.{is_shown, instant_by, IsSpansOf, IsSpansOf-prop, best, leads_up, found_in, found_from, value_among, value_at, span_at, begin_border, end_border, IsBeyond, HasBorder, IsWith, HasBordersOf, IsJoined, lowest, IsSpans}
+use Rattle.cal_model.specs.Conversions.LocalSpans.{is_shown, instant_by, IsSpansOf, IsSpansOf-prop, best, leads_up, found_in, found_from, value_among, value_at, span_at, begin_border, end_border, IsBeyond, HasBorder, IsWith, HasBordersOf, IsJoined, lowest, IsSpans}
 use Rattle.cal_model.proofs.Words.AllLemmas.{All-unmap}
 use Rattle.cal_model.proofs.TimeZones.Instants.{IsInstantOf-instant_of}
-use Rattle.cal_model.proofs.TimeZones.StretchLemmas.{IsLeastInstant-stretch, IsSkipped-stretches, IsInstantOf-first_past, some_leads_past, exists_in_stretch, exists_in_none}
+use Rattle.cal_model.proofs.Conversions.StretchLemmas.{IsLeastInstant-stretch, IsSkipped-stretches, IsInstantOf-first_past, some_leads_past, exists_in_stretch, exists_in_none}
 use Rattle.cal_model.proofs.Instances.RisingLists.{IsBelow, All-ascending, ascending-rising, ascending-has, AllPairs-head, AllPairs-tail, Contains-here, Contains-there, Contains-split}
 
 best-assoc : (a b c : Found) → best (best a b) c ≡ best a (best b c)
