@@ -5,13 +5,13 @@
 -- Of the table's notes these are left: an ordinal of BYDAY counts in the month or in the year (`counts_in_month`), and BYWEEKNO counts in the year to which the week belongs, while the period is the calendar year of the day: 29 December 2025 is in week 1, and in the period of 2025.
 --
 -- Moments are seconds from 1 January of the year 0 (`Rattle.cal_moment.specs.Calendar`). `if` stands where `&&` would, so that an example stops at the first test that fails.
-use Rattle.std.specs.Prelude.{ℕ, ◌+◌, ◌-◌, ◌*◌, ◌/◌, ◌%◌, Bool, true, false, not, ◌==◌, nat_le, if◌then◌else◌, List, ℤ, pos, negsuc}
+use Rattle.std.specs.Prelude.{ℕ, ◌+◌, ◌-◌, ◌*◌, ◌/◌, ◌%◌, Bool, true, false, not, ◌==◌, nat_le, if◌then◌else◌, List, [], ◌∷◌, ℤ, pos, negsuc}
 use Rattle.cal_moment.specs.Calendar.{first_of_year, year_length, month_length, year_of, day_of_year, month_of, day_of_month, weekday_of, day_of_moment, second_of_day}
 use Rattle.cal_model.specs.declared.rule.Rule.{Rule}
 use Rattle.cal_model.specs.declared.rule.DayPart.{DayPart}
 use Rattle.cal_model.specs.declared.rule.Freq.{Freq}
 use Rattle.cal_model.specs.declared.rule.Freq.TheVariants.{Secondly, Minutely, Hourly, Daily, Weekly, Monthly, Yearly}
-use Rattle.cal_model.specs.Words.Lists.{is_empty, has_number}
+use Rattle.cal_model.specs.Words.Lists.{is_empty, has_number, passes_each}
 use Rattle.cal_model.specs.Words.Integers.{some_names_place}
 use Rattle.std.specs.List.{list_any}
 
@@ -137,18 +137,14 @@ default_passes rule start day =
     if has_day_part rule then true
     else (if is_empty rule.by_week then day_default rule.freq rule start day else same_weekday start day)
 
--- a day passes all that the rule and its start say of days
+-- all that the rule and its start say of days
+abbrev pub day_tests : Rule → ℕ → List (ℕ → Bool)
+day_tests rule start =
+    month_passes rule ∷ month_day_passes rule ∷ by_day_passes rule ∷ year_day_passes rule ∷ week_passes rule ∷ default_passes rule start ∷ []
+
+-- a day passes all of it
 unfoldable pub day_passes : Rule → ℕ → ℕ → Bool
-day_passes rule start day =
-    if month_passes rule day
-    then (if month_day_passes rule day
-    then (if by_day_passes rule day
-    then (if year_day_passes rule day
-    then (if week_passes rule day then default_passes rule start day else false)
-    else false)
-    else false)
-    else false)
-    else false
+day_passes rule start day = passes_each (day_tests rule start) day
 
 -- The time of day: BYHOUR, BYMINUTE and BYSECOND.
 
