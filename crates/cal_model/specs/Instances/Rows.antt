@@ -1,5 +1,6 @@
 -- The instances of an object as rows: overrides, ids, order, and the rows of a window. From RFC 5545, 3.2.13 and 3.8.4.4, and RFC 4791, 4.1.
 -- One list of all rows. A window is a filter over it; that a part of the instances is enough to find the rows of one window is `merged-part` (`proofs/Instances/MergedParts`). Each definition takes the list of moments over which rules are taken: the rows themselves are those over `every_moment`.
+-- A section, `module _`, says once what its definitions stand beside. From outside they take that first.
 use Rattle.std.specs.Prelude.{ℕ, ◌+◌, Bool, true, false, not, ◌&&◌, nat_le, if◌then◌else◌, List, [], ◌∷◌, ◌++◌, map, filter, filter_map, flat_map, option_to_list, option_and_then, slice_get, ℤ, pos, ◌+ℤ◌, ◌-ℤ◌, int_le, int_lt, Option, Some, None, is_some, is_none}
 use Rattle.std.specs.Int.{int_div_euclid}
 use Rattle.std.specs.List.{list_any}
@@ -59,18 +60,7 @@ ids_start object =
 abbrev pub named_by : List ZoneTable → Stamp → Numbered → List Aligned
 named_by zones ids n = map (λ x. align zones x ids) (option_to_list n.component.recurrence_id)
 
--- some override names a start
-abbrev pub is_named : Object → Stamp → ℤ → Bool
-is_named object ids r =
-    list_any (λ n. list_any (names_start (reading_of object.zones ids) r) (named_by object.zones ids n)) (overrides object)
-
--- the id of an override's row beside all starts: what its RECURRENCE-ID says; of a local day the first start that it names, else the day's midnight
-abbrev pub id_of_override : Object → Stamp → List ℤ → Aligned → ℤ
-id_of_override object ids all (at v) = v
-id_of_override object ids all (on_day midnight) =
-    first_or_else ((reading_of object.zones ids).instant midnight) (filter (λ r. names_start (reading_of object.zones ids) r (on_day midnight)) all)
-
--- Rows.
+-- Rows, and their order.
 
 abbrev pub row_of : ℤ → ℤ → ℤ → ℕ → RowKind → RowKind → Row
 row_of id start end number id_kind its_kind = record { id = id; start = start; end = end; component = number; id_kind = id_kind; kind = its_kind }
@@ -82,32 +72,33 @@ undated_row n = row_of (pos 0) (pos 0) (pos 0) n.number kind.Undated kind.Undate
 abbrev pub undated_rows : Object → List Row
 undated_rows object = map undated_row (filter (λ (n : Numbered). is_none (own_start n.component)) (numbered object))
 
+-- rows are ordered by id, then component
+abbrev pub comes_before : Row → Row → Bool
+comes_before a b =
+    if int_lt a.id b.id then true else (if same_int a.id b.id then nat_le a.component b.component else false)
+
+abbrev pub put_row : Row → List Row → List Row
+put_row row [] = row ∷ []
+put_row row (x ∷ xs) = if comes_before row x then row ∷ x ∷ xs else x ∷ put_row row xs
+
+abbrev pub in_order : List Row → List Row
+in_order [] = []
+in_order (row ∷ rows) = put_row row (in_order rows)
+
 -- all starts of an object, in order
 abbrev pub starts : List ℕ → Object → List ℤ
 starts moments object = flat_map (λ (n : Numbered). starts_of moments object.zones n.component) (masters object)
 
--- the row of a master at a start, which is its id
-abbrev pub master_row : List ℕ → Object → Stamp → ℤ → Numbered → List Row
-master_row moments object ids r n =
-    map (λ s. row_of r r (end_of_instance moments object.zones s n.component r) n.number (kind_of ids) (kind_of s)) (option_to_list (own_start n.component))
+-- Overrides that move all later instances (RFC 5545, 3.2.13).
 
--- Starts that an override governs (RFC 5545, 3.2.13).
-
--- an override that moves all later instances: the id of its own row, and the stamp from which it starts. One whose own row is Undated moves none.
+-- one of them: the id of its own row, and the stamp from which it starts. One whose own row is Undated moves none.
 pub record Governor : Type 0 where
   pub id : ℤ
   pub start : Stamp
   pub override : Numbered
 
-abbrev pub governors_by : Object → Stamp → List ℤ → Numbered → List Governor
-governors_by object ids all n =
-    flat_map (λ s. map (λ x. record { id = id_of_override object ids all x; start = s; override = n }) (named_by object.zones ids n)) (option_to_list (own_start n.component))
-
 abbrev pub moves_later : Numbered → Bool
 moves_later n = n.component.future
-
-abbrev pub governors : Object → Stamp → List ℤ → List Governor
-governors object ids all = flat_map (governors_by object ids all) (filter moves_later (overrides object))
 
 -- the one with the greatest id, of several with that id the last
 abbrev pub greatest_id : Governor → List Governor → Governor
@@ -126,55 +117,74 @@ moved_digits zones g r = (reading_of zones g.start).local r +ℤ move_of zones g
 abbrev pub are_served : ℤ → Bool
 are_served l = int_le first_date l && int_le l last_date
 
--- the row of a start that an override governs: moved, with the override's own length; none where its digits leave the dates that are served
-abbrev pub moved_row : Object → Stamp → ℤ → Governor → List Row
-moved_row object ids r g =
-    let digits = moved_digits object.zones g r in
-    let start = (reading_of object.zones g.start).instant digits in
-    if are_served digits then row_of r start (end_from object.zones g.override.component start) g.override.number (kind_of ids) (kind_of g.start) ∷ [] else []
+-- Beside an object and the stamp beside which its ids are aligned.
 
-abbrev pub master_rows : List ℕ → Object → Stamp → ℤ → List Row
-master_rows moments object ids r = flat_map (master_row moments object ids r) (masters object)
+module _ (object : Object) (ids : Stamp) where
+  -- some override names a start
+  abbrev pub is_named : ℤ → Bool
+  is_named r = list_any (λ n. list_any (names_start (reading_of object.zones ids) r) (named_by object.zones ids n)) (overrides object)
 
--- governed by the override with the greatest id, else by the master
-abbrev pub governed_row : List ℕ → Object → Stamp → ℤ → List Governor → List Row
-governed_row moments object ids r [] = master_rows moments object ids r
-governed_row moments object ids r (g ∷ gs) = moved_row object ids r (greatest_id g gs)
+  -- the row of a start that an override governs: moved, with the override's own length; none where its digits leave the dates that are served
+  abbrev pub moved_row : ℤ → Governor → List Row
+  moved_row r g =
+      let digits = moved_digits object.zones g r in
+      let start = (reading_of object.zones g.start).instant digits in
+      if are_served digits then row_of r start (end_from object.zones g.override.component start) g.override.number (kind_of ids) (kind_of g.start) ∷ [] else []
 
--- The row of a start, beside all starts. One that an override names is not governed: the override's row takes the place of the master's.
-abbrev pub row_at : List ℕ → Object → Stamp → List ℤ → ℤ → List Row
-row_at moments object ids all r =
-    if is_named object ids r then master_rows moments object ids r
-    else governed_row moments object ids r (filter (λ (g : Governor). int_lt g.id r) (governors object ids all))
+  -- And beside all starts.
 
--- the row of an override, if it has a start of its own: from that start, with its own length
-abbrev pub override_row_from : Object → Stamp → List ℤ → Numbered → Stamp → ℤ → List Row
-override_row_from object ids all n s start =
-    map (λ x. row_of (id_of_override object ids all x) start (end_from object.zones n.component start) n.number (kind_of ids) (kind_of s)) (named_by object.zones ids n)
+  module _ (all : List ℤ) where
+    -- the id of an override's row: what its RECURRENCE-ID says; of a local day the first start that it names, else the day's midnight
+    abbrev pub id_of_override : Aligned → ℤ
+    id_of_override (at v) = v
+    id_of_override (on_day midnight) =
+        first_or_else ((reading_of object.zones ids).instant midnight) (filter (λ r. names_start (reading_of object.zones ids) r (on_day midnight)) all)
 
-abbrev pub override_row : Object → Stamp → List ℤ → Numbered → List Row
-override_row object ids all n =
-    flat_map (λ s. override_row_from object ids all n s (value_of object.zones s)) (option_to_list (own_start n.component))
+    abbrev pub governors_by : Numbered → List Governor
+    governors_by n =
+        flat_map (λ s. map (λ x. record { id = id_of_override x; start = s; override = n }) (named_by object.zones ids n)) (option_to_list (own_start n.component))
 
--- rows are ordered by id, then component
-abbrev pub comes_before : Row → Row → Bool
-comes_before a b =
-    if int_lt a.id b.id then true else (if same_int a.id b.id then nat_le a.component b.component else false)
+    -- the overrides that move all later instances
+    abbrev pub governors : List Governor
+    governors = flat_map governors_by (filter moves_later (overrides object))
 
-abbrev pub put_row : Row → List Row → List Row
-put_row row [] = row ∷ []
-put_row row (x ∷ xs) = if comes_before row x then row ∷ x ∷ xs else x ∷ put_row row xs
+    -- the row of an override, if it has a start of its own: from that start, with its own length
+    abbrev pub override_row_from : Numbered → Stamp → ℤ → List Row
+    override_row_from n s start =
+        map (λ x. row_of (id_of_override x) start (end_from object.zones n.component start) n.number (kind_of ids) (kind_of s)) (named_by object.zones ids n)
 
-abbrev pub in_order : List Row → List Row
-in_order [] = []
-in_order (row ∷ rows) = put_row row (in_order rows)
+    abbrev pub override_row : Numbered → List Row
+    override_row n = flat_map (λ s. override_row_from n s (value_of object.zones s)) (option_to_list (own_start n.component))
 
--- the overrides' rows in place of the instances that they name, or added where they name none. One without a start takes away what it names.
-abbrev pub merged : Object → Stamp → List ℤ → List Row → List Row
-merged object ids all instances =
-    in_order (flat_map (override_row object ids all) (overrides object) ++ filter (λ (r : Row). not (is_named object ids r.id)) instances)
+    -- the overrides' rows in place of the instances that they name, or added where they name none. One without a start takes away what it names.
+    abbrev pub merged : List Row → List Row
+    merged instances = in_order (flat_map override_row (overrides object) ++ filter (λ (r : Row). not (is_named r.id)) instances)
 
--- The same over all instances, those of overrides that govern too: each has the start that it stands for as its id, so overrides find in these ids what they name (`dated_rows-merged` in `proofs/Instances/RowsInOrder`).
+-- The row of a start, over some moments.
+
+module _ (moments : List ℕ) (object : Object) (ids : Stamp) where
+  -- the row of a master at a start, which is its id
+  abbrev pub master_row : ℤ → Numbered → List Row
+  master_row r n =
+      map (λ s. row_of r r (end_of_instance moments object.zones s n.component r) n.number (kind_of ids) (kind_of s)) (option_to_list (own_start n.component))
+
+  abbrev pub master_rows : ℤ → List Row
+  master_rows r = flat_map (master_row r) (masters object)
+
+  -- governed by the override with the greatest id, else by the master
+  abbrev pub governed_row : ℤ → List Governor → List Row
+  governed_row r [] = master_rows r
+  governed_row r (g ∷ gs) = moved_row object ids r (greatest_id g gs)
+
+  -- One that an override names is not governed: the override's row takes the place of the master's.
+  abbrev pub row_at : List ℤ → ℤ → List Row
+  row_at all r =
+      if is_named object ids r then master_rows r
+      else governed_row r (filter (λ (g : Governor). int_lt g.id r) (governors object ids all))
+
+-- All rows.
+
+-- Overrides put in beside all instances, those of overrides that govern too: each has the start that it stands for as its id, so overrides find in these ids what they name (`dated_rows-merged` in `proofs/Instances/RowsInOrder`).
 -- Over some of them it is another list: an override by a local day takes its id from the instances that it is given.
 abbrev pub merged_with : Object → List Row → List Row
 merged_with object instances =
