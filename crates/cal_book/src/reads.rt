@@ -5,8 +5,8 @@
 //! Gives: the one reply that the definitions have for it. Used by: the book, which serves requests.
 
 mod finding;
+mod given_zone;
 mod reading;
 mod reports;
-mod zones;
 
 pub(crate) use reading::answer_reading;

@@ -8,7 +8,7 @@ ghost use Rattle.cal_object.specs.Recurrences.{recurrence_of};
 
 use crate::alarms::alarms_of;
 use crate::busy::{busy_of, stored_busy_of};
-use crate::ends::read_extent;
+use crate::extents::read_extent;
 use crate::kinds::has_future;
 use crate::line_dates::{periods_at, stamp_at, stamps_at};
 use crate::zone_dates::rules_of;

@@ -13,7 +13,7 @@ mod component;
 mod component_fault;
 mod contents;
 mod dates;
-mod ends;
+mod extents;
 mod fault;
 mod identifiers;
 mod kinds;

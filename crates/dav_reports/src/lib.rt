@@ -16,11 +16,11 @@ mod query;
 mod ranges;
 mod refusals;
 mod report;
+mod report_zones;
 mod rows;
 mod runs;
 mod shown_response;
 mod text;
-mod zones;
 
 pub use laws::held_reports_are_free;
 pub use report::run_report;

@@ -17,7 +17,7 @@ use crate::free_busy::busy_body;
 use crate::multiget::multiget;
 use crate::query::query;
 use crate::refusals::{refused, refused_length, refused_range};
-use crate::zones::{report_zone, utc};
+use crate::report_zones::{report_zone, utc};
 use cal_base::{NoMemory, Octets, Steps};
 use cal_model::view::Pieces;
 use cal_model::{Media, PropAnswers, Refusal, Reply, ReportRequest, Seen, ZoneTable};

@@ -11,7 +11,7 @@ ghost use Rattle.object_walk.specs.WalkedObjects.{objects_at};
 ghost use Rattle.dav_reports.specs.CalendarObjects.{AreHeldRight, entries_cost, times_of_entries};
 
 use crate::busy::put_object;
-use crate::zones::{utc, zone_or};
+use crate::report_zones::{utc, zone_or};
 use cal_base::{List, NoMemory, Steps};
 use cal_model::view::Pieces;
 use cal_model::{Range, Seen, ZoneTable};

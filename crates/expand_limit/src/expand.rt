@@ -13,11 +13,11 @@ ghost use Rattle.expand_limit.specs.InstanceLines.{IsShownRow};
 ghost use Rattle.ical_objects.specs.Printing.{IsOwnLine, IsPrintable, ArePrintable};
 ghost use Rattle.override_merge.specs.Conversions.{tables_of, HasConvertibleRow};
 
+use crate::component_names::{is_named, is_of_four_kinds, is_of_recurrence};
 use crate::ends::end_from;
 use crate::instance::{Instance, write_instance_lines};
 use crate::kept::{Kept, inner, leaves_out};
 use crate::lines::{Options, write_lines};
-use crate::names::{is_named, is_of_four_kinds, is_of_recurrence};
 use crate::tree::{write_child, write_children, write_mark};
 use cal_base::{Line, NoMemory, Node, Octets};
 use cal_model::{Component, LocalTimes, Object, Range, Row, RowKind, ZoneTable};

@@ -13,9 +13,9 @@ ghost use Rattle.expand_limit.specs.ShownTexts.{line_text};
 ghost use Rattle.expand_limit.specs.InstanceLines.{IsShownRow, instance_line_by, lines_after_start_by};
 ghost use Rattle.ical_objects.specs.Printing.{IsOwnLine};
 
+use crate::component_names::{is_named, is_of_recurrence};
 use crate::kept::{Kept, portion};
 use crate::lines::write_shown;
-use crate::names::{is_named, is_of_recurrence};
 use cal_base::{Line, NoMemory, Octets};
 use cal_model::{Component, Kind, Range, Row, RowKind};
 use shown_lines::{write_new, write_no_length, write_rewritten};

@@ -8,6 +8,7 @@
 
 mod busy;
 mod calendar_data;
+mod component_names;
 mod ends;
 mod expand;
 mod instance;
@@ -15,7 +16,6 @@ mod kept;
 mod left;
 mod limit;
 mod lines;
-mod names;
 mod picks;
 mod tree;
 

@@ -9,8 +9,8 @@ ghost use Rattle.ical_objects.specs.Printing.{IsOwnLine};
 ghost use Rattle.shown_lines.specs.Portions.{written_portion};
 
 use crate::busy::write_busy;
+use crate::component_names::{is_named, is_of_recurrence};
 use crate::kept::{Kept, portion};
-use crate::names::{is_named, is_of_recurrence};
 use cal_base::{Line, NoMemory, Octets};
 use cal_model::Range;
 use shown_lines::{Portion, write_portion};

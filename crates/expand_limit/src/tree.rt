@@ -7,9 +7,9 @@ ghost use Rattle.expand_limit.specs.KeptParts.{IsKept};
 ghost use Rattle.expand_limit.specs.ShownTexts.{node_text, seen_nodes};
 ghost use Rattle.ical_objects.specs.Printing.{IsPrintable, ArePrintable};
 
+use crate::component_names::is_time_zone;
 use crate::kept::{Kept, inner, leaves_out};
 use crate::lines::{Options, write_lines};
-use crate::names::is_time_zone;
 use cal_base::{Name, NoMemory, Node, Octets};
 use ical_lines::write_line;
 use std::alloc::Global;

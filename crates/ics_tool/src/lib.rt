@@ -7,11 +7,11 @@
 #![tactic(auto)]
 
 mod answer;
+mod file_zone;
 mod found;
 mod lines;
 mod listing;
 mod summing;
-mod zones;
 
 pub use answer::Listed;
 pub use listing::list_rows;

@@ -9,9 +9,9 @@ ghost use Rattle.ics_tool.specs.NearRows.{IsListable, listing_cost, windows_cost
 ghost use Rattle.ics_tool.specs.RowTexts.{rows_text};
 
 use crate::answer::{Listed, refusal, zone_refusal};
+use crate::file_zone::zone_of;
 use crate::found::rows_near;
 use crate::lines::put_met;
-use crate::zones::zone_of;
 use cal_base::{NoMemory, Octets, Steps};
 use cal_model::{Object, Range, ZoneTable};
 use cal_object::read_object;

@@ -9,8 +9,8 @@
 mod accepted;
 mod conditions;
 mod looks;
-mod names;
 mod needs;
+mod path_names;
 mod refusals;
 mod replies;
 mod scenes;

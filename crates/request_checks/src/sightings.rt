@@ -6,7 +6,7 @@ ghost use Rattle.request_checks.specs.declared.looks.Look.{Look as Looks};
 ghost use Rattle.request_checks.specs.Sightings as sightings;
 
 use crate::looks::{Look, shows_objects};
-use crate::names::{calendar_name, names_home, user_name};
+use crate::path_names::{calendar_name, names_home, user_name};
 use crate::walks::shows_home;
 use cal_base::Arc;
 use cal_model::view::View;

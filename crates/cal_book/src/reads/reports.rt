@@ -12,7 +12,7 @@ ghost use Rattle.cal_book.specs.Answering.ReadingCost.{cost_of, report_in};
 ghost use Rattle.request_checks.specs.Scenes.{IsScene};
 ghost use Rattle.request_checks.specs.Sightings.{IsDataAt, user_seen};
 
-use crate::reads::zones::zone_given;
+use crate::reads::given_zone::zone_given;
 use cal_base::{NoMemory, Steps};
 use cal_model::view::Pieces;
 use cal_model::{Content, Path, Reply, Request, Seen};
