@@ -118,17 +118,17 @@ is_bad_line line = not (is_silent line) && is_none (entry_of_line line)
 -- Files
 
 -- something, and the place of its line
-pub record Placed (X : Type 0) : Type 0 where
+pub record LineItem (X : Type 0) : Type 0 where
   pub place : ℕ
   pub it : X
 
 -- the pieces between the line feeds, each with its place, the first of them at a place
-abbrev pub placed_from : ℕ → List (List ℕ) → List (Placed (List ℕ))
+abbrev pub placed_from : ℕ → List (List ℕ) → List (LineItem (List ℕ))
 placed_from place [] = []
 placed_from place (line ∷ more) = record { place = place; it = line } ∷ placed_from (place + length line + 1) more
 
 -- what stands behind the last line feed: not empty where the last line lacks its end
-abbrev pub unended : Placed (List ℕ) → Bool
+abbrev pub unended : LineItem (List ℕ) → Bool
 unended last = not (is_empty last.it)
 
 abbrev pub without_last : {X : Type 0} → List X → List X
@@ -141,25 +141,25 @@ last_of [] = []
 last_of (x ∷ []) = x ∷ []
 last_of (x ∷ y ∷ xs) = last_of (y ∷ xs)
 
-abbrev pub placed_lines : List ℕ → List (Placed (List ℕ))
+abbrev pub placed_lines : List ℕ → List (LineItem (List ℕ))
 placed_lines octets = placed_from 0 (pieces line_feed octets)
 
 -- what the lines name, in order
-abbrev pub placed_by : {X : Type 0} → (List ℕ → Option X) → Placed (List ℕ) → Option (Placed X)
+abbrev pub placed_by : {X : Type 0} → (List ℕ → Option X) → LineItem (List ℕ) → Option (LineItem X)
 placed_by read line = option_map (λ it. record { place = line.place; it = it }) (read line.it)
 
-abbrev pub placed_entries : List ℕ → List (Placed Entry)
+abbrev pub placed_entries : List ℕ → List (LineItem Entry)
 placed_entries octets = filter_map (placed_by entry_of_line) (without_last (placed_lines octets))
 
 -- those that are of one sort
-abbrev pub of_sort : {X : Type 0} → (Entry → Option X) → Placed Entry → Option (Placed X)
+abbrev pub of_sort : {X : Type 0} → (Entry → Option X) → LineItem Entry → Option (LineItem X)
 of_sort sort entry = option_map (λ it. record { place = entry.place; it = it }) (sort entry.it)
 
-abbrev pub places : {X : Type 0} → List (Placed X) → List ℕ
+abbrev pub places : {X : Type 0} → List (LineItem X) → List ℕ
 places xs = map (λ x. x.place) xs
 
 -- the places of those that repeat a name, a user's or a group's
-abbrev pub repeated : List (Placed Entry) → List ℕ
+abbrev pub repeated : List (LineItem Entry) → List ℕ
 repeated [] = []
 repeated (entry ∷ more) = places (filter (λ other. bytes_eq (name_of entry.it) (name_of other.it)) more) ++ repeated more
 
@@ -168,7 +168,7 @@ abbrev pub has_stranger : List (List ℕ) → NamedGroup → Bool
 has_stranger known group = list_any (λ member. not (list_any (bytes_eq member) known)) group.members
 
 -- the places of the groups that have a member whom no line before theirs names as a user
-abbrev pub with_strangers : List (List ℕ) → List (Placed Entry) → List ℕ
+abbrev pub with_strangers : List (List ℕ) → List (LineItem Entry) → List ℕ
 with_strangers known [] = []
 with_strangers known (entry ∷ more) =
     places (filter (λ placed. list_any (has_stranger known) (option_to_list (group_in placed.it))) (entry ∷ []))
