@@ -12,7 +12,6 @@ pub mod Selections
 pub mod Busy
 pub mod Reports
 pub mod Pieces
-mod Access
 mod Replies
 pub mod Streams
 pub mod Paths
@@ -20,7 +19,6 @@ pub mod Bodies
 pub mod Requests
 pub mod State
 pub mod Sight
-pub mod Refusals
 pub mod Serving
 pub mod History
 pub mod Transcripts

@@ -1,17 +1,16 @@
 -- What an element holds is what the elements in it hold, its own text, the values of its attributes, and four.
 use Rattle.std.specs.Prelude.{◌≡◌, ℕ, ◌+◌, ◌*◌, ◌≤◌, Bool, true, false, if◌then◌else◌, List, [], ◌∷◌, length, take, map, sum_by, filter, flat_map, find, codes, Option, Some, None, option_map, unwrap_or}
 use Rattle.std.specs.List.{join_with_byte}
-use Rattle.std.proofs.Common.{arith, refl, sym, ap, ◌∙◌}
+use Rattle.std.proofs.Common.{arith, refl, ap, ◌∙◌}
 use Rattle.std.proofs.lemmas.List.{length-append, length-map}
 use Rattle.std.proofs.lemmas.List.Sums.{sum-map, sum_by-cons, sum_by-append, sum_by-take-le}
 use denote.Hole.Carrier as H
 use Rattle.cal_base.specs.declared.element.Attr.{Attr}
 use Rattle.cal_base.specs.declared.element.Element.{Element}
 use Rattle.cal_base.specs.declared.element.Item.{Item, Item-F}
-use Rattle.cal_base.specs.declared.element.Item as I
 use Rattle.cal_base.specs.declared.element.Item.TheViews.{out-Item}
-use Rattle.cal_base.specs.declared.element.Item.TheFolds.{fold-Item, fold-roll-Item, fold_out-Element, fold_out-Item}
-use Rattle.cal_base.specs.declared.element.Item.TheVariants.{Element as Inner, Text, rolls-Element}
+use Rattle.cal_base.specs.declared.element.Item.TheFolds.{fold-Item, fold_out-Element, fold_out-Item}
+use Rattle.cal_base.specs.declared.element.Item.TheVariants.{Text}
 use Rattle.cal_base.specs.Texts.Text.{raised}
 use Rattle.cal_base.specs.Xml.XmlSizes.{value_size, item_size_step, element_size_step, element_size}
 use Rattle.cal_model.specs.Bodies.ElementParts.{elements_of, item_elements, children, named, first_named, has_name, text_of, item_text, own_text, attribute_of, is_attribute}
@@ -32,13 +31,6 @@ sizes elements = sum_by element_size elements
 element_size-out : (element : Element) → element_size element ≡ 4 + sum_by value_size element.attrs + sum_by item_size element.items
 unfolding H.out
 element_size-out element = fold_out-Element ℕ ℕ item_size_step element_size_step element ∙ ap (λ items. 4 + sum_by value_size element.attrs + items) (sum-map item_size element.items)
-
-item_size-Text : (text : List ℕ) → item_size (Text text) ≡ length text
-unfolding I.out-Item I.roll-Item H.out H.roll
-item_size-Text text = fold_out-Item ℕ ℕ item_size_step element_size_step (Text text)
-
-item_size-Element : (element : Element) → item_size (Inner element) ≡ element_size element
-item_size-Element element = ap item_size (sym (rolls-Element element)) ∙ fold-roll-Item ℕ ℕ item_size_step element_size_step (Item-F.Element element)
 
 item_size-out : (item : Item) → item_size item ≡ sizes (item_elements item) + length (item_text item)
 item_size-out item = fold_out-Item ℕ ℕ item_size_step element_size_step item ∙ by (out-Item item)

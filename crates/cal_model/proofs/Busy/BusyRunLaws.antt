@@ -1,20 +1,19 @@
 -- The runs of a range are right, and no other list is.
 use Rattle.std.proofs.Common.{◌≡◌, ◌≢◌, ℕ, zero, suc, Bool, true, false, cond, ◌&&◌, List, [], ◌∷◌, Option, Some, None, refl, sym, ap, ◌∙◌, ◌⊎◌, inl, inr, ⊎_elim, arith}
-use Rattle.std.specs.Prelude.{ℤ, pos, negsuc, ◌+ℤ◌, ◌-ℤ◌, ◌≤ℤ◌, ◌<ℤ◌, int_lt, nat_abs, filter, All, AllPairs}
+use Rattle.std.specs.Prelude.{ℤ, pos, negsuc, ◌+ℤ◌, ◌-ℤ◌, ◌≤ℤ◌, ◌<ℤ◌, int_lt, nat_abs, All, AllPairs}
 use Rattle.std.proofs.lemmas.Int.{ints, by_lt_z}
 use Rattle.std.proofs.lemmas.Bool.{false≢true, and_parts, and_from}
 use Rattle.std.specs.Option.{is_some}
 use Rattle.std.proofs.lemmas.List.Elements.{All-head, All-tail, All-cons, All-nil}
 use Rattle.std.proofs.lemmas.List.Kept.{AllPairs-cons}
 use Rattle.cal_model.proofs.Words.IntegerLemmas.{same_int-self, same_int-true}
-use Rattle.cal_model.proofs.Words.ListTests.{Keeps, filter_kept}
 use Rattle.cal_model.proofs.Instances.RisingLists.{AllPairs-tail}
 use Rattle.cal_model.specs.declared.object.Class.{Class}
 use Rattle.cal_model.specs.declared.object.Class.TheVariants.{Busy, Unavailable, Tentative}
 use Rattle.cal_model.specs.declared.row.Range.{Range}
 use Rattle.cal_model.specs.Busy.BusyTimes.{BusyTime}
 use Rattle.cal_model.specs.Words.Integers.{same_int}
-use Rattle.cal_model.specs.Busy.BusyRuns.{covers, greatest_class, greater, class_at, runs, runs_of_classes, runs_from, with_second, with_class, one_second, same_class, size, AreRuns}
+use Rattle.cal_model.specs.Busy.BusyRuns.{covers, greater, class_at, runs, runs_of_classes, runs_from, with_second, with_class, one_second, same_class, size, AreRuns}
 
 covers_within : (t : ℤ) (r : BusyTime) → r.start ≤ℤ t → t <ℤ r.end → covers t r ≡ true
 covers_within t r a b = grind (arith, ints)
@@ -331,12 +330,3 @@ runs-same_classes xs ys range same = runs_of_classes-same (class_at xs) (class_a
 -- a time that has some second of a range
 abbrev pub has_second_of : Range → BusyTime → Bool
 has_second_of range time = int_lt range.start.0 time.end && int_lt time.start range.end.0
-
-has_second : (range : Range) (time : BusyTime) (t : ℤ) → range.start.0 ≤ℤ t → t <ℤ range.end.0 → covers t time ≡ true → has_second_of range time ≡ true
-has_second range time t l m e = grind (arith, ints)
-
--- Times that have no second of the range may be left out.
-pub runs-meeting : (range : Range) (keep : BusyTime → Bool) (times : List BusyTime) → Keeps keep times (has_second_of range) → runs (filter keep times) range ≡ runs times range
-runs-meeting range keep times kept =
-    runs-same_classes (filter keep times) times range
-    (λ t l m. ap greatest_class (filter_kept keep (covers t) times (λ time c e. kept time c (has_second range time t l m e))))

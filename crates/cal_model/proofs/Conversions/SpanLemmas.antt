@@ -1,9 +1,9 @@
 -- Spans that are taken at all borders say what holds between them, and what stretches make of a local time is put together from parts of them.
-use Rattle.std.proofs.Common.{◌≡◌, ℕ, zero, suc, ◌+◌, ◌-◌, ◌<◌, ◌≤◌, List, [], ◌∷◌, ◌++◌, map, refl, sym, ap, ap₂, ◌∙◌, subst, arith, Bool, true, false, ℤ, ◌+ℤ◌, ◌-ℤ◌, ◌<ℤ◌, length, get_or, pos, neg_ℤ, nat_lt, ◌≤ℤ◌, inl, inr}
+use Rattle.std.proofs.Common.{◌≡◌, ℕ, zero, suc, ◌+◌, ◌-◌, ◌<◌, ◌≤◌, List, [], ◌∷◌, ◌++◌, map, refl, sym, ap, ap₂, ◌∙◌, subst, arith, Bool, true, false, ℤ, ◌+ℤ◌, ◌-ℤ◌, ◌<ℤ◌, length, get_or, nat_lt, ◌≤ℤ◌, inl, inr}
 use Rattle.std.specs.Prelude.{Option, Some, IfSome, All, AllPairs, Contains, int_le, int_lt, ◌==◌, ◌&&◌, if◌then◌else◌}
 use Rattle.std.proofs.Math.Logic.{∥∥₁_elim}
 use Rattle.std.proofs.lemmas.Int.{ints}
-use Rattle.std.proofs.lemmas.Bool.{cases_Bool, ltb-true, ltb-false, and_parts}
+use Rattle.std.proofs.lemmas.Bool.{cases_Bool, ltb-true, ltb-false}
 use Rattle.std.specs.List.{AllWithin}
 use Rattle.std.specs.List.Sorted.{IsPartitionedBy}
 use Rattle.std.proofs.lemmas.List.{get_or_default}
@@ -15,7 +15,7 @@ use Rattle.cal_model.specs.declared.local_span.Span.{Span}
 use Rattle.cal_model.specs.declared.zone.Onset.{Onset}
 use Rattle.cal_model.specs.declared.zone.ZoneTable.{ZoneTable}
 use Rattle.cal_model.specs.Conversions.Stretches.{no_onset, offset_of_stretch, begins_by, ends_after, has_local, leads_past}
-use Rattle.cal_model.specs.TimeZones.TableBounds.{IsRising, IsDigits, IsOffset}
+use Rattle.cal_model.specs.TimeZones.TableBounds.{IsRising, IsDigits}
 use Rattle.cal_model.specs.TimeZones.Zones.{exists_in, instant_of, IsInstantOf}
 use Rattle.cal_model.specs.Instances.Starts.{ascending}
 use Rattle.cal_model.specs.Conversions.LocalSpans.{is_shown, instant_by, IsSpansOf, IsSpansOf-prop, best, leads_up, found_in, found_from, value_among, value_at, span_at, begin_border, end_border, IsBeyond, HasBorder, IsWith, HasBordersOf, IsJoined, lowest, IsSpans}
@@ -230,21 +230,6 @@ spans_rising g [] up = λ i j d lt below. absurd (omega (arith, below))
 spans_rising g (p ∷ ps) up =
     AllPairs-cons (λ (a b : Span). a.from <ℤ b.from) (span_at g p) (map (span_at g) ps) (All-map (λ (b : Span). p <ℤ b.from) (span_at g) ps (AllPairs-head IsBelow p ps up)) (spans_rising g ps (AllPairs-tail IsBelow p ps up))
 
-pub beyond_high : (b : ℤ) → pos 200_000_000_000_000 <ℤ b → IsBeyond b
-beyond_high b high l m x y =
-    let p : int_le b l ≡ false = grind (arith, ints, high, x) in
-    let q : int_le b m ≡ false = grind (arith, ints, high, y) in
-    p ∙ sym q
-
-pub beyond_low : (b : ℤ) → b <ℤ lowest → IsBeyond b
-beyond_low b low l m x y =
-    let p : int_le b l ≡ true = grind (arith, ints, low, x) in
-    let q : int_le b m ≡ true = grind (arith, ints, low, y) in
-    p ∙ sym q
-
-pub with_absent : (old : List ℤ) (absent : Bool) (b : ℤ) → absent ≡ true → IsWith old old absent b
-with_absent old absent b h = record { kept = λ x c. c; digits = λ all. all; there = λ no. absurd cc }
-
 pub with_beyond : (old : List ℤ) (absent : Bool) (b : ℤ) → IsBeyond b → IsWith old old absent b
 with_beyond old absent b h = record { kept = λ x c. c; digits = λ all. all; there = λ no. inr h }
 
@@ -310,30 +295,6 @@ IsSpans-between table first middle last xs ys spans from to earlier later made =
     (IsSpans-joined table first (middle - first + 1) (last - (middle + 1) + 1) xs ys (lowest ∷ [] ++ map (λ (p : Span). p.from) xs ++ map (λ (p : Span). p.from) ys) spans earlier (subst (λ k. IsSpans table k (last - (middle + 1) + 1) ys) place later) refl made)
 
 -- Bounds.
-
-pub near_true : (at : ℤ) → true ≡ (int_le (neg_ℤ (pos 300_000_000_000_000)) at && int_le at (pos 300_000_000_000_000)) → (neg_ℤ (pos 300_000_000_000_000) ≤ℤ at) × (at ≤ℤ pos 300_000_000_000_000)
-near_true at h = let both = and_parts (int_le (neg_ℤ (pos 300_000_000_000_000)) at) (int_le at (pos 300_000_000_000_000)) (sym h) in let a = both.0 in let b = both.1 in (grind (arith, ints, a), grind (arith, ints, b))
-
-pub near_false : (at offset : ℤ) → IsOffset offset → false ≡ (int_le (neg_ℤ (pos 300_000_000_000_000)) at && int_le at (pos 300_000_000_000_000)) → IsBeyond (at +ℤ offset)
-near_false at offset bound h = elim (cases_Bool (int_le (neg_ℤ (pos 300_000_000_000_000)) at)) [
-  | inl w ↦ elim (cases_Bool (int_le at (pos 300_000_000_000_000))) [
-    | inl v ↦ absurd (let e : false ≡ true = h ∙ ap₂ (λ a b. a && b) w v in cc)
-    | inr v ↦ (let past : pos 300_000_000_000_000 <ℤ at = grind (arith, ints, v) in beyond_high (at +ℤ offset) (omega (arith, ints, past, bound)))
-  ]
-  | inr w ↦ (let past : at <ℤ neg_ℤ (pos 300_000_000_000_000) = grind (arith, ints, w) in beyond_low (at +ℤ offset) (omega (arith, ints, past, bound)))
-]
-
-pub digits_true : (b : ℤ) → true ≡ (int_le (neg_ℤ (pos 200_000_000_000_000)) b && int_le b (pos 200_000_000_000_000)) → IsDigits b
-digits_true b h = let both = and_parts (int_le (neg_ℤ (pos 200_000_000_000_000)) b) (int_le b (pos 200_000_000_000_000)) (sym h) in let x = both.0 in let y = both.1 in (grind (arith, ints, x), grind (arith, ints, y))
-
-pub digits_false : (b : ℤ) → false ≡ (int_le (neg_ℤ (pos 200_000_000_000_000)) b && int_le b (pos 200_000_000_000_000)) → IsBeyond b
-digits_false b h = elim (cases_Bool (int_le (neg_ℤ (pos 200_000_000_000_000)) b)) [
-  | inl w ↦ elim (cases_Bool (int_le b (pos 200_000_000_000_000))) [
-    | inl v ↦ absurd (let e : false ≡ true = h ∙ ap₂ (λ a b. a && b) w v in cc)
-    | inr v ↦ beyond_high b (grind (arith, ints, v))
-  ]
-  | inr w ↦ beyond_low b (grind (arith, ints, w))
-]
 
 -- What is found means.
 

@@ -46,10 +46,6 @@ outcome-effect directory state after event status change changes asks e =
     let done : accepted (accepted_status scene event.request.method) (effect change state) ≡ accepted status after = ap (changed state scene event.request.method) (sym asks) ∙ made in
     (sym (ap (state_of state) done), sym (ap status_in done))
 
--- an accepted event is accepted at its entry's place, where its entry's request is accepted with the same status and state
-pub state_after-accepted : (directory : Directory) (state after : ServerState) (event : Event) (status : ℕ) → outcome directory state event ≡ accepted status after → state_after directory state event ≡ after
-state_after-accepted directory state after event status e = ap (state_of state) e
-
 -- An entry behind a legal journal whose request is accepted there: the journal stays legal, and leads to the state after it.
 pub push-accepted : (directory : Directory) (journal : List Entry) (entry : Entry) (after : ServerState) → IsLegal directory journal
     → outcome directory (replay directory journal) (asked directory entry) ≡ accepted entry.status after

@@ -22,7 +22,7 @@ use Rattle.cal_model.specs.Objects.ObjectReading.{first_there}
 use Rattle.cal_model.specs.State.ServerState.{Directory, ServerState, user_number, user_name}
 use Rattle.cal_model.specs.Sight.Views.{Contents, whole_sight}
 use Rattle.cal_model.specs.Refusals.Preconditions.{put_table}
-use Rattle.cal_model.specs.State.Changes.{put, delete_object, delete_calendar, make, patch, acl, change_of}
+use Rattle.cal_model.specs.State.Changes.{put, make, patch, acl, change_of}
 use Rattle.cal_model.specs.Sight.Scenes.{Scene}
 use Rattle.cal_model.specs.Refusals.SharedRefusals.{shared_rows}
 use Rattle.cal_model.specs.Refusals.RefusalReplies.{when, refuse}
@@ -60,10 +60,6 @@ first_there-none (Some x ∷ rows) n = absurd (some≢none x n.0)
 
 -- Outcomes
 
-abbrev status_or : ℕ → Outcome → ℕ
-status_or other (accepted status state) = status
-status_or other (unchanged reply) = other
-
 abbrev is_accepted : Outcome → Bool
 is_accepted (accepted status state) = true
 is_accepted (unchanged reply) = false
@@ -74,10 +70,6 @@ accepted-rows (Some reply) made status after e = absurd (false≢true (ap is_acc
 
 pub accepted-none : (rows : Option Reply) (made : Outcome) (status : ℕ) (after : ServerState) → rows ≡ None → made ≡ accepted status after → unless_refused rows made ≡ accepted status after
 accepted-none rows made status after none e = ap (λ r. unless_refused r made) none ∙ e
-
-and-false : (b : Bool) → (b && false) ≡ false
-and-false true = refl
-and-false false = refl
 
 pub when-false : (b : Bool) (reply : Reply) → when (b && false) reply ≡ None
 when-false true reply = refl
@@ -181,28 +173,6 @@ changing-plain directory state after session who moment how at what if_match unl
     (first_there-none (rows_of_change state scene bare)
     (shared_plain scene how at what if_match unless_match size size' _ _ further (no_row (rows_of_change state scene given) parts.0)))
     (ap (changed state scene how) (sym same) ∙ parts.1))
-
--- an object is removed
-pub delete_object-replayed : (directory : Directory) (state after : ServerState) (session who : ℕ) (moment : ℤ) (user : List ℕ) (calendar object : List ℕ) (if_match unless_match : Option Tags) (size status home : ℕ)
-    → user_number directory user ≡ Some home
-    → outcome directory state (event_with session who moment (bare_request method.Delete (path.Object user calendar object) content.None if_match unless_match size)) ≡ accepted status after
-    → outcome directory state (asked directory (entry_of (event_with session who moment (bare_request method.Delete (path.Object user calendar object) content.None if_match unless_match size)) (delete_object home calendar object) status)) ≡ accepted status after
-unfolding change_of
-delete_object-replayed directory state after session who moment user calendar object if_match unless_match size status home known e =
-    subst (λ name. outcome directory state (event_with session who moment (bare_request method.Delete (path.Object name calendar object) content.None None None 0)) ≡ accepted status after)
-    (sym (user_name-number directory user home known))
-    (changing-plain directory state after session who moment method.Delete (path.Object user calendar object) content.None if_match unless_match size 0 status refl (λ n. n) refl e)
-
--- a calendar is removed
-pub delete_calendar-replayed : (directory : Directory) (state after : ServerState) (session who : ℕ) (moment : ℤ) (user : List ℕ) (calendar : List ℕ) (if_match unless_match : Option Tags) (size status home : ℕ)
-    → user_number directory user ≡ Some home
-    → outcome directory state (event_with session who moment (bare_request method.Delete (path.Calendar user calendar) content.None if_match unless_match size)) ≡ accepted status after
-    → outcome directory state (asked directory (entry_of (event_with session who moment (bare_request method.Delete (path.Calendar user calendar) content.None if_match unless_match size)) (delete_calendar home calendar) status)) ≡ accepted status after
-unfolding change_of
-delete_calendar-replayed directory state after session who moment user calendar if_match unless_match size status home known e =
-    subst (λ name. outcome directory state (event_with session who moment (bare_request method.Delete (path.Calendar name calendar) content.None None None 0)) ≡ accepted status after)
-    (sym (user_name-number directory user home known))
-    (changing-plain directory state after session who moment method.Delete (path.Calendar user calendar) content.None if_match unless_match size 0 status refl (λ n. n) refl e)
 
 -- a calendar is made
 pub make-replayed : (directory : Directory) (state after : ServerState) (session who : ℕ) (moment : ℤ) (user : List ℕ) (calendar : List ℕ) (sets : List PropSet) (if_match unless_match : Option Tags) (size status home : ℕ)

@@ -1,7 +1,6 @@
 -- The local day of some digits begins at or before them, and the next one after them, also before the year 0.
-use Rattle.std.proofs.Common.{◌≡◌, ◌*◌, arith, ℤ, pos, negsuc, neg_ℤ, ◌+ℤ◌, ◌*ℤ◌, ◌≤ℤ◌, ◌<ℤ◌}
+use Rattle.std.proofs.Common.{◌≡◌, ◌*◌, arith, ℤ, pos, negsuc, ◌+ℤ◌, ◌*ℤ◌, ◌≤ℤ◌, ◌<ℤ◌}
 use Rattle.std.proofs.lemmas.Int.{ints}
-use Rattle.cal_moment.specs.Calendar.{moment_of_seconds, seconds_since_1970, day_of_moment}
 use Rattle.cal_model.specs.Instances.Alignment.{midnight_of}
 
 -- digits lie in the day that begins at their midnight
@@ -14,10 +13,3 @@ pub midnight_of-is : (l day : ℤ) → (day *ℤ pos 86400) ≤ℤ l → l <ℤ 
 midnight_of-is l day from to =
     let holds = midnight_of-holds l in
     omega (arith, ints, holds, from, to)
-
--- from the year 0 on it is the midnight that the calendar counts
-pub midnight_of-calendar : (l : ℤ) → neg_ℤ (pos 62_167_219_200) ≤ℤ l → midnight_of l ≡ seconds_since_1970 (86400 * day_of_moment (moment_of_seconds l))
-midnight_of-calendar l late =
-    let number : l +ℤ pos 62_167_219_200 ≡ pos (moment_of_seconds l) = omega (arith, ints, late) in
-    let holds = midnight_of-holds l in
-    omega (arith, ints, holds, number)

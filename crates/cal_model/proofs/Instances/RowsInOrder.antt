@@ -319,12 +319,6 @@ parts_apart moments object ids all starts one up =
         let a = get_or (override_row object ids all n) k d in
         All-weaker (StandsBehind object ids all n) (HasOtherKey a) (λ b behind. apart n a b (Contains-get_or (override_row object ids all n) k d lt) (override_component object ids all n k d lt) behind) kept (all_behind n stands)
 
--- the same of those that lie in a window: what is put in order there
-pub window_apart : (moments : List ℕ) (object : Object) (ids : Stamp) (all starts : List ℤ) (test : Row → Bool) → length (masters object) ≤ 1 → AllPairs IsBelow starts →
-    AllPairs HasOtherKey (filter test (flat_map (override_row object ids all) (overrides object)) ++ filter test (filter (λ (r : Row). not (is_named object ids r.id)) (flat_map (row_at moments object ids all) starts)))
-window_apart moments object ids all starts test one up =
-    rw filter-append at (AllPairs-filter HasOtherKey test (flat_map (override_row object ids all) (overrides object) ++ filter (λ (r : Row). not (is_named object ids r.id)) (flat_map (row_at moments object ids all) starts)) (parts_apart moments object ids all starts one up))
-
 -- the rows of the overrides, and the instances that none of them names
 abbrev pub own_rows : List ℕ → Object → Stamp → List Row
 own_rows moments object ids = flat_map (override_row object ids (starts moments object)) (overrides object)

@@ -1,16 +1,15 @@
 -- Each object that was read has what the laws of nearness ask for: short offsets in its zones, and no DATE in its periods.
-use Rattle.std.proofs.Common.{◌≡◌, ℕ, List, sym, subst}
-use Rattle.std.specs.Prelude.{All, Ok}
+use Rattle.std.proofs.Common.{sym, subst}
+use Rattle.std.specs.Prelude.{All}
 use Rattle.std.proofs.lemmas.List.Elements.{All-weaker}
 use Rattle.cal_model.specs.declared.object.Component.{Component}
 use Rattle.cal_model.specs.declared.object.Object.{Object}
 use Rattle.cal_model.specs.declared.zone.ZoneTable.{ZoneTable}
 use Rattle.cal_model.specs.Ranges.Nearness.{HasNearRows, HasShortOffsets, IsTimed}
-use Rattle.cal_model.specs.Objects.ObjectReading.{read_zone}
 use Rattle.cal_model.specs.Objects.ObjectFacts.{IsRead, IsReadComponent, IsReadObject, IsZone}
 use Rattle.cal_model.specs.TimeZones.TableBounds.{IsTable}
 use Rattle.cal_model.proofs.TimeZones.NearTimes.{HasShortOffsets-table}
-use Rattle.cal_model.proofs.Objects.ObjectFactLaws.{IsReadObject-read, IsZone-read_zone}
+use Rattle.cal_model.proofs.Objects.ObjectFactLaws.{IsReadObject-read}
 use Rattle.cal_model.proofs.TimeZones.ZoneTableLaws.{IsTable-table_of}
 
 -- a table of parts that were read
@@ -26,7 +25,3 @@ HasNearRows-object object is = record {
 -- each object that octets are
 pub HasNearRows-read : (object : Object) → IsRead object → HasNearRows object
 HasNearRows-read object read = HasNearRows-object object (IsReadObject-read object read)
-
--- each zone that octets are
-pub HasShortOffsets-read_zone : (octets : List ℕ) (zone : ZoneTable) → read_zone octets ≡ Ok zone → HasShortOffsets zone
-HasShortOffsets-read_zone octets zone read = HasShortOffsets-zone zone (IsZone-read_zone octets zone read)

@@ -87,17 +87,6 @@ decoded (c ∷ name) h =
 kept_whole : (text : List ℕ) → Free 63 text → without_query text ≡ text
 kept_whole text free = rw (cut_none 63 text free, without_query) refl
 
-free_cons : (s c : ℕ) (text : List ℕ) → (c == s) ≡ false → Free s text → Free s (c ∷ text)
-unfolding Free
-free_cons s c text h k = (h, k)
-
-free_nil : (s : ℕ) → Free s []
-unfolding Free
-free_nil s = tt
-
-free_literal : (s : ℕ) (text rest : List ℕ) → Free s text → Free s rest → Free s (text ++ rest)
-free_literal s text rest h k = free-append s text rest h k
-
 is_true : (b : Bool) → IsTrue b → b ≡ true
 is_true true h = refl
 is_true false h = h

@@ -30,7 +30,7 @@ use Rattle.cal_model.specs.Instances.Starts.{own_start, own_start_of}
 use Rattle.cal_model.specs.Instances.Rows.{is_dated, rows_over, nominal_start, window_of, window_seconds}
 use Rattle.cal_model.specs.Ranges.Overlap.{Line, spans, begins, lasts, runs_to_due, due_alone, completed_and_created, completed, created, stated, stored, always, never, holds, is_positive, line_of, line_of_kind, line_of_event, line_of_todo, line_of_journal, line_of_free_busy, in_zone, fixed, lasts_its_day, row_for_range, row_overlaps, dated_fixed, seconds_of, has_end, moment_related, is_in, some_trigger, alarm_overlaps}
 use Rattle.cal_model.specs.Ranges.Cost.{longest, alarm_reach, alarms_reach, margin, window_meets}
-use Rattle.cal_model.specs.Ranges.Nearness.{IsNear, HasShortOffsets, HasNearRows, IsWithin, MeetsNear, GoesOffNear, IsBusyNear}
+use Rattle.cal_model.specs.Ranges.Nearness.{IsNear, HasShortOffsets, HasNearRows, MeetsNear, GoesOffNear}
 use Rattle.cal_model.proofs.Ranges.RowBounds.{in_zone-near}
 use Rattle.cal_model.proofs.Words.AllLemmas.{All-each_part, All-unmap, All-slice_get}
 use Rattle.cal_model.proofs.Instances.EachRowLemmas.{All-greatest}
@@ -284,17 +284,3 @@ rows-near moments object zone range near short =
 pub alarms-near : (moments : List ℕ) (object : Object) (zone : ZoneTable) (range : Range) → HasNearRows object → HasShortOffsets zone → All (GoesOffNear object zone range) (rows_over moments object)
 alarms-near moments object zone range near short =
     All-weaker (λ row. is_dated row ≡ true → IsRowOf object row) (GoesOffNear object zone range) (goes_off_near object zone range near short) (rows_over moments object) (rows-of_components moments object near)
-
--- a second of a range at which a row makes busy
-busy_near : (object : Object) (zone : ZoneTable) (range : Range) → HasNearRows object → HasShortOffsets zone → (row : Row) → (is_dated row ≡ true → IsRowOf object row) → IsBusyNear object zone range row
-unfolding Touches
-busy_near object zone range near short row of t dated here inside =
-    window_meets-of (margin object) (259200 + longest object) range (nominal_start object row) (omega arith)
-    (reaches (259200 + longest object) (fixed row zone) range (nominal_start object row) (let is = of dated in moments-near object row zone is row.end near short is.end_near) (touching t here inside))
-  where
-    touching : (t : ℤ) → IsWithin (fixed row zone).start (fixed row zone).end t → IsWithin range.start.0 range.end.0 t → Touches range.start.0 range.end.0 (fixed row zone).start (fixed row zone).end
-    touching t here inside = (inr (omega (arith, ints, here, inside)), inl (omega (arith, ints, here, inside)))
-
-pub busy_rows-near : (moments : List ℕ) (object : Object) (zone : ZoneTable) (range : Range) → HasNearRows object → HasShortOffsets zone → All (IsBusyNear object zone range) (rows_over moments object)
-busy_rows-near moments object zone range near short =
-    All-weaker (λ row. is_dated row ≡ true → IsRowOf object row) (IsBusyNear object zone range) (busy_near object zone range near short) (rows_over moments object) (rows-of_components moments object near)

@@ -49,13 +49,6 @@ instant-near zones (Floating f) l all = itself_near l
 instant-near zones (Zoned f number) l all = instant_of-near (zone_of zones number) l (zone_of-short zones number all)
 instant-near zones (Utc v) l all = itself_near l
 
--- the local time of an instant that a local time was converted to lies within two days of it
-pub local-instant-near : (zones : List ZoneTable) (s : Stamp) (l : ℤ) → All HasShortOffsets zones → IsNear 172800 ((reading_of zones s).local ((reading_of zones s).instant l)) l
-local-instant-near zones s l all =
-    let there = instant-near zones s l all in
-    let back = local-near zones s ((reading_of zones s).instant l) all in
-    (omega (arith, ints, there, back), omega (arith, ints, there, back))
-
 -- a time of a row by the clock of its own kind, read in a zone, lies within a day more of the row's nominal start
 pub in_zone-near : (zones : List ZoneTable) (zone : ZoneTable) (s : Stamp) (r e : ℤ) (n : ℕ) → All HasShortOffsets zones → HasShortOffsets zone → IsNear n e r → IsNear (86400 + n) (in_zone (kind_of s) zone e) ((reading_of zones s).local r)
 in_zone-near zones zone (Date d) r e n all short near = let there = instant_of-near zone e short in (omega (arith, ints, there, near), omega (arith, ints, there, near))

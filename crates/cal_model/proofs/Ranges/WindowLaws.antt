@@ -1,23 +1,15 @@
 -- The rows of windows: each dated row lies in one, the rows of several windows are those of the whole list whose nominal start lies in them, and their moments lie near.
-use Rattle.std.proofs.Common.{◌≡◌, ℕ, List, [], ◌∷◌, ◌++◌, refl, sym, ◌∙◌, ap, arith, Bool, true, false, ℤ, pos, ◌+ℤ◌, ◌-ℤ◌, ◌*ℤ◌, ◌<ℤ◌, ◌≤ℤ◌, ◌⊎◌, inl, inr}
-use Rattle.std.specs.Prelude.{All, AllPairs, Contains, filter, flat_map, int_lt, int_le, ◌&&◌, if◌then◌else◌}
-use Rattle.std.specs.Int.{int_div_euclid}
+use Rattle.std.proofs.Common.{◌≡◌, ℕ, List, [], ◌∷◌, ◌++◌, refl, sym, ◌∙◌, ap, arith, Bool, true, false, ℤ, ◌⊎◌, inl, inr}
+use Rattle.std.specs.Prelude.{All, AllPairs, Contains, filter, flat_map, if◌then◌else◌}
 use Rattle.std.specs.List.{list_any}
-use Rattle.std.proofs.lemmas.Int.{ints}
 use Rattle.std.proofs.lemmas.Bool.{cases_Bool}
 use Rattle.std.proofs.lemmas.List.Elements.{All-head, All-tail, All-append, All-weaker, All-filter, All-contains, All-contains_itself, filter_passes, Contains-append_left, Contains-append_right, Contains-append_cases}
 use Rattle.std.proofs.lemmas.List.Kept.{AllPairs-cons, AllPairs-filter}
-use Rattle.cal_moment.specs.declared.stamp.Stamp.{Stamp}
 use Rattle.cal_model.specs.declared.object.Object.{Object}
 use Rattle.cal_model.specs.declared.row.Row.{Row}
-use Rattle.cal_model.specs.declared.zone.ZoneTable.{ZoneTable}
 use Rattle.cal_model.specs.Words.Integers.{same_int}
-use Rattle.cal_model.specs.Instances.Alignment.{reading_of}
-use Rattle.cal_model.specs.Instances.Rows.{in_order, is_dated, rows_over, rows_in_over, lies_in_window, window_of, window_seconds}
-use Rattle.cal_model.specs.Ranges.Nearness.{HasShortOffsets}
+use Rattle.cal_model.specs.Instances.Rows.{in_order, is_dated, rows_over, rows_in_over, lies_in_window, window_of}
 use Rattle.cal_model.proofs.Words.IntegerLemmas.{same_int-self, same_int-true}
-use Rattle.cal_model.proofs.Ranges.RowBounds.{local-instant-near}
-use Rattle.cal_model.proofs.Ranges.NearRanges.{window-holds}
 use Rattle.cal_model.proofs.Instances.RisingLists.{IsBefore, HasOtherKey, AllPairs-head, AllPairs-tail, Contains-there, Contains-split, in_order-is}
 
 -- Filters.
@@ -46,33 +38,6 @@ lies_in_window-one object window row h = elim (cases_Bool (is_dated row)) [
   | inl dated ↦ (dated, same_int-true (window_of object row) window (rw dated at h))
   | inr undated ↦ (let e = rw undated at h in absurd cc)
 ]
-
--- the windows from one up to another hold what lies from the first second of the one up to that of the other
-pub between-windows : (first end n : ℤ) → (int_le first (int_div_euclid n window_seconds) && int_lt (int_div_euclid n window_seconds) end) ≡ (int_le (first *ℤ window_seconds) n && int_lt n (end *ℤ window_seconds))
-between-windows first end n = rw (low, high) refl
-  where
-    lies : ((int_div_euclid n window_seconds *ℤ window_seconds) ≤ℤ n) × (n <ℤ ((int_div_euclid n window_seconds +ℤ pos 1) *ℤ window_seconds))
-    lies = window-holds n
-
-    low : int_le first (int_div_euclid n window_seconds) ≡ int_le (first *ℤ window_seconds) n
-    low = elim (cases_Bool (int_le first (int_div_euclid n window_seconds))) [
-      | inl w ↦ (let below : first ≤ℤ int_div_euclid n window_seconds = grind (arith, ints, w) in let l = lies in
-          let there : (first *ℤ window_seconds) ≤ℤ n = omega (arith, ints, below, l) in
-          let v : int_le (first *ℤ window_seconds) n ≡ true = grind (arith, ints, there) in rw (w, v) refl)
-      | inr w ↦ (let above : int_div_euclid n window_seconds <ℤ first = grind (arith, ints, w) in let l = lies in
-          let there : n <ℤ (first *ℤ window_seconds) = omega (arith, ints, above, l) in
-          let v : int_le (first *ℤ window_seconds) n ≡ false = grind (arith, ints, there) in rw (w, v) refl)
-    ]
-
-    high : int_lt (int_div_euclid n window_seconds) end ≡ int_lt n (end *ℤ window_seconds)
-    high = elim (cases_Bool (int_lt (int_div_euclid n window_seconds) end)) [
-      | inl w ↦ (let below : int_div_euclid n window_seconds <ℤ end = grind (arith, ints, w) in let l = lies in
-          let there : n <ℤ (end *ℤ window_seconds) = omega (arith, ints, below, l) in
-          let v : int_lt n (end *ℤ window_seconds) ≡ true = grind (arith, ints, there) in rw (w, v) refl)
-      | inr w ↦ (let above : end ≤ℤ int_div_euclid n window_seconds = grind (arith, ints, w) in let l = lies in
-          let there : (end *ℤ window_seconds) ≤ℤ n = omega (arith, ints, above, l) in
-          let v : int_lt n (end *ℤ window_seconds) ≡ false = grind (arith, ints, there) in rw (w, v) refl)
-    ]
 
 -- a dated row of the object is among the rows of its window, and what is among them is such a row
 pub rows_in-has : (moments : List ℕ) (object : Object) (row : Row) → Contains (rows_over moments object) row → is_dated row ≡ true → Contains (rows_in_over moments object (window_of object row)) row
@@ -212,15 +177,3 @@ in_order-windows moments object windows up apart =
     window-flat_map moments object windows row (some_window windows (window_of object row) lies.1) both.1 lies.0)
     (λ row c. let there = flat_map-window moments object windows row c in
     Contains-filter (lies_in_some object windows) row (rows_over moments object) (let dated = there.2 in rw dated (has_window windows (window_of object row) there.0)) there.1)
-
--- Moments.
-
--- the digits of a moment whose start lies in a window are those of the window, or of two days on either side
-pub moment-near_window : (zones : List ZoneTable) (s : Stamp) (digits window : ℤ) → All HasShortOffsets zones →
-    int_div_euclid ((reading_of zones s).local ((reading_of zones s).instant digits)) window_seconds ≡ window →
-    (((window *ℤ window_seconds) -ℤ pos 172800) <ℤ digits) × (digits <ℤ ((window +ℤ pos 1) *ℤ window_seconds +ℤ pos 172800))
-moment-near_window zones s digits window all e =
-    let near = local-instant-near zones s digits all in
-    let lies = window-holds ((reading_of zones s).local ((reading_of zones s).instant digits)) in
-    let at = rw e at lies in
-    (omega (arith, ints, near, at), omega (arith, ints, near, at))

@@ -1,6 +1,6 @@
 -- What a selection that picks nothing, or everything, shows.
-use Rattle.std.proofs.Common.{◌≡◌, ℕ, List, [], ◌∷◌, map, refl, ap, ◌∙◌, subst}
-use Rattle.std.specs.Prelude.{flat_map, None}
+use Rattle.std.proofs.Common.{◌≡◌, List, [], ◌∷◌, map, refl, ap, ◌∙◌, subst}
+use Rattle.std.specs.Prelude.{flat_map}
 use denote.Hole.Carrier as H
 use Rattle.cal_base.specs.declared.line.Line.{Line}
 use Rattle.cal_base.specs.declared.line.Node.{Node}
@@ -8,19 +8,11 @@ use Rattle.cal_base.specs.declared.line.Node.TheOpen.{Node-F}
 use Rattle.cal_base.specs.declared.line.Node.TheViews.{roll-Node}
 use Rattle.cal_base.specs.declared.line.Node.TheFolds.{ind-Node}
 use Rattle.cal_base.specs.Lines.ComponentTrees.{printed}
-use Rattle.cal_model.specs.declared.object.Object.{Object}
-use Rattle.cal_model.specs.declared.row.Row.{Row}
 use Rattle.cal_model.specs.declared.selection.CompPick as P
 use Rattle.cal_model.specs.declared.selection.CompPick.TheBlock as PB
-use Rattle.cal_model.specs.declared.selection.Recur.TheVariants.{Whole}
-use Rattle.cal_model.specs.declared.zone.ZoneTable.{ZoneTable}
 use Rattle.cal_model.specs.Selections.ShownData.{shown}
 use Rattle.cal_model.specs.Selections.Picks.{Picked, picked, everything, picked_line, picked_child}
 use Rattle.cal_model.proofs.Filters.FilterLemmas.{picked_roll}
-
--- a selection that says nothing shows the stored octets
-pub shown-nothing_said : (octets : List ℕ) (object : Object) (rows : List Row) (zone : ZoneTable) → shown octets object rows (record { comp = None; recur = Whole; busy = None }) zone ≡ octets
-shown-nothing_said octets object rows zone = refl
 
 -- each line is kept whole
 picked_line-everything : (line : Line) → picked_line (everything ∷ []) line ≡ line ∷ []

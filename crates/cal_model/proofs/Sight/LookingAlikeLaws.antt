@@ -1,18 +1,17 @@
 -- States that look alike to a user are seen alike by that user, so that each request which only reads has the same reply in both.
-use Rattle.std.proofs.Common.{◌≡◌, ℕ, Bool, true, false, List, [], ◌∷◌, map, Option, Some, None, refl, sym, ap, ◌∙◌, arith}
+use Rattle.std.proofs.Common.{◌≡◌, ℕ, Bool, true, false, List, [], ◌∷◌, map, Some, None, refl, sym, ap, ◌∙◌, arith}
 use Rattle.std.specs.Prelude.{ℤ, ◌≤ℤ◌, int_le, if◌then◌else◌}
 use Rattle.std.specs.List.{AllZip, enumerate_from}
 use Rattle.std.proofs.lemmas.Int.{ints}
 use Rattle.std.proofs.lemmas.Bool.{and_parts}
 use Rattle.cal_base.specs.Lists.NameMap.{Named}
-use Rattle.cal_model.specs.declared.object.Class.{Class}
 use Rattle.cal_model.specs.declared.request.Event.{Event}
 use Rattle.cal_model.specs.Words.Limits.{first_date, last_date}
 use Rattle.cal_model.specs.Access.Privileges.{has_all, read, read_acl, read_free_busy}
 use Rattle.cal_model.specs.Busy.BusyRuns.{class_at, calendar_times}
 use Rattle.cal_model.specs.Reports.FloatingZone.{floating_zone}
 use Rattle.cal_model.specs.State.ServerState.{Directory, Calendar, Home, ServerState, objects_of, own_zone}
-use Rattle.cal_model.specs.Sight.Views.{Contents, held_on, contents_of, busy_class, is_served, served_class, Sight, only_where, sight_with, sight_of, visible_calendars, home_by, seen_by}
+use Rattle.cal_model.specs.Sight.Views.{held_on, contents_of, busy_class, is_served, served_class, Sight, only_where, sight_with, sight_of, visible_calendars, home_by, seen_by}
 use Rattle.cal_model.specs.Sight.LookingAlike.{CalendarsLookAlike, EntriesLookAlike, HomesLookAlike, LookAlike}
 use Rattle.cal_model.specs.Sight.Scenes.{scene_at}
 use Rattle.cal_model.specs.Serving.ReadingReplies.{reading_reply}
@@ -40,10 +39,6 @@ SameBusy a b = (t : ℤ) → first_date ≤ℤ t → t ≤ℤ last_date → busy
 
 served_class-same : (a b : Calendar) → SameBusy a b → served_class a ≡ served_class b
 served_class-same a b same = λ i t. if-same (is_served t) (busy_class a t) (busy_class b t) None (λ served. same t (from_first t served) (to_last t served)) i
-
--- where the contents are the same each second has the same class
-class_of_contents : Contents → ℤ → Option Class
-class_of_contents contents t = class_at (calendar_times (floating_zone None (own_zone contents.texts)) (objects_of contents.objects)) t
 
 busy_class-contents : (a b : Calendar) → contents_of a ≡ contents_of b → SameBusy a b
 busy_class-contents a b same t from to = ap (λ contents. class_at (calendar_times (floating_zone None (own_zone contents.texts)) (objects_of contents.objects)) t) same

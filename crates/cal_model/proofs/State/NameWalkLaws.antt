@@ -18,9 +18,9 @@ use Rattle.cal_model.specs.declared.privilege.Who.TheVariants.{Everyone, Owner, 
 use Rattle.cal_model.specs.declared.store.CalendarData.{CalendarData}
 use Rattle.cal_model.specs.Paths.TargetPaths.{is_resource_name}
 use Rattle.cal_model.specs.State.ServerState.{Directory, Calendar, Home, ServerState, home_at, calendar_at}
-use Rattle.cal_model.specs.State.StoredData.{data_of, next_calendar, next_object}
+use Rattle.cal_model.specs.State.StoredData.{data_of, next_calendar}
 use Rattle.cal_model.specs.State.SoundStates.{IsToUser, AreToUsers, IsToGroup, HaveGroups, AreNamed, IsSoundCalendar, IsSoundHome, IsSound}
-use Rattle.cal_model.specs.State.NameWalks.{calendars_above, objects_above, IsWalk, WalksMeetAll}
+use Rattle.cal_model.specs.State.NameWalks.{calendars_above, IsWalk, WalksMeetAll}
 use Rattle.cal_model.proofs.Words.AllLemmas.{All-slice_get}
 use Rattle.cal_model.proofs.State.OrderLaws.{all_weaker}
 
@@ -166,27 +166,3 @@ calendars_above-end state user name e = by (home_at state user) e where
       → flat_map (λ (home : Home). above home.calendars name) (option_to_list found) ≡ []
   by None e = refl
   by (Some home) e = none home (next_above home.calendars name) refl e
-
--- the same over the objects of a calendar
-pub objects_above-first : (directory : Directory) (state : ServerState) (user : ℕ) (calendar : List ℕ) → IsSound directory state
-    → objects_above state user calendar [] ≡ flat_map (λ (c : Calendar). c.objects) (option_to_list (calendar_at state user calendar))
-objects_above-first directory state user calendar sound = by (calendar_at state user calendar) refl where
-  by : (found : Option Calendar) → calendar_at state user calendar ≡ found
-      → flat_map (λ (c : Calendar). above c.objects []) (option_to_list found) ≡ flat_map (λ (c : Calendar). c.objects) (option_to_list found)
-  by None e = refl
-  by (Some c) e = ap (λ named. named ++ []) (above-first c.objects (calendar-sound directory state user calendar c sound e).objects_named)
-
-pub objects_above-next : (directory : Directory) (state : ServerState) (user : ℕ) (calendar name : List ℕ) (pair : List ℕ × List ℕ) → IsSound directory state
-    → next_object state user calendar name ≡ Some pair → objects_above state user calendar name ≡ pair ∷ objects_above state user calendar pair.0
-objects_above-next directory state user calendar name pair sound e = by (calendar_at state user calendar) refl e where
-  by : (found : Option Calendar) → calendar_at state user calendar ≡ found → option_and_then (λ (c : Calendar). next_above c.objects name) found ≡ Some pair
-      → flat_map (λ (c : Calendar). above c.objects name) (option_to_list found) ≡ pair ∷ flat_map (λ (c : Calendar). above c.objects pair.0) (option_to_list found)
-  by None there e = absurd cc
-  by (Some c) there e =
-      ap (λ named. named ++ []) (above-next c.objects name pair (calendar-sound directory state user calendar c sound there).objects_in_order e)
-
-pub objects_above-end : (state : ServerState) (user : ℕ) (calendar name : List ℕ) → next_object state user calendar name ≡ None → objects_above state user calendar name ≡ []
-objects_above-end state user calendar name e = by (calendar_at state user calendar) e where
-  by : (found : Option Calendar) → option_and_then (λ (c : Calendar). next_above c.objects name) found ≡ None → flat_map (λ (c : Calendar). above c.objects name) (option_to_list found) ≡ []
-  by None e = refl
-  by (Some c) e = ap (λ named. named ++ []) (above-end c.objects name e)

@@ -1,6 +1,6 @@
 -- Sound changes keep states sound.
 use Rattle.std.proofs.Common.{◌≡◌, ℕ, Bool, true, false, cond, List, [], ◌∷◌, length, Option, Some, None, refl, sym, ◌∙◌, subst, arith}
-use Rattle.std.specs.Prelude.{ℤ, bytes_eq, get_or, slice_set, All, if◌then◌else◌, IfSome, IsTrue}
+use Rattle.std.specs.Prelude.{bytes_eq, get_or, slice_set, All, if◌then◌else◌, IfSome, IsTrue}
 use Rattle.std.specs.declared.cmp.Ordering.{Ordering}
 use Rattle.std.specs.declared.cmp.Ordering.TheVariants.{Less, Equal, Greater}
 use Rattle.std.specs.Ordering.{is_eq}
@@ -25,15 +25,9 @@ use Rattle.cal_model.specs.Paths.TargetPaths.{is_resource_name}
 use Rattle.cal_model.specs.State.PropertyTexts.{Texts, prop_order}
 use Rattle.cal_model.specs.State.ServerState.{Directory, Calendar, Home, ServerState, user_number, home_at, with_home, with_calendar, charged, opening_state, first_home, first_calendar}
 use Rattle.cal_model.specs.Properties.Settings.{texts_after, texts_after_all, texts_with_value, set_on, made_by}
-use Rattle.cal_model.specs.State.Changes.{Change, put, delete_object, delete_calendar, make, patch, acl, effect, change_of, with_octets, without_octets, with_grants, without_calendar, with_new_calendar}
+use Rattle.cal_model.specs.State.Changes.{Change, put, delete_object, delete_calendar, make, patch, acl, effect, with_octets, without_octets, with_grants, without_calendar, with_new_calendar}
 use Rattle.cal_model.specs.Refusals.Preconditions.{IsServable}
 use Rattle.cal_model.specs.State.SoundStates.{AreToUsers, AreNamed, IsSoundCalendar, IsSoundHome, IsSound, IsSoundChange}
-use Rattle.cal_model.specs.declared.request.Event.{Event}
-use Rattle.cal_model.specs.declared.request.Tags.{Tags}
-use Rattle.cal_model.specs.Serving.Outcomes.{accepted, outcome, is_reading}
-use Rattle.cal_model.proofs.History.JournalLaws.{outcome-effect}
-use Rattle.cal_model.proofs.History.ReplayLaws.{event_with, put_request}
-use Rattle.cal_model.proofs.Refusals.ServableLaws.{put-servable}
 use Rattle.cal_model.proofs.State.OrderLaws.{all_keys-insert, all_keys-remove, sorted-insert, sorted-remove}
 use Rattle.cal_model.specs.Serving.ServingLaws.{StatesStaySound}
 
@@ -116,9 +110,6 @@ with_grants-sound directory grants users calendar sound = record {
 }
 
 -- properties
-AreInOrder : Texts → Type 0
-AreInOrder texts = IsStrictlySortedBy prop_order (keys_of texts)
-
 prop_order-total : IsTotalOrder prop_order
 prop_order-total = then_total (on_total (λ (name : PropName). name.space) nat_list_cmp_total) (on_total (λ (name : PropName). name.name) nat_list_cmp_total)
 
@@ -199,31 +190,12 @@ opening-sound directory = record {
   All-everywhere [] = All-nil (λ name. IsSoundHome directory first_home)
   All-everywhere (name ∷ names) = All-cons (λ name. IsSoundHome directory first_home) name names (first-sound directory) (All-everywhere names)
 
--- An accepted event whose change is sound leads from a sound state to a sound one; of a PUT `put-sound` below shows it.
-pub outcome-sound : (directory : Directory) (state after : ServerState) (event : Event) (status : ℕ) (change : Change)
-    → is_reading event.request.method ≡ false → change_of directory event.request ≡ Some change → IsSoundChange directory change
-    → outcome directory state event ≡ accepted status after → IsSound directory state → IsSound directory after
-outcome-sound directory state after event status change changes asks new done sound =
-    subst (IsSound directory) (sym (outcome-effect directory state after event status change changes asks done).0) (effect-sound directory change state new sound)
-
 -- each user has a home
 pub home_there : (directory : Directory) (state : ServerState) (name : List ℕ) (owner : ℕ) → IsSound directory state → user_number directory name ≡ Some owner
     → (home : Home) × (home_at state owner ≡ Some home)
 home_there directory state name owner sound known =
     let within = (position-Some (bytes_eq name) directory.names owner [] known).0 in
     (get_or state.homes owner first_home, slice_get-get_or state.homes owner first_home (omega (arith, within, sound.one_each)))
-
--- the octets of an accepted PUT can be served; its path has the name of a resource
-pub put-sound : (directory : Directory) (state after : ServerState) (session who : ℕ) (moment : ℤ) (user calendar object octets : List ℕ)
-    (media_ok : Bool) (if_match unless_match : Option Tags) (size status owner : ℕ) → IsSound directory state → user_number directory user ≡ Some owner → IsTrue (is_resource_name object)
-    → outcome directory state (event_with session who moment (put_request user calendar object media_ok octets if_match unless_match size)) ≡ accepted status after
-    → IsSoundChange directory (put owner calendar object octets)
-put-sound directory state after session who moment user calendar object octets media_ok if_match unless_match size status owner sound known named done =
-    let home = home_there directory state user owner sound known in (
-      named,
-      put-servable directory state after session who moment user calendar object octets media_ok if_match unless_match size status owner home.0 known home.1
-          (All-slice_get (IsSoundHome directory) state.homes owner home.0 sound.homes home.1).in_order done,
-    )
 
 pub states_stay_sound : StatesStaySound
 states_stay_sound = record { opening = opening-sound; changed = effect-sound }

@@ -37,10 +37,6 @@ is_last : IsLineOf last_line 0
 unfolding last_line
 is_last = record { value = refl; most = omega arith; extension = tt; within = omega arith }
 
-last_text : line_text last_line ≡ codes "0\r\n"
-unfolding last_line
-last_text = refl
-
 an_end : (before : ℕ) → before ≤ body_limit → chunks_behind (codes "0\r\n\r\n") 0 before ≡ whole [] []
 unfolding last_line
 an_end before within = last_step last_line (codes "\r\n") [] before is_last refl (omega arith) within

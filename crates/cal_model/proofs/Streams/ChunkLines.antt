@@ -113,9 +113,6 @@ digits_number c ds ys e = (fold (λ number digit. number * 16 + digit) 0 ys, ap 
 abbrev pub text_of : WrittenLine → List ℕ
 text_of line = line.digits ++ print_extension line.extension
 
-extension_passes : (x : List ℕ) → IsExtension (Some x) → list_all is_extension_byte (59 ∷ x) ≡ true
-extension_passes x h = list_all-from_AllPass is_extension_byte x h
-
 fits : (ds : List ℕ) (v : ℕ) → number_of_digits 16 ds ≡ Some v → length ds ≤ 8 → size_of ds ≡ Some v
 fits ds v e most = ⊎_elim (λ yes. ap (λ b. cond b (number_of_digits 16 ds) None) yes.0 ∙ e) (λ over. let far = over.1 in absurd (omega arith)) (le_cases (length ds) 8)
 

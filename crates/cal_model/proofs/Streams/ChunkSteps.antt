@@ -1,17 +1,17 @@
 -- What a body that is fed pieces needs: where a search goes on, and what each state of a chunk says.
-use Rattle.std.proofs.Common.{◌≡◌, ℕ, zero, suc, ◌+◌, ◌-◌, ◌≤◌, ◌<◌, Bool, true, false, not, ◌==◌, List, [], ◌∷◌, ◌++◌, length, take, drop, Option, Some, None, refl, sym, ap, ◌∙◌, arith, ⊎_elim, append_assoc, append-nil, length-append}
+use Rattle.std.proofs.Common.{◌≡◌, ℕ, zero, suc, ◌+◌, ◌-◌, ◌≤◌, ◌<◌, Bool, true, false, not, List, [], ◌∷◌, ◌++◌, length, take, drop, Option, Some, None, refl, sym, ap, ◌∙◌, arith, ⊎_elim, append_assoc, append-nil, length-append}
 use Rattle.std.specs.Prelude.{option_map, codes, nat_lt, is_some}
 use Rattle.std.proofs.lemmas.Bool.{false≢true}
 use Rattle.std.proofs.lemmas.Bool.Decides.{nat_tests}
-use Rattle.std.proofs.lemmas.List.{drop_all, drop_at, take_all}
+use Rattle.std.proofs.lemmas.List.{take_all}
 use Rattle.cal_model.specs.declared.wire.WireFault.TheVariants.{BodyTooLong}
 use Rattle.cal_model.specs.Streams.WireLimits.{body_limit}
 use Rattle.cal_model.specs.Streams.Heads.{ends_here, head_end}
-use Rattle.cal_model.specs.Streams.Chunks.{Chunked, unfinished, faulty, with_front, has_front, begins_chunk_line, is_broken, chunk_size, trailer_size, behind_data, chunks_behind}
+use Rattle.cal_model.specs.Streams.Chunks.{Chunked, faulty, has_front, begins_chunk_line, is_broken, chunk_size, chunks_behind}
 use Rattle.cal_model.specs.Streams.WireLimits.{chunk_line_limit}
 use Rattle.cal_model.specs.Streams.ChunkGrammar.{WrittenLine, line_text, IsLineOf}
 use Rattle.cal_model.proofs.Streams.StreamFronts.{option_cases, none_some, head_end_later, head_end_found}
-use Rattle.cal_model.proofs.Streams.ChunkFronts.{trailer_as_head, or_true, right_or, has_front-append, take-longer}
+use Rattle.cal_model.proofs.Streams.ChunkFronts.{or_true, right_or, has_front-append, take-longer}
 use Rattle.cal_model.proofs.Streams.ChunkLines.{text_of, not_broken, lines_are_the_grammar}
 use Rattle.cal_model.proofs.Streams.ChunkBodies.{begun, at_written, line_some}
 
@@ -41,12 +41,6 @@ head_end-resume (suc k) (b ∷ c ∷ d ∷ xs) ys long none =
     head_end_later b (c ∷ d ∷ xs ++ ys) later ∙ ap (option_map suc) (head_end-resume k (c ∷ d ∷ xs) ys (omega arith) more) ∙ mapped_twice k (head_end (drop k (c ∷ d ∷ xs) ++ ys)))
     (λ found. none_some found.0 (sym none ∙ head_end_found b (c ∷ d ∷ xs) found.0 found.1))
     (option_cases (ends_here b (c ∷ d ∷ xs)))
-
--- so does that of a trailer, two octets before the end of what was looked at
-pub trailer-resume : (k : ℕ) (xs ys : List ℕ) → k + 2 ≤ length xs → trailer_size xs ≡ None → option_map suc (trailer_size (xs ++ ys)) ≡ option_map (λ n. suc k + n) (head_end (drop k xs ++ ys))
-trailer-resume k xs ys long none =
-    let open_head : head_end (10 ∷ xs) ≡ None = trailer_as_head xs ∙ ap (option_map suc) none in
-    sym (trailer_as_head (xs ++ ys)) ∙ head_end-resume (suc k) (10 ∷ xs) ys (omega arith) open_head
 
 -- The line of a chunk, as far as it is there
 
@@ -107,29 +101,3 @@ chunk_over line size before rest is over =
     let following : ℕ → ℕ → Chunked = λ n. chunks_behind (drop 1 stream) (n - 1) in
     let past : nat_lt body_limit (before + size) ≡ true = Prim.grind (arith, nat_tests) in
     begun stream before (omega arith) ∙ at_written line size before rest following is ∙ rw past refl
-
--- fewer octets than the line states, or no more
-pub chunk_cut : (line : WrittenLine) (size before : ℕ) (rest : List ℕ) → IsLineOf line size → 0 < size → before + size ≤ body_limit → length rest ≤ size → chunks_behind (line_text line ++ rest) 0 before ≡ unfinished
-chunk_cut line size before rest is some within few =
-    let stream = line_text line ++ rest in
-    let l = line_some line in
-    let a = length-append (line_text line) rest in
-    let following : ℕ → ℕ → Chunked = λ n. chunks_behind (drop 1 stream) (n - 1) in
-    let inside : nat_lt body_limit (before + size) ≡ false = Prim.grind (arith, nat_tests) in
-    let more : (size == 0) ≡ false = Prim.grind (arith, nat_tests) in
-    begun stream before (omega arith) ∙ at_written line size before rest following is
-    ∙ rw inside (rw more (ap (λ x. behind_data x (with_front (take size rest) (following (length (line_text line) + size + 2) (before + size)))) (drop_all size rest few)))
-
--- the same, and what stands behind them
-pub chunk_behind : (line : WrittenLine) (before : ℕ) (octets behind : List ℕ) → IsLineOf line (length octets) → 0 < length octets → before + length octets ≤ body_limit → (c : Chunked) × (chunks_behind (line_text line ++ (octets ++ behind)) 0 before ≡ behind_data behind c)
-chunk_behind line before octets behind is some within =
-    let stream = line_text line ++ (octets ++ behind) in
-    let l = line_some line in
-    let a = length-append (line_text line) (octets ++ behind) in
-    let following : ℕ → ℕ → Chunked = λ n. chunks_behind (drop 1 stream) (n - 1) in
-    let inside : nat_lt body_limit (before + length octets) ≡ false = Prim.grind (arith, nat_tests) in
-    let more : (length octets == 0) ≡ false = Prim.grind (arith, nat_tests) in (
-      with_front (take (length octets) (octets ++ behind)) (following (length (line_text line) + length octets + 2) (before + length octets)),
-      begun stream before (omega arith) ∙ at_written line (length octets) before (octets ++ behind) following is
-          ∙ rw inside (rw more (ap (λ x. behind_data x (with_front (take (length octets) (octets ++ behind)) (following (length (line_text line) + length octets + 2) (before + length octets)))) (drop_at octets behind (length octets) refl))),
-    )

@@ -17,8 +17,6 @@ use Rattle.cal_base.specs.Lines.ContentLines.{pieces, onto_first, without_return
 use Rattle.cal_model.specs.Words.Lists.{is_empty}
 use Rattle.cal_model.specs.Streams.Heads.{end_of, field_of_parts, field_of, version_of, is_target, head_of_words, Section, with_field, section_of, head_of_lines, head_of}
 use Rattle.cal_model.specs.Words.Cuts.{cut_at}
-use Rattle.cal_model.specs.Streams.WireLimits.{field_limit}
-use Rattle.cal_model.specs.Streams.HeadFields.{field_lines}
 use Rattle.cal_model.specs.Streams.HeadGrammar.{IsHead, HeadsAreTheGrammar}
 use Rattle.cal_model.proofs.Streams.StreamFronts.{bool_cases, none_some}
 
@@ -503,9 +501,6 @@ heads_are_the_grammar block h = (
 
 -- How many lines a block has
 
-onto_length : (c : ℕ) (p : List ℕ) (ps : List (List ℕ)) → length (onto_first c (p ∷ ps)) ≡ length (p ∷ ps)
-onto_length c p ps = refl
-
 counted : (s c : ℕ) (text : List ℕ) (b : Bool) → (c == s) ≡ b → count_by (λ x. x == s) (c ∷ text) ≡ cond b 1 0 + count_by (λ x. x == s) text
 counted s c text b h = sum_by-cons (λ x. cond (x == s) 1 0) c text ∙ ap (λ x. cond x 1 0 + count_by (λ y. y == s) text) h
 
@@ -526,10 +521,3 @@ length-pieces s (c ∷ text) =
     let count = counted s c text false apart in
     omega arith)
     (bool_cases (c == s))
-
--- so a block with at most 100 field lines has at most 102 line feeds
-pub few_lines : (block : List ℕ) → nat_lt field_limit (field_lines block) ≡ false → count_by (λ x. x == 10) block ≤ 102
-few_lines block h =
-    let few : field_lines block ≤ 100 = Prim.grind (arith, nat_tests) in
-    let lines = length-pieces 10 block in
-    omega arith

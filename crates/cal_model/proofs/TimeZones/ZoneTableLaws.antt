@@ -86,10 +86,6 @@ IsRising-table_over moments name parts = record {
   each = each_after (changes moments parts) (AreInOrder-fold [] (flat_map (part_changes moments) parts) tt);
 }
 
--- and so over all of them
-pub IsRising-table_of : (name : List ℕ) (parts : List ZonePart) → IsRising (table_of name parts).onsets
-IsRising-table_of name parts = IsRising-table_over every_moment name parts
-
 -- A table keeps what its parts keep: offsets of less than a day.
 
 AllSmall : List Change → Type 0

@@ -1,6 +1,6 @@
 -- How far times may lie from one another: what is asked of zones and of periods so that the rows of an object lie near their starts. From RFC 5545, 3.3.9 and 3.3.14.
 -- Bounds alone: no row is made here.
-use Rattle.std.specs.Prelude.{◌≡◌, ℕ, All, Bool, true, false, ℤ, pos, ◌+ℤ◌, ◌≤ℤ◌, ◌<ℤ◌, slice_get, Some}
+use Rattle.std.specs.Prelude.{◌≡◌, ℕ, All, Bool, true, false, ℤ, pos, ◌+ℤ◌, ◌<ℤ◌, slice_get, Some}
 use Rattle.cal_moment.specs.declared.stamp.Period.{Period}
 use Rattle.cal_moment.specs.declared.stamp.PeriodEnd.{PeriodEnd}
 use Rattle.cal_moment.specs.declared.stamp.PeriodEnd.TheVariants.{At, After}
@@ -16,16 +16,12 @@ use Rattle.cal_model.specs.declared.zone.Onset.{Onset}
 use Rattle.cal_model.specs.declared.zone.ZoneTable.{ZoneTable}
 use Rattle.cal_model.specs.Instances.Starts.{is_date}
 use Rattle.cal_model.specs.Instances.Rows.{is_dated, window_of}
-use Rattle.cal_model.specs.Ranges.Overlap.{row_overlaps, fixed, dated_fixed, alarm_overlaps}
+use Rattle.cal_model.specs.Ranges.Overlap.{row_overlaps, dated_fixed, alarm_overlaps}
 use Rattle.cal_model.specs.Ranges.Cost.{margin, window_meets}
 
 -- two numbers differ by less than this
 abbrev pub IsNear : ℕ → ℤ → ℤ → Type 0
 IsNear n x y = (x <ℤ (y +ℤ pos n)) × (y <ℤ (x +ℤ pos n))
-
--- from the start on and before the end
-abbrev pub IsWithin : ℤ → ℤ → ℤ → Type 0
-IsWithin start end t = (start ≤ℤ t) × (t <ℤ end)
 
 -- each offset of a zone is below so many seconds in size
 pub record HasOffsetsBelow (n : ℕ) (table : ZoneTable) : Type 0 where
@@ -60,8 +56,3 @@ abbrev pub GoesOffNear : Object → ZoneTable → Range → Row → Type 0
 GoesOffNear object zone range row =
     (c : Component) (k : ℕ) (alarm : Alarm) (r : Related) (length : Length) →
     slice_get object.components row.component ≡ Some c → slice_get c.alarms k ≡ Some alarm → alarm.trigger ≡ From r length → alarm_overlaps alarm c (dated_fixed row zone) range ≡ true → window_meets (margin object) range (window_of object row) ≡ true
-
--- the same of a second of the range at which a row makes busy
-abbrev pub IsBusyNear : Object → ZoneTable → Range → Row → Type 0
-IsBusyNear object zone range row =
-    (t : ℤ) → is_dated row ≡ true → IsWithin (fixed row zone).start (fixed row zone).end t → IsWithin range.start.0 range.end.0 t → window_meets (margin object) range (window_of object row) ≡ true

@@ -9,10 +9,6 @@ use Rattle.cal_model.specs.State.SoundStates.{IsSound}
 abbrev pub calendars_above : ServerState → ℕ → List ℕ → Named Calendar
 calendars_above state home name = flat_map (λ (h : Home). above h.calendars name) (option_to_list (home_at state home))
 
--- the objects of a calendar above a name
-abbrev pub objects_above : ServerState → ℕ → List ℕ → List ℕ → Named (List ℕ)
-objects_above state home calendar name = flat_map (λ (c : Calendar). above c.objects name) (option_to_list (calendar_at state home calendar))
-
 -- the pairs that a walk from a name gives, one after another, up to the last
 abbrev pub IsWalk : {V : Type 0} → Named V → List ℕ → Named V → Type 0
 IsWalk named name [] = next_above named name ≡ None
