@@ -4,7 +4,7 @@ use Rattle.std.specs.Prelude.{if◌then◌else◌}
 use Rattle.std.proofs.lemmas.Bool.{cases_Bool, ltb-true, ltb-false}
 use Rattle.cal_moment.specs.Calendar.{day_of_moment, second_of_day}
 use Rattle.cal_model.specs.declared.rule.Rule.{Rule}
-use Rattle.cal_model.specs.Recurrence.NextPassing.{NonePasses, IsNextPassing, end_day}
+use Rattle.cal_model.specs.Recurrence.NextPassing.{NonePasses}
 use Rattle.cal_model.specs.Recurrence.Passing.{passes, period_passes, day_passes, time_passes}
 
 -- the day and the second of a moment that is made of them
@@ -65,29 +65,6 @@ NonePasses-days rule start dated a day none = record {
       let parts : 86400 * (m / 86400) + m % 86400 ≡ m = omega arith in
       let fails = none (m / 86400) (omega arith) (omega arith) (m % 86400) (omega arith) (omega arith) in
       rw parts at fails;
-}
-
--- The first passing second of the first day that has one is the next passing moment.
-pub IsNextPassing-day : (rule : Rule) (start : ℕ) (dated : Bool) (a day second : ℕ) →
-    day < end_day → second < 86400 → a ≤ 86400 * day + second → passes rule start dated (86400 * day + second) ≡ true →
-    ((k : ℕ) → day_of_moment a ≤ k → k < day → NoneOnDay rule start dated a k) →
-    ((s : ℕ) → s < second → a ≤ 86400 * day + s → passes rule start dated (86400 * day + s) ≡ false) →
-    IsNextPassing rule start dated a (86400 * day + second)
-IsNextPassing-day rule start dated a day second before_end below from passing days seconds = record {
-  from = from;
-  before_end = omega arith;
-  passing = passing;
-  none_before = record {
-    each = λ m low high.
-        elim (cases_Bool (nat_lt m (86400 * day))) [
-          | inl before ↦ (NonePasses-days rule start dated a day days).each m low (ltb-true _ _ before)
-          | inr on_day ↦
-              (let from_day = ltb-false _ _ on_day in
-              let parts : 86400 * day + (m - 86400 * day) ≡ m = omega (arith, from_day) in
-              let fails = seconds (m - 86400 * day) (omega (arith, from_day, high)) (omega (arith, from_day, low)) in
-              rw parts at fails)
-        ];
-  };
 }
 
 -- nothing passes in a period that doesn't count
