@@ -5,7 +5,7 @@ use Rattle.std.specs.Int.{IsInRange}
 use Rattle.std.proofs.lemmas.Bool.{cases_Bool, ltb-true, ltb-false, leb-true, leb-false, lt-ltb, le-ltb}
 use Rattle.std.proofs.lemmas.Int.{ints}
 use Rattle.std.proofs.lemmas.Bool.Decides.{nat_tests}
-use Rattle.cal_moment.specs.Calendar.{is_leap, year_length, month_length, first_of_year, days_before_month, day_of_date, near_year, year_of, day_of_year, the_months, month_of, day_of_month, IsFieldsOf, IsCalendarDay, IsCalendarMoment, day_number, day_since_1970, moment_number, day_of_moment, second_of_day, seconds_since_1970, moment_of_seconds}
+use Rattle.cal_moment.specs.Calendar.{is_leap, year_length, month_length, first_of_year, days_before_month, day_of_date, near_year, year_of, day_of_year, the_months, month_of, day_of_month, IsFieldsOf, IsCalendarMoment, day_number, day_since_1970, moment_number, day_of_moment, second_of_day, seconds_since_1970, moment_of_seconds}
 
 -- a year begins where the one before it ends
 pub first_of_year-suc : (y : ℕ) → first_of_year (suc y) ≡ first_of_year y + year_length y
@@ -158,9 +158,6 @@ fields_of_date y m d month day =
 -- days and moments counted from 1970, and back
 pub day_number-day_since_1970 : (day : ℕ) → day_number (day_since_1970 day) ≡ day
 day_number-day_since_1970 day = omega (arith, ints)
-
-pub day_since_1970-day_number : (day : ℤ) → IsCalendarDay day → day_since_1970 (day_number day) ≡ day
-day_since_1970-day_number day h = omega (arith, ints, h)
 
 pub moment_of_seconds-seconds_since_1970 : (moment : ℕ) → moment_of_seconds (seconds_since_1970 moment) ≡ moment
 moment_of_seconds-seconds_since_1970 moment = omega (arith, ints)

@@ -1,7 +1,6 @@
 -- What several calls on a stream do one after the other.
-use Rattle.std.proofs.Common.{◌≡◌, ℕ, ◌+◌, ◌≤◌, arith, sym, ap, subst, ◌∙◌, List, [], ◌++◌, length, take, drop, length-append, Option, Some, None, IfSome}
-use Rattle.std.proofs.lemmas.List.{append_assoc, append-nil}
-use Rattle.std.proofs.lemmas.Option.{same_Some}
+use Rattle.std.proofs.Common.{◌≡◌, ℕ, ◌+◌, ◌≤◌, arith, sym, ap, subst, ◌∙◌, List, [], ◌++◌, length, take, drop, length-append, Option, Some, None}
+use Rattle.std.proofs.lemmas.List.{append_assoc}
 use Rattle.std.proofs.Math.Seq.{take-add}
 use Rattle.cal_base.specs.World.Outside.{Takes, TakesUpTo, Goes, Adds}
 
@@ -11,13 +10,6 @@ Takes-more None mid new xs ys t u = tt
 Takes-more (Some zs) mid new xs ys (rest, e, f) u =
     let v : Takes (Some rest) ys new = subst (λ m. Takes m ys new) e u in
     (v.0, v.1, f ∙ (ap (λ r. xs ++ r) v.2 ∙ sym (append_assoc xs ys v.0)))
-
--- what was taken when nothing is left is all
-pub Takes-end : (old new : Option (List ℕ)) (xs : List ℕ) → Takes old xs new → new ≡ Some [] → IfSome old (λ all. xs ≡ all)
-Takes-end None new xs t e = tt
-Takes-end (Some zs) new xs (rest, f, h) e =
-    let k : rest ≡ [] = same_Some rest [] (sym f ∙ e) in
-    sym (h ∙ (ap (λ r. xs ++ r) k ∙ append-nil xs))
 
 -- first one piece, and then more
 pub Goes-more : (old mid new : Option (List ℕ)) (xs ys zs : List ℕ) → Goes old mid xs ys → Goes mid new ys zs → Goes old new xs zs

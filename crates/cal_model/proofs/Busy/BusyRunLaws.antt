@@ -326,7 +326,3 @@ runs_of_classes-same class other range same =
 -- Two lists of times that give each second of a range the same class have the same runs.
 pub runs-same_classes : (xs ys : List BusyTime) (range : Range) → SameClasses range.start.0 range.end.0 xs ys → runs xs range ≡ runs ys range
 runs-same_classes xs ys range same = runs_of_classes-same (class_at xs) (class_at ys) range same
-
--- a time that has some second of a range
-abbrev pub has_second_of : Range → BusyTime → Bool
-has_second_of range time = int_lt range.start.0 time.end && int_lt time.start range.end.0
