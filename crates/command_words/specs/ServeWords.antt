@@ -41,9 +41,6 @@ TakesKeptServe words = TakesWith true words
 abbrev pub users_path : List Text → Text
 users_path words = option_text (codes "users") words
 
-abbrev pub address : List Text → Text
-address words = option_text (codes "listen") words
-
 abbrev pub sessions : List Text → ℕ
 sessions words = number_said 1 16 4 (option_text (codes "sessions") words)
 

@@ -1,23 +1,21 @@
 -- A claim is of an object that is there, so one that comes too late has seen the journal grow.
-use Rattle.std.proofs.Common.{◌≡◌, ℕ, ◌+◌, ◌≤◌, Bool, true, false, ◌&&◌, not, List, [], ◌∷◌, ◌++◌, length, arith, refl, sym, ap, subst, ◌∙◌, Option, Some, None, nat_eq, eqb}
+use Rattle.std.proofs.Common.{◌≡◌, ℕ, ◌+◌, Bool, true, false, ◌&&◌, List, [], ◌∷◌, ◌++◌, arith, refl, sym, ap, subst, ◌∙◌, Option, Some, None, nat_eq, eqb}
 use Rattle.std.specs.Prelude.{if◌then◌else◌, filter, is_some, IsSome, unwrap_or, option_map, IfSome}
 use Rattle.std.specs.List.{AllByRecursion}
 use Rattle.std.proofs.lemmas.Bool.{ne_eqb, eq-eqb}
 use Rattle.std.proofs.lemmas.List.Elements.{filter-append}
-use Rattle.std.proofs.lemmas.List.{append-nil, append_assoc, length-append}
+use Rattle.std.proofs.lemmas.List.{append-nil}
 use Rattle.cal_base.specs.Lines.ComponentTrees.{first}
 use Rattle.turn_lock.specs.Journals.{IsFollowedByOthers, IsFollowedByOwn, entries_by}
 use Rattle.turn_lock.specs.Numbers.{times, as_one}
-use Rattle.turn_lock.proofs.Histories.{all_both}
-use Rattle.cal_model.specs.History.Claims.{Pair, Work, is_open, open_pairs, pairs, next_claim, claims_limit, enough_rows, rows_in_horizon}
+use Rattle.cal_model.specs.History.Claims.{Pair, Work, is_open, open_pairs, pairs, next_claim}
 use Rattle.cal_book.specs.Publishing.{pair_of_claim, IsPublished}
 use Rattle.cal_book.specs.declared.claims.Claim.{Claim}
 use Rattle.cal_book.specs.declared.claims.Expanded.{Expanded}
 use Rattle.cal_book.specs.declared.claims.Publish.{Publish}
 use Rattle.cal_book.specs.declared.claims.Publish.TheVariants.{Published, Stale, NoMemory}
-use Rattle.expansion_workers.specs.Work.{IfStale}
 use Rattle.cal_model.specs.History.Journal.{Entry}
-use Rattle.cal_model.specs.History.LiveObjects.{live_at, Placed}
+use Rattle.cal_model.specs.History.LiveObjects.{live_at}
 
 first_true : (a b : Bool) → (a && b) ≡ true → a ≡ true
 first_true true b e = refl
@@ -45,14 +43,6 @@ some_there (Some x) h = h
 pub next_is_live : (work : Work) (pair : Pair) → next_claim work ≡ Some pair → IsSome (live_at work.journal pair.origin)
 next_is_live work pair h = some_there (live_at work.journal pair.origin) (first_true _ _ (first_true _ _ (next_unless _ work pair h)))
 
--- an object that was there and is not any more: the journal has grown
-pub grows : (origin : ℕ) (old new : List Entry) → IsSome (live_at old origin) → live_at new origin ≡ None → (rest : List Entry) → new ≡ old ++ rest → length old + 1 ≤ length new
-grows origin old new there gone [] more =
-    let same : new ≡ old = more ∙ append-nil old in
-    let none : IsSome {T = Placed} None = subst (λ (o : Option Placed). IsSome o) (ap (λ (journal : List Entry). live_at journal origin) (sym same) ∙ gone) there in
-    absurd (cc)
-grows origin old new there gone (e ∷ rest) more = let n = ap length more in let m = length-append old (e ∷ rest) in omega (arith, n, m)
-
 -- a claim that was given is of an object that is there
 pub live_of : (work : Work) (seen : List Entry) (found : Option Claim) → option_map pair_of_claim found ≡ next_claim work → seen ≡ work.journal → IfSome found (λ claim. IsSome (live_at seen claim.origin))
 live_of work seen None h same = tt
@@ -64,25 +54,7 @@ published_same expanded old new Published h = ap (λ (w : Work). w.journal) h.1
 published_same expanded old new (Stale now) h = ap (λ (w : Work). w.journal) h.2
 published_same expanded old new NoMemory h = ap (λ (w : Work). w.journal) h.1
 
-pub stale_gone : (expanded : Expanded) (old new : Work) (told : Publish) → IsPublished expanded old new told → IfStale told (live_at old.journal expanded.claim.origin ≡ None)
-stale_gone expanded old new Published h = tt
-stale_gone expanded old new (Stale now) h = h.0
-stale_gone expanded old new NoMemory h = tt
-
 module _ {E : Type 0} (author : E → ℕ) where
-  pub others_on : (ns : List ℕ) (a b c : List E) → IsFollowedByOthers author ns a b → IsFollowedByOthers author ns b c → IsFollowedByOthers author ns a c
-  others_on ns a b c (p, is, h) (q, on, g) = (
-    p ++ q,
-    on ∙ (ap (λ l. l ++ q) is ∙ append_assoc a p q),
-    all_both (λ (x : E). times (author x) ns ≡ 0) p q h g,
-  )
-
-  pub longer_by : (ns : List ℕ) (a b : List E) → IsFollowedByOthers author ns a b → length a ≤ length b
-  longer_by ns a b (p, is, h) = let n = ap length is in let m = length-append a p in omega (arith, n, m)
-
-  pub no_others : (ns : List ℕ) (a : List E) → IsFollowedByOthers author ns a a
-  no_others ns a = ([], sym (append-nil a), tt)
-
   pub own_none : (n : ℕ) (seen journal : List E) → journal ≡ seen → IsFollowedByOwn author n seen journal
   own_none n seen journal same = ([], same ∙ sym (append-nil seen), tt)
 

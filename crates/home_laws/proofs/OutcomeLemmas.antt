@@ -7,7 +7,7 @@ use Rattle.cal_model.specs.declared.request.Method.{Method}
 use Rattle.cal_model.specs.declared.request.Request.{Request}
 use Rattle.cal_model.specs.Objects.ObjectReading.{first_there}
 use Rattle.cal_model.specs.Serving.EventReplies.{reply_of, state_of, state_after}
-use Rattle.cal_model.specs.Serving.Outcomes.{Outcome, unchanged, scene_by, is_reading, reading_outcome, changed, unless_refused, rows_of_change, changing_outcome, outcome_where, outcome}
+use Rattle.cal_model.specs.Serving.Outcomes.{Outcome, scene_by, is_reading, reading_outcome, changed, unless_refused, rows_of_change, changing_outcome, outcome_where, outcome}
 use Rattle.cal_model.specs.Serving.ReadingReplies.{reading_reply}
 use Rattle.cal_model.specs.Sight.Scenes.{Scene}
 use Rattle.cal_model.specs.Sight.Views.{sight_of, whole_sight}
@@ -21,9 +21,6 @@ use Rattle.home_laws.proofs.SceneLemmas.{scene_at-same, scene_at-user}
 -- two outcomes are the same but for other homes
 abbrev AreSame : ServerState → ServerState → ℕ → Request → Outcome → Outcome → Type 0
 AreSame a b home request one other = (reply_of request one ≡ reply_of request other) × (home_at (state_of a one) home ≡ home_at (state_of b other) home)
-
-unchanged-same : (a b : ServerState) (home : ℕ) (request : Request) (one other : Reply) → one ≡ other → home_at a home ≡ home_at b home → AreSame a b home request (unchanged one) (unchanged other)
-unchanged-same a b home request one other replies same = (replies, same)
 
 changed-same : (a b : ServerState) (home : ℕ) (scene : Scene) (request : Request) (change : Option Change) → IsIn home change → home_at a home ≡ home_at b home
     → AreSame a b home request (changed a scene request.method change) (changed b scene request.method change)

@@ -7,7 +7,7 @@ use Rattle.std.proofs.lemmas.List.{append-nil}
 use Rattle.cal_model.specs.declared.request.Request.{Request}
 use Rattle.cal_model.specs.declared.wire.WireRequest.{WireRequest}
 use Rattle.cal_model.specs.Load.LoadRequests.{load_user, load_body, drawn_body, after_draws, next_draw, first_number, drawn_below, put_of, asked_after}
-use Rattle.cal_model.specs.Streams.StreamRequests.{front, idle, Begins}
+use Rattle.cal_model.specs.Streams.StreamRequests.{Begins}
 use Rattle.cal_model.specs.Streams.WireLimits.{body_limit}
 use Rattle.cal_model.specs.Users.UsersFile.{Users}
 use Rattle.cal_model.proofs.Streams.ReadingLaws.{streams_grow}
@@ -16,7 +16,7 @@ use Rattle.http_wire.specs.Wires.{Stands}
 use Rattle.load_requests.specs.DrawnEvents.{IsDrawn, first_requests}
 use Rattle.load_requests.specs.declared.texts.Drawn.{Drawn}
 use Rattle.load_requests.specs.Meanings.{put_by}
-use Rattle.load_requests.specs.MeantRequests.{Means, Spell}
+use Rattle.load_requests.specs.MeantRequests.{Means}
 use Rattle.load_requests.specs.WrittenRequests.{HasAsked}
 
 -- Requests
@@ -27,10 +27,6 @@ zip-snoc users session [] [] request wire each here = (here, tt)
 zip-snoc users session [] (first ∷ wires) request wire each here = absurd each
 zip-snoc users session (first ∷ requests) [] request wire each here = absurd each
 zip-snoc users session (first ∷ requests) (next ∷ wires) request wire each here = (each.0, zip-snoc users session requests wires request wire each.1 here)
-
--- nothing was asked yet
-pub asked-none : (users : Users) (session : ℕ) (wire : Wire) → Stands [] wire → HasAsked users session [] [] 0 wire
-asked-none users session wire stands = record { wires = []; rest = []; spelled = refl; stands = stands; each = tt; count_is = refl }
 
 -- one more: its octets came behind those before, the wire gave it, and it asks for what is meant
 pub asked-more : (users : Users) (session : ℕ) (octets piece : List ℕ) (count : ℕ) (old fed now : Wire) (wire : WireRequest) (request : Request)
@@ -48,12 +44,6 @@ asked-more users session octets piece count old fed now wire request feeds gives
       each = zip-snoc users session requests before.wires request wire before.each means;
       count_is = ap (λ n. n + 1) before.count_is ∙ sym (length-append requests (request ∷ []));
     }
-
--- where nothing is left behind them, the octets spell the requests
-pub all-spelled : (users : Users) (session : ℕ) (requests : List Request) (octets : List ℕ) (count : ℕ) (wire : Wire)
-    → ((rest : List ℕ) → Stands rest wire → front rest ≡ idle) → HasAsked users session requests octets count wire → Spell users session requests octets
-all-spelled users session requests octets count wire is_idle asked =
-    record { wires = asked.wires; rest = asked.rest; reading = record { spelled = asked.spelled; ended = is_idle asked.rest asked.stands }; each = asked.each }
 
 -- The requests of one more put
 

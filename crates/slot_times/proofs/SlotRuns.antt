@@ -7,17 +7,13 @@ use Rattle.std.proofs.lemmas.List.Elements.{All-head, All-nil, All-push, All-tai
 use Rattle.cal_model.specs.declared.object.Class.{Class}
 use Rattle.cal_model.specs.declared.row.Range.{Range}
 use Rattle.cal_model.specs.Busy.BusyRuns.{calendar_times, covers, runs}
-use Rattle.cal_model.specs.History.Origins.{Origins}
 use Rattle.cal_model.specs.Reports.FloatingZone.{floating_zone}
 use Rattle.cal_model.specs.Sight.Views.{served_class}
 use Rattle.cal_model.specs.State.ServerState.{Calendar, ServerState, calendar_at, objects_of, own_zone}
 use Rattle.cal_model.proofs.Busy.BusyRunLaws.{AreRuns-runs}
 use Rattle.cal_model.proofs.Sight.ViewLaws.{class_served}
-use Rattle.cal_model.proofs.Words.ListTests.{each}
-use Rattle.dav_reports.specs.CalendarObjects.{AreHeldRight, IsHeldRight}
 use Rattle.freebusy.specs.declared.busy.Run.{Run}
 use Rattle.freebusy.specs.Times.{time_of_run}
-use Rattle.object_walk.specs.WalkedObjects.{objects_at}
 use Rattle.slot_finder.specs.FreeTimes.{AreInOrder, free_of_runs, free_times}
 use Rattle.slot_finder.proofs.FreeTimeLaws.{LiesIn, free_times-same, free_times_within}
 use Rattle.slot_finder.proofs.OrderedRuns.{has_class, runs_in_order}
@@ -99,11 +95,6 @@ module _ (state : ServerState) (range : Range) where
   pub runs_end : (places rest : List CalendarPlace) (found : List (List Run)) → rest ≡ [] → AreRunsSo places rest found → AreRunsOf state range places found
   runs_end places rest found none so =
       subst (AreRunsOf state range places) (append-nil found) (so.made [] (subst (λ (xs : List CalendarPlace). AreRunsOf state range xs []) (sym none) tt))
-
--- Where no rows are held all that are held are right.
-pub nothing_held : (origins : Origins) (state : ServerState) (home : ℕ) (name : List ℕ) → AreHeldRight (λ origin window. None) origins state home name
-nothing_held origins state home name =
-    each (IsHeldRight (λ origin window. None) (origins home name)) (objects_at state home name) (λ entry within origin object known read window rows held. absurd cc)
 
 -- The free times of a range that is served can be written.
 pub writable : (state : ServerState) (places : List CalendarPlace) (range : Range) (seconds most : ℕ) → IsServedRange range → All IsWritable (times_of state places range seconds most)

@@ -1,4 +1,4 @@
-use Rattle.std.proofs.Common.{◌≡◌, ap, sym, subst, ◌∙◌}
+use Rattle.std.proofs.Common.{ap, sym, subst, ◌∙◌}
 use Rattle.turn_lock.specs.Journals.{IsFollowedByOwn}
 use Rattle.cal_book.specs.Cores.{Core}
 use Rattle.expansion_workers.proofs.WorkLemmas.{own_none}

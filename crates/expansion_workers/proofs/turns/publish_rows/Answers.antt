@@ -1,4 +1,4 @@
-use Rattle.std.proofs.Common.{◌≡◌, ap, sym, subst, ◌∙◌, List}
+use Rattle.std.proofs.Common.{sym, subst, ◌∙◌, List}
 use Rattle.turn_lock.specs.Journals.{IsFollowedByOwn}
 use Rattle.cal_model.specs.History.Journal.{Entry}
 use Rattle.cal_book.specs.Publishing.{IsClaimIn}

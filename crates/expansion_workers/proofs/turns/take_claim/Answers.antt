@@ -1,4 +1,4 @@
-use Rattle.std.proofs.Common.{◌≡◌, ap, sym, ◌∙◌, ℕ}
+use Rattle.std.proofs.Common.{ap, ◌∙◌}
 use Rattle.turn_lock.specs.Passes.{PassState}
 use Rattle.cal_model.specs.History.Claims.{Work}
 use Rattle.cal_model.specs.History.Journal.{Entry}

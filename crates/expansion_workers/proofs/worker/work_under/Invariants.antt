@@ -1,4 +1,4 @@
-use Rattle.std.proofs.Common.{◌≡◌, ℕ, ◌+◌, ◌≤◌, ◌∷◌, length}
+use Rattle.std.proofs.Common.{◌≡◌, ◌+◌, ◌≤◌, ◌∷◌, length}
 use Rattle.turn_lock.specs.Journals.{IsFollowedByOthers}
 use Rattle.expansion_workers.specs.Work.{IsCounted}
 use Rattle.expansion_workers.proofs.worker.work_under.Given as goal
