@@ -1,14 +1,9 @@
 -- Replies to requests that only read, in states that look alike.
-use Rattle.std.proofs.Common.{◌≡◌, ℕ, true, List, sym, ap, ap₂, ◌∙◌, inl, inr}
+use Rattle.std.proofs.Common.{◌≡◌, sym, ap, ap₂, ◌∙◌, inl, inr}
 use Rattle.cal_model.specs.declared.reply.Reply.{Reply}
-use Rattle.cal_model.specs.declared.request.Request.{Request}
-use Rattle.cal_model.specs.declared.wire.WireRequest.{WireRequest}
-use Rattle.cal_model.specs.Requests.AskedRequests.{asked, asked_of}
-use Rattle.cal_model.specs.Serving.Outcomes.{is_reading}
-use Rattle.cal_model.specs.Sight.LookingAlike.{LookAlike}
+use Rattle.cal_model.specs.Requests.AskedRequests.{asked}
 use Rattle.cal_model.specs.State.ServerState.{ServerState, directory_of}
-use Rattle.cal_model.specs.Transcripts.Transcript.{Answer, event_of, answer_to, IsAnswer}
-use Rattle.cal_model.specs.Users.UsersFile.{Users}
+use Rattle.cal_model.specs.Transcripts.Transcript.{Answer, event_of, answer_to}
 use Rattle.cal_model.proofs.Sight.LookingAlikeLaws.{replies_are_alike, reading_changes_nothing}
 use Rattle.cal_script.specs.ReadersSight.{ReadersSeeAlike}
 

@@ -1,6 +1,6 @@
 -- Where a script stands after the turn of a frame.
 use Rattle.std.proofs.Common.{◌≡◌, ◌≢◌, ℕ, zero, suc, ◌<◌, Bool, true, false, not, ◌&&◌, eq-eqb, List, [], ◌∷◌, ◌++◌, length, Option, Some, refl, sym, ap, subst, ◌∙◌, arith, length-set, if◌then◌else◌, inl, inr}
-use Rattle.std.specs.Prelude.{option_and_then, slice_get, pos, slice_set, replicate, get_or, filter}
+use Rattle.std.specs.Prelude.{option_and_then, slice_get, slice_set, replicate, get_or, filter}
 use Rattle.std.specs.List.{AllZip, All, Contains}
 use Rattle.std.proofs.lemmas.Bool.{false≢true}
 use Rattle.std.proofs.lemmas.Bool.Decides.{eqb_tells}

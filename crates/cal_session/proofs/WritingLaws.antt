@@ -1,5 +1,5 @@
 -- Octets that are written in two pieces, a head and the content behind it: what became of them all.
-use Rattle.std.proofs.Common.{◌≡◌, ℕ, ◌+◌, ◌<◌, ◌≤◌, List, ◌++◌, length, take, arith, sym, subst, Option, Some, None}
+use Rattle.std.proofs.Common.{ℕ, ◌+◌, ◌<◌, ◌≤◌, List, ◌++◌, length, take, arith, sym, subst, Option, Some, None}
 use Rattle.std.proofs.lemmas.List.{length-append, take-append-le}
 use Rattle.std.proofs.Math.Seq.{take-append-add}
 use Rattle.cal_base.specs.World.Outside.{Rose, Adds}

@@ -1,11 +1,10 @@
-use Rattle.std.proofs.Common.{◌≡◌, true, List, ap₂, sym, subst, ◌∙◌}
+use Rattle.std.proofs.Common.{ap₂, sym, subst, ◌∙◌}
 use Rattle.std.proofs.lemmas.List.Elements.{All-contains_itself}
 use Rattle.cal_model.specs.History.Journal.{IsLegal}
 use Rattle.cal_model.specs.State.ServerState.{directory_of}
 use Rattle.cal_book.specs.Cores.{state_in}
-use Rattle.cal_script.specs.Answering.{IsBookOf}
 use Rattle.cal_script.specs.EnteredRequests.{IsEnteredBy}
-use Rattle.cal_script.specs.Standings.{running, IsSound}
+use Rattle.cal_script.specs.Standings.{running}
 use Rattle.cal_script.proofs.EnteredLemmas.{run_entered_none}
 use Rattle.cal_script.proofs.RunLemmas.{wrote_none, same_state, ended_later, left_later, told_book}
 use Rattle.cal_script.proofs.ScriptLemmas.{sound_start, stands_start}

@@ -1,4 +1,4 @@
-use Rattle.std.proofs.Common.{◌≡◌, ◌-◌, List, [], ◌≤◌, ◌∙◌, All, arith, ap, sym, subst, take}
+use Rattle.std.proofs.Common.{◌≡◌, ◌-◌, List, [], ◌∙◌, All, arith, ap, sym, subst, take}
 use Rattle.std.proofs.lemmas.List.{append-nil}
 use Rattle.cal_model.specs.History.Claims.{Pair}
 use Rattle.cal_script.specs.SlotTurns.{IsKeptOrHeld}
