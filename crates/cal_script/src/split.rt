@@ -1,5 +1,5 @@
 //! Cutting octets at the first octet of a kind.
-ghost use Rattle.std.specs.Prelude.{◌≡◌, ◌≢◌, ℕ, ◌≤◌, List, length, drop, ◌∷◌, ◌++◌, ◌==◌, MatchOption, position};
+ghost use Rattle.std.specs.Prelude.{◌≡◌, ◌≤◌, length, drop, ◌∷◌, ◌++◌, ◌==◌, MatchOption, position};
 ghost use Rattle.cal_script.specs.FrameHeads.{Lacks};
 
 /// What stands before the first such octet, and what stands behind it.
@@ -16,13 +16,6 @@ fn place_of(text: &[u8], octet: u8) -> Option<usize>
     ensures { result ≡ position (λ c. c == octet) text.now }
 {
     text.iter().position(|c| *c == octet)
-}
-
-/// What stands behind the front, if the text begins with it.
-pub(crate) fn strip_front<'a>(text: &'a [u8], front: &[u8]) -> Option<&'a [u8]>
-    ensures { MatchOption result ((rest : List ℕ) → text.now ≢ front.now ++ rest) (λ rest. text.now ≡ front.now ++ rest.now) }
-{
-    text.strip_prefix(front)
 }
 
 /// What stands behind a place.
