@@ -1,10 +1,9 @@
 -- The steps of reading a body.
-use Rattle.std.proofs.Common.{◌≡◌, ℕ, zero, suc, ◌+◌, ◌-◌, ◌≤◌, ◌<◌, Bool, true, false, ◌==◌, ◌&&◌, List, [], ◌∷◌, ◌++◌, length, take, drop, Option, Some, None, refl, sym, ap, ◌∙◌, arith, ⊎_elim, append_assoc, append-nil, length-append}
-use Rattle.std.specs.Prelude.{nat_le, slice_index}
+use Rattle.std.proofs.Common.{◌≡◌, ℕ, zero, suc, ◌+◌, ◌-◌, ◌≤◌, ◌<◌, true, false, ◌==◌, ◌&&◌, List, [], ◌∷◌, ◌++◌, length, take, drop, refl, sym, ap, ◌∙◌, arith, ⊎_elim, append_assoc, length-append}
+use Rattle.std.specs.Prelude.{nat_le}
 use Rattle.std.proofs.lemmas.Bool.Decides.{nat_tests}
-use Rattle.std.proofs.lemmas.List.{take-append-le, drop-append-le, drop_all, take-append-drop}
+use Rattle.std.proofs.lemmas.List.{drop_all, take-append-drop}
 use Rattle.cal_base.specs.Texts.Octets.{line_feed, carriage_return}
-use Rattle.cal_model.specs.declared.wire.WireFault.TheVariants.{BadChunk}
 use Rattle.cal_model.specs.Streams.Chunks.{Chunked, whole, unfinished, faulty, with_front, behind_data, chunks_behind}
 use Rattle.cal_model.proofs.Streams.StreamFronts.{bool_cases}
 use Rattle.cal_model.proofs.Streams.ChunkFronts.{le_cases}
@@ -14,11 +13,6 @@ pub with_front_twice : (a b : List ℕ) (c : Chunked) → with_front a (with_fro
 with_front_twice a b (whole body rest) = ap (λ l. whole l rest) (sym (append_assoc a b body))
 with_front_twice a b unfinished = refl
 with_front_twice a b (faulty why) = refl
-
-pub with_front_none : (c : Chunked) → with_front [] c ≡ c
-with_front_none (whole body rest) = refl
-with_front_none unfinished = refl
-with_front_none (faulty why) = refl
 
 pub take_past : (xs ys : List ℕ) (n : ℕ) → length xs ≤ n → take n (xs ++ ys) ≡ xs ++ take (n - length xs) ys
 take_past [] ys n h = ap (λ k. take k ys) (omega arith)
@@ -55,12 +49,6 @@ sized_cut left octets h =
     let fails : nat_le left (length octets) ≡ false = Prim.grind (arith, nat_tests, h) in
     rw fails refl
 
-pub sized_whole : (left : ℕ) (body octets more : List ℕ) → left ≤ length octets → with_front body (sized_reads left (octets ++ more)) ≡ whole (body ++ take left octets) (drop left octets ++ more)
-sized_whole left body octets more h =
-    let a = length-append octets more in
-    let fits : nat_le left (length (octets ++ more)) ≡ true = Prim.grind (arith, nat_tests, h) in
-    rw (fits, take-append-le left octets more h, drop-append-le left octets more h) refl
-
 -- The octets of a chunk
 
 pub behind_front : (a d : List ℕ) (c : Chunked) → behind_data d (with_front a c) ≡ with_front a (behind_data d c)
@@ -91,32 +79,3 @@ data_goes_on left n body octets more few within =
   where
     length_taken : length (take n octets) ≡ n
     length_taken = omega (arith, within, Rattle.std.proofs.Common.length-take n octets)
-
-pub data_cut : (left total : ℕ) → data_reads left total [] ≡ unfinished
-data_cut left total = rw (drop_all {X = ℕ} left [] (omega arith)) refl
-
--- The end of a chunk
-
-pub end_cut : (octets : List ℕ) (total : ℕ) → length octets ≡ 1 → slice_index octets 0 ≡ 13 → data_reads 0 total octets ≡ unfinished
-end_cut [] total one cr = absurd (omega (arith, one))
-end_cut (x ∷ []) total one cr = rw cr refl
-end_cut (x ∷ y ∷ more) total one cr = absurd (omega (arith, one))
-
-pub end_bad_first : (octets more : List ℕ) (total : ℕ) → 0 < length octets → (slice_index octets 0 == 13) ≡ false → data_reads 0 total (octets ++ more) ≡ faulty BadChunk
-end_bad_first [] more total some bad = absurd (omega (arith, some))
-end_bad_first (x ∷ []) [] total some bad = rw bad refl
-end_bad_first (x ∷ []) (y ∷ more) total some bad = rw bad refl
-end_bad_first (x ∷ y ∷ octets) more total some bad = rw bad refl
-
-pub end_bad_second : (octets more : List ℕ) (total : ℕ) → 1 < length octets → slice_index octets 0 ≡ 13 → (slice_index octets 1 == 10) ≡ false → data_reads 0 total (octets ++ more) ≡ faulty BadChunk
-end_bad_second [] more total some cr bad = absurd (omega (arith, some))
-end_bad_second (x ∷ []) more total some cr bad = absurd (omega (arith, some))
-end_bad_second (x ∷ y ∷ octets) more total some cr bad = rw (cr, bad) refl
-
-pub end_goes_on : (octets more body : List ℕ) → 1 < length octets → slice_index octets 0 ≡ 13 → slice_index octets 1 ≡ 10
-    → with_front body (data_reads 0 (length body + 0) (octets ++ more)) ≡ with_front body (chunks_behind (drop 2 octets ++ more) 0 (length body))
-end_goes_on [] more body some cr lf = absurd (omega (arith, some))
-end_goes_on (x ∷ []) more body some cr lf = absurd (omega (arith, some))
-end_goes_on (x ∷ y ∷ octets) more body some cr lf =
-    let none : length body + 0 ≡ length body = omega arith in
-    rw (cr, lf, none) (ap (with_front body) (with_front_none (chunks_behind (octets ++ more) 0 (length body))))

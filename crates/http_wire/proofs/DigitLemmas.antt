@@ -1,37 +1,14 @@
 -- Numbers in digits, read digit by digit.
-use Rattle.std.proofs.Common.{◌≡◌, ℕ, zero, suc, ◌+◌, ◌-◌, ◌*◌, ◌^◌, ◌<◌, ◌≤◌, List, [], ◌∷◌, length, map, drop, drop-cons, get_or, add-one, add-zero, Option, Some, None, refl, ap, ◌∙◌, arith}
+use Rattle.std.proofs.Common.{◌≡◌, ℕ, zero, suc, ◌+◌, ◌-◌, ◌*◌, ◌^◌, ◌<◌, ◌≤◌, List, map, add-one, add-zero, Option, arith}
 use Rattle.std.specs.Prelude.{option_map}
 use Rattle.std.specs.List.{fold}
 use Rattle.std.proofs.Math.Nat.{pow-suc, mul-le-mul_left, mul-le-mul_right}
 use Rattle.cal_base.specs.Lines.ContentLines.{every}
-use Rattle.cal_base.specs.Xml.XmlMarkup.{digit_value, number_of_digits}
+use Rattle.cal_base.specs.Xml.XmlMarkup.{digit_value}
 
 -- the number that some digits make behind one
 abbrev pub number_behind : ℕ → ℕ → List ℕ → Option ℕ
 number_behind base before digits = option_map (fold (λ number digit. number * base + digit) before) (every (map (digit_value base) digits))
-
-pub starts : (base : ℕ) (digits : List ℕ) → 0 < length digits → number_of_digits base digits ≡ number_behind base 0 digits
-starts base [] some = absurd (omega (arith, some))
-starts base (x ∷ digits) some = refl
-
-pub next_digit : (base before digit x : ℕ) (digits : List ℕ) → digit_value base x ≡ Some digit → number_behind base before (x ∷ digits) ≡ number_behind base (before * base + digit) digits
-next_digit base before digit x digits h =
-    ap (λ (o : Option ℕ). option_map (fold (λ number digit. number * base + digit) before) (every (o ∷ map (digit_value base) digits))) h
-    ∙ by (every (map (digit_value base) digits))
-  where
-    by : (o : Option (List ℕ)) → option_map (fold (λ number digit. number * base + digit) before) (option_map (λ ds. digit ∷ ds) o) ≡ option_map (fold (λ number digit. number * base + digit) (before * base + digit)) o
-    by None = refl
-    by (Some ds) = refl
-
-pub no_digit : (base before x : ℕ) (digits : List ℕ) → digit_value base x ≡ None → number_behind base before (x ∷ digits) ≡ None
-no_digit base before x digits h = ap (λ (o : Option ℕ). option_map (fold (λ number digit. number * base + digit) before) (every (o ∷ map (digit_value base) digits))) h
-
--- the same at a place of some digits
-pub next_at : (base before digit i : ℕ) (digits : List ℕ) → i < length digits → digit_value base (get_or digits i 0) ≡ Some digit → number_behind base before (drop i digits) ≡ number_behind base (before * base + digit) (drop (i + 1) digits)
-next_at base before digit i digits within h = rw (add-one, drop-cons digits i 0) (next_digit base before digit (get_or digits i 0) (drop (suc i) digits) h)
-
-pub none_at : (base before i : ℕ) (digits : List ℕ) → i < length digits → digit_value base (get_or digits i 0) ≡ None → number_behind base before (drop i digits) ≡ None
-none_at base before i digits within h = rw (drop-cons digits i 0) (no_digit base before (get_or digits i 0) (drop (suc i) digits) h)
 
 -- so many digits make a number below the power
 pub digit_fits : (base n digit i : ℕ) → n < base ^ i → digit < base → n * base + digit < base ^ (i + 1)

@@ -4,6 +4,7 @@ use Rattle.std.specs.Prelude.{bytes_eq, codes, filter, nat_lt, is_some, slice_ge
 use Rattle.std.specs.List.{list_any}
 use Rattle.std.specs.Str.{str_eq_ignore_ascii_case}
 use Rattle.std.proofs.lemmas.Bool.Decides.{nat_tests}
+use Rattle.std.proofs.lemmas.Bool.{or_parts}
 use Rattle.httparse.specs.Grammar.{Field, field_value, RequestHead}
 use Rattle.httparse.specs.Spans.{name_and_value}
 use Rattle.cal_model.specs.declared.wire.WireFault.{WireFault}
@@ -70,14 +71,6 @@ pub several_refused : (fields : Fields) (head : RequestHead) → list_any (is_se
 unfolding judged_by contradicts framing_by
 several_refused fields head several e = judged_is head true (lengths_of head) (codings_of head) (sym (several_same fields head e) ∙ several) refl refl
 
--- where none stands several times
-or_false : (a b : Bool) → (a || b) ≡ false → (a ≡ false) × (b ≡ false)
-or_false false b e = (refl, e)
-or_false true b e = (e, sym (by b e))
-  where
-    by : (b : Bool) → true ≡ false → false ≡ b
-    by b k = cc
-
 framing_is : (head : RequestHead) (ls cs : List (List ℕ)) → lengths_of head ≡ ls → codings_of head ≡ cs → framing_of head ≡ framing_by ls cs
 unfolding framing_by lengths_of codings_of
 framing_is head ls cs l c = ap (λ x. framing_by x (codings_of head)) l ∙ ap (λ x. framing_by ls x) c
@@ -110,11 +103,11 @@ framing_reads fields head single e =
     let none : list_any (is_repeated head) single_fields ≡ false = sym (several_same fields head e) ∙ single in
     let ls = values_of (codes "content-length") fields in
     let cs = values_of (codes "transfer-encoding") fields in
-    let first = or_false (is_several fields (codes "authorization")) _ single in
-    let second = or_false (is_several fields (codes "content-length")) _ first.1 in
-    let third = or_false (is_several fields (codes "content-type")) _ second.1 in
-    let fourth = or_false (is_several fields (codes "depth")) _ third.1 in
-    let fifth = or_false (is_several fields (codes "transfer-encoding")) _ fourth.1 in
+    let first = or_parts (is_several fields (codes "authorization")) _ single in
+    let second = or_parts (is_several fields (codes "content-length")) _ first.1 in
+    let third = or_parts (is_several fields (codes "content-type")) _ second.1 in
+    let fourth = or_parts (is_several fields (codes "depth")) _ third.1 in
+    let fifth = or_parts (is_several fields (codes "transfer-encoding")) _ fourth.1 in
     let few_lengths : length ls ≤ 1 = Prim.grind (arith, nat_tests, second.0) in
     let few_codings : length cs ≤ 1 = Prim.grind (arith, nat_tests, fifth.0) in
     reads_by head ls cs none (sym (values_same (codes "content-length") fields head e)) (sym (values_same (codes "transfer-encoding") fields head e)) few_lengths few_codings

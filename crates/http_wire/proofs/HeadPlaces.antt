@@ -1,5 +1,5 @@
 -- The search for the end of a head.
-use Rattle.std.proofs.Common.{◌≡◌, ℕ, suc, ◌+◌, ◌-◌, ◌≤◌, true, ◌==◌, ◌&&◌, List, [], ◌∷◌, ◌++◌, length, take, drop, length-drop, Option, Some, None, refl, sym, ap, ◌∙◌, arith, ⊎_elim, append-nil}
+use Rattle.std.proofs.Common.{◌≡◌, ℕ, suc, ◌+◌, ◌-◌, ◌≤◌, true, ◌==◌, ◌&&◌, List, [], ◌∷◌, ◌++◌, length, take, drop, length-drop, Some, None, refl, sym, ap, ◌∙◌, arith, ⊎_elim, append-nil}
 use Rattle.std.specs.Prelude.{option_map}
 use Rattle.std.proofs.lemmas.List.{drop-drop}
 use Rattle.cal_base.specs.Texts.Octets.{line_feed, carriage_return}
@@ -119,13 +119,6 @@ begins_at unread begun within skipped =
 
 pub skipped_to : (unread : List ℕ) (begun begins : ℕ) → Skipped unread begun → drop begins unread ≡ without_empty_lines (drop begun unread) → Skipped unread begins
 skipped_to unread begun begins skipped is = λ more. skipped more ∙ skip_more (drop begun unread) more ∙ ap (λ l. without_empty_lines (l ++ more)) (sym is)
-
-map_zero : (k : ℕ) (o : Option ℕ) → k ≡ 0 → o ≡ option_map (λ n. k + n) o
-map_zero k None e = refl
-map_zero k (Some n) e = ap Some (omega (arith, e))
-
-pub looked_here : (unread : List ℕ) (begun : ℕ) → Looked unread begun begun
-looked_here unread begun = λ more. map_zero (begun - begun) (head_end (drop begun unread ++ more)) (omega arith)
 
 -- no end: two octets before the end the search goes on
 pub looked_on : (unread : List ℕ) (begun last : ℕ) → begun ≤ last → last + 2 ≤ length unread → head_end (drop begun unread) ≡ None → Looked unread begun last

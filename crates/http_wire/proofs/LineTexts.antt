@@ -2,7 +2,7 @@
 use Rattle.std.proofs.Common.{◌≡◌, ◌≢◌, ℕ, suc, ◌-◌, ◌≤◌, ◌<◌, Bool, true, false, cond, ◌==◌, ◌&&◌, List, [], ◌∷◌, ◌++◌, length, take, drop, Option, Some, None, refl, sym, ap, ◌∙◌, arith, ⊎_elim, append_assoc, length-append}
 use Rattle.std.specs.Prelude.{nat_le, is_some, option_map, option_and_then, MatchOption}
 use Rattle.std.specs.List.{list_all}
-use Rattle.std.proofs.lemmas.Bool.{false≢true}
+use Rattle.std.proofs.lemmas.Bool.{false≢true, and_from}
 use Rattle.std.proofs.lemmas.Bool.Decides.{nat_tests}
 use Rattle.std.specs.Borrow.{Bor}
 use Rattle.std.proofs.Math.Seq.{take-append_seam}
@@ -165,13 +165,10 @@ agree false false f g = refl
 agree true false f g = sym (f refl)
 agree false true f g = g refl
 
-join_and : (a b : Bool) → a ≡ true → b ≡ true → (a && b) ≡ true
-join_and a b h k = rw (h, k) refl
-
 states : (text : List ℕ) (w : ℕ) → text_size text ≡ Some w → length text ≤ 254 → (nat_le (length text) 254 && is_some (text_size text)) ≡ true
 states text w e few =
     let fits : nat_le (length text) 254 ≡ true = Prim.grind (arith, nat_tests, few) in
-    join_and (nat_le (length text) 254) (is_some (text_size text)) fits (ap is_some e)
+    and_from (nat_le (length text) 254) (is_some (text_size text)) fits (ap is_some e)
 
 stated : (text : List ℕ) → (nat_le (length text) 254 && is_some (text_size text)) ≡ true → (w : ℕ) × (text_size text ≡ Some w) × (length (text ++ 13 ∷ 10 ∷ []) ≤ chunk_line_limit)
 stated text h =

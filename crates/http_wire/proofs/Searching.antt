@@ -44,13 +44,6 @@ mapped_suc : (k l : ℕ) (o : Option ℕ) → suc k ≡ l → option_map (λ n. 
 mapped_suc k l None e = refl
 mapped_suc k l (Some n) e = ap Some (omega (arith, e))
 
-mapped_zero : (k : ℕ) (o : Option ℕ) → k ≡ 0 → o ≡ option_map (λ n. k + n) o
-mapped_zero k None e = refl
-mapped_zero k (Some n) e = ap Some (omega (arith, e))
-
-pub left_start : (octets : List ℕ) → Left octets octets
-left_start octets = mapped_zero (length octets - length octets) (head_end octets) (omega arith)
-
 pub left_next : (octets rest : List ℕ) → 0 < length rest → length rest ≤ length octets → Left octets rest → ends_here (slice_index rest 0) (drop 1 rest) ≡ None → Left octets (drop 1 rest)
 left_next octets [] some within left none = absurd (omega arith)
 left_next octets (b ∷ more) some within left none =
