@@ -4,6 +4,3 @@ use Rattle.std.specs.Borrow.{Bor}
 
 abbrev pub text_there : Bor (List ℕ) → List ℕ
 text_there text = text.now
-
-abbrev pub both_texts : Bor (List ℕ) × Bor (List ℕ) → List ℕ × List ℕ
-both_texts parts = (parts.0.now, parts.1.now)

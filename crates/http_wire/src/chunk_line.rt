@@ -6,8 +6,9 @@ ghost use Rattle.cal_model.specs.Streams.Chunks.{before_extension, before_break,
 ghost use Rattle.http_wire.specs.BodyParts.{LineReads};
 ghost use Rattle.http_wire.specs.Parts.{text_there};
 
-use crate::cuts::{at_most, before_last, cut, front, line_size};
+use crate::cuts::{at_most, before_last, front, line_size};
 use crate::digits::number;
+use cal_model::cut;
 
 /// The most octets of a chunk line, its CRLF counted.
 const LINE_LIMIT: usize = 256;

@@ -1,9 +1,6 @@
 //! Cutting octets.
-ghost use Rattle.std.specs.Prelude.{◌≡◌, ◌≢◌, ℕ, ◌≤◌, ◌<◌, ◌==◌, List, [], ◌∷◌, ◌++◌, drop, length, option_map, position, take, IfSome, MatchOption};
-ghost use Rattle.std.specs.List.{before_first};
+ghost use Rattle.std.specs.Prelude.{◌≡◌, ◌≢◌, ℕ, ◌≤◌, ◌<◌, ◌==◌, List, [], ◌∷◌, ◌++◌, drop, length, position, take, IfSome, MatchOption};
 ghost use Rattle.cal_model.specs.Streams.Chunks.{line_size};
-ghost use Rattle.cal_model.specs.Words.Cuts.{cut_at};
-ghost use Rattle.http_wire.specs.Parts.{both_texts};
 
 /// What stands behind so many octets.
 pub(crate) fn behind(octets: &[u8], n: usize) -> &[u8]
@@ -47,27 +44,6 @@ pub(crate) fn line_size(octets: &[u8]) -> Option<usize>
 {
     match place_of(octets, b'\n') {
         Some(place) => Some(place + 1),
-        None => None,
-    }
-}
-
-/// What stands before the first line feed, or all where there is none.
-pub(crate) fn before_feed(octets: &[u8]) -> &[u8]
-    ensures { result.now ≡ before_first (λ octet. octet == 10) octets.now }
-{
-    match place_of(octets, b'\n') {
-        Some(place) => front(octets, place),
-        None => octets,
-    }
-}
-
-/// The text before the first place of an octet, and the text behind it.
-pub(crate) fn cut(text: &[u8], separator: u8) -> Option<(&[u8], &[u8])>
-    ensures parts { option_map both_texts result ≡ cut_at separator text.now }
-    ensures shorter { IfSome result (λ parts. length parts.1.now < length text.now) }
-{
-    match place_of(text, separator) {
-        Some(place) => Some((front(text, place), behind(text, place + 1))),
         None => None,
     }
 }

@@ -1,14 +1,14 @@
 //! The fields of a head by their names (RFC 9110, 5).
-ghost use Rattle.std.specs.Prelude.{◌≡◌, ◌≤◌, ◌++◌, length, map, nat_lt, slice_get, bytes_eq, codes, flat_map, option_map, reverse, All, IfOk, OnOk};
+ghost use Rattle.std.specs.Prelude.{◌≡◌, ◌≤◌, ◌++◌, length, map, nat_lt, slice_get, bytes_eq, codes, flat_map, option_map, All, IfOk, OnOk};
 ghost use Rattle.std.specs.List.{list_any};
-ghost use Rattle.httparse.specs.Grammar.{is_ows, skip_ows, trim_ows};
+ghost use Rattle.httparse.specs.Grammar.{trim_ows};
 ghost use Rattle.httparse.specs.Spans.{IsHeaderWithin, header_bytes};
 ghost use Rattle.cal_model.specs.Streams.HeadFields.{joined, names_close};
 ghost use Rattle.http_wire.specs.FieldMaps.{IsRawField, fields_map};
 ghost use Rattle.http_wire.specs.Parts.{text_there};
 
-use crate::cuts::cut;
 use cal_base::{NoMemory, Octets};
+use cal_model::{cut, trimmed};
 use http_header::{
     HeaderMap, HeaderMapError, HeaderName, HeaderNameError, HeaderValue, HeaderValueError,
     ValueIter,
@@ -170,40 +170,5 @@ fn names_close(value: &[u8]) -> bool
 fn is_close(option: &[u8]) -> bool
     ensures { result ≡ bytes_eq (trim_ows option.now) (codes "close") }
 {
-    without_blanks_behind(without_blanks_before(option)) == b"close".as_slice()
-}
-
-/// The text from its first octet on that is no blank.
-fn without_blanks_before(text: &[u8]) -> &[u8]
-    ensures { result.now ≡ skip_ows text.now }
-{
-    let mut rest = text;
-    'blanks: while let Some((octet, behind)) = rest.split_first() {
-        if !is_blank(*octet) {
-            return rest;
-        }
-        rest = behind;
-    }
-    rest
-}
-
-/// The text up to its last octet that is no blank.
-fn without_blanks_behind(text: &[u8]) -> &[u8]
-    ensures { result.now ≡ reverse (skip_ows (reverse text.now)) }
-{
-    let mut rest = text;
-    'blanks: while let Some((octet, before)) = rest.split_last() {
-        if !is_blank(*octet) {
-            return rest;
-        }
-        rest = before;
-    }
-    rest
-}
-
-/// A space or a tab.
-fn is_blank(octet: u8) -> bool
-    ensures { result ≡ is_ows octet }
-{
-    octet == b' ' || octet == b'\t'
+    trimmed(option) == b"close".as_slice()
 }

@@ -9,13 +9,13 @@ ghost use Rattle.cal_model.specs.Streams.HeadFields.{first_line, names_other_ver
 ghost use Rattle.cal_model.specs.Streams.WireLimits.{head_limit};
 ghost use Rattle.http_wire.specs.HeadReading.{BlockReads, HeadReads, IsHeadAt, IsNoHead};
 
-use crate::cuts::{before_feed, before_last, behind};
+use crate::cuts::{before_last, behind};
 use crate::fields::{Fields, collect};
 use crate::framing::framing;
 use crate::part::Part;
 use crate::request::{Line, request_of};
 use cal_base::NoMemory;
-use cal_model::{WireFault, WireRequest};
+use cal_model::{WireFault, WireRequest, text_before};
 use httparse::Status;
 use httparse::spans::{EMPTY_HEADER_SPAN, HeaderSpan, RequestSpans, parse_request};
 use std::alloc::Global;
@@ -97,7 +97,7 @@ fn line_feeds(block: &[u8]) -> usize
 fn first_line(block: &[u8]) -> &[u8]
     ensures { result.now ≡ first_line block.now }
 {
-    before_return(before_feed(block))
+    before_return(text_before(block, b'\n'))
 }
 
 /// A line without the CR at its end.
