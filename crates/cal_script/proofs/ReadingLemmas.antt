@@ -15,7 +15,7 @@ use Rattle.http_wire.specs.declared.wire.Next.TheVariants.{Request as NextReques
 use Rattle.http_wire.specs.declared.wire.Wire.{Wire}
 use Rattle.cal_script.specs.declared.connections.Connection.{Connection}
 use Rattle.cal_script.specs.Readings.{numbered, IsOpenReading, IsClosedReading, IsReading, Rests}
-use Rattle.cal_script.proofs.ConnectionLemmas.{numbered-push, answered_open, answered_front, answered_closed, still_open}
+use Rattle.cal_script.proofs.ConnectionLemmas.{numbered-push, answered_open, answered_front, answered_closed, open_behind}
 
 -- Streams
 
@@ -104,7 +104,7 @@ due_request stream given before after wire e same count goes_on next reading =
       rest = found.0;
       given_is = ap (λ xs. xs ++ whole before.answered wire ∷ []) open_.given_is
           ∙ ap (λ n. numbered open_.requests ++ whole n wire ∷ []) open_.counted ∙ sym (numbered-push open_.requests wire);
-      none_closes = still_open open_.requests wire open_.none_closes (subst (λ n. closes_after n wire ≡ false) open_.counted goes_on);
+      none_closes = open_behind open_.requests wire open_.none_closes (subst (λ n. closes_after n wire ≡ false) open_.counted goes_on);
       spelled = spells_one stream open_.requests open_.rest found.0 wire open_.spelled found.1;
       stands = found.2;
       counted = omega (arith, count, open_.counted, length-append open_.requests (wire ∷ []));

@@ -19,6 +19,7 @@ use Rattle.cal_book.specs.EventSteps.{state_behind}
 use Rattle.http_wire.specs.Wires.{NextIs}
 use Rattle.http_wire.specs.declared.wire.Next.TheVariants.{Need}
 use Rattle.http_wire.specs.declared.wire.Wire.{Wire}
+use Rattle.http_wire.proofs.ServedRequests.{open_parts, served_closed, still_open}
 use Rattle.cal_session.specs.AskedTurns.{AnsweredAt, BrokeAt}
 use Rattle.cal_session.specs.Connections.{requests_of, replies_of, AnsweredAll, AnsweredSome}
 use Rattle.cal_session.specs.SessionStates.{Environment, LinkTold, SessionState, HasSeenMore}
@@ -33,7 +34,7 @@ use Rattle.cal_session.specs.declared.served.How.{How}
 use Rattle.cal_session.specs.declared.served.How.TheVariants.{Closed, CutInRequest, Limit, WireRefused, ReadFault, WriteFault, NoMemory}
 use Rattle.cal_session.proofs.SessionLaws.{seen_further, session_more, run_more, run_refused, all_front, answered_some, answered_before, answered_all, rose_since}
 use Rattle.cal_session.proofs.StepLemmas.{replies_further, map_further, map_len, looks_on}
-use Rattle.cal_session.proofs.StreamLemmas.{open_parts, served_closed, spells_more, spells_on, still_open}
+use Rattle.cal_session.proofs.StreamLemmas.{spells_more, spells_on}
 use Rattle.cal_session.proofs.TurnLaws.{session_later}
 
 module _ (environment : Environment) (before now after : SessionState) (turns : List Served) (stream rest behind : List ℕ) where
@@ -67,7 +68,7 @@ module _ (environment : Environment) (before now after : SessionState) (turns : 
   all_answered r a begins why =
       let read = streams_are_read behind in
       let requests = requests_of r.answers in
-      let full : (a.wire.close ≡ true) ⊎ (length requests + 1 ≡ request_limit) = elim why [ inl asks ↦ inl asks | inr last ↦ inr (let n = map_len (λ (answer : Answer). answer.wire) r.answers in omega (arith, n, last)) ] in (
+      let full : (a.wire.close ≡ true) ⊎ (request_limit ≤ length requests + 1) = elim why [ inl asks ↦ inl asks | inr last ↦ inr (let n = map_len (λ (answer : Answer). answer.wire) r.answers in omega (arith, n, last)) ] in (
         read.2,
         record {
           requests = requests ++ a.wire ∷ read.0;

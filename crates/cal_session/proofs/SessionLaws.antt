@@ -16,6 +16,7 @@ use Rattle.cal_model.specs.Streams.WireLimits.{request_limit}
 use Rattle.cal_model.proofs.Streams.ReadingLaws.{streams_are_read, streams_grow}
 use Rattle.http_wire.specs.Wires.{Stands}
 use Rattle.http_wire.specs.declared.wire.Wire.{Wire}
+use Rattle.http_wire.proofs.ServedRequests.{open_parts, served_front, served_open}
 use Rattle.cal_model.specs.Transcripts.ConnectionAnswers.{is_open}
 use Rattle.cal_model.specs.Users.UsersFile.{Users}
 use Rattle.cal_session.specs.AskedTurns.{AnsweredAt}
@@ -28,7 +29,7 @@ use Rattle.cal_session.specs.declared.served.How.TheVariants.{Closed, CutInReque
 use Rattle.cal_session.specs.Turns.{Answer, IsToldMoment, seen_behind}
 use Rattle.cal_session.specs.declared.served.Served.{Served}
 use Rattle.cal_session.proofs.StepLemmas.{adds_on, takes_on, map_further, looks_on}
-use Rattle.cal_session.proofs.StreamLemmas.{open_parts, served_front, served_open, spells_on}
+use Rattle.cal_session.proofs.StreamLemmas.{spells_on}
 use Rattle.cal_session.proofs.TurnLaws.{HasSeenAll, session_later, stands_later, one_here}
 
 -- what a pass knows goes on in two steps as in one

@@ -17,3 +17,4 @@ pub mod Beginning
 pub mod ShortBodies
 pub mod WireLaws
 pub mod IdleFronts
+pub mod ServedRequests
