@@ -42,6 +42,7 @@ use Rattle.dav_reports.proofs.BusyBodies.{some_there}
 use Rattle.cal_book.specs.Answering.OwnReplies.{IsUnrefused, own_reply}
 use Rattle.cal_book.specs.Completeness.{NoneRefuses, answered_status, reading_status, rows_of_reading, ReportsAreAnswered, ReadingsAreAnswered, ChangesAreMade}
 use Rattle.cal_book.proofs.Answering.OwnRows.{first-behind, need-held, reading-unrefused, unrefused-good, unrefused-met}
+use Rattle.cal_book.proofs.Answering.ReportPlaces.{no_privilege}
 use Rattle.cal_book.proofs.Checking.PassedLemmas.{not_when}
 use Rattle.cal_book.proofs.ReasonLaws.{ShowsAll, change-some, held-sight, scene-shows}
 
@@ -106,11 +107,6 @@ module _ (scene : Scene) (request : Request) (report : ReportRequest) (how : req
       unconditional fails reply = ap (λ (path : Path). when ((is_some (object_in path) && not (is_options request.method)) && fails) reply) at
 
 -- what it shows, where the calendar is seen with what it needs
-nothing-held : (report : ReportRequest) → has_all 0 (privilege_needed report) ≡ false
-nothing-held (Query props select filter timezone) = refl
-nothing-held (Multiget props select hrefs) = refl
-nothing-held (FreeBusy range) = refl
-
 abbrev Seen : Scene → ReportRequest → Type 0
 Seen scene report = (sight : Sight) × ((scene.calendar ≡ Some sight) × (has_all sight.held (privilege_needed report) ≡ true))
 
@@ -161,7 +157,7 @@ pub reports_are_answered : ReportsAreAnswered
 reports_are_answered users directory state event report bookable what holds none short =
     let scene = scene_by sight_of directory state event in
     let how = (subst (Suits event.request.method) what bookable.suits).0 in
-    let seen = held-sight scene (privilege_needed report) (nothing-held report) holds in
+    let seen = held-sight scene (privilege_needed report) (no_privilege report) holds in
     let is = report-shown directory state event report how what bookable.allowed seen holds none short in
     (is, ap (λ (reply : Reply). reply.status) is ∙ report-status scene event.moment report (scene-shows directory state event.who event.request.path) seen)
 
@@ -223,7 +219,7 @@ module _ (scene : Scene) (moment : ℤ) (request : Request) (shows : ShowsAll sc
   asked-status (content.Make sets) suits good met = absurd cc
   asked-status (content.Acl grants) suits good met = let never = suits.0 in absurd cc
   asked-status (content.Report report) suits good met =
-      report-status scene moment report shows (held-sight scene (privilege_needed report) (nothing-held report) (need-held scene report met))
+      report-status scene moment report shows (held-sight scene (privilege_needed report) (no_privilege report) (need-held scene report met))
   asked-status (content.Bad refusal) suits good met = absurd cc
 
   answer-status : (how : Method) (what : Content) → is_reading how ≡ true → IsTrue (has_method scene.path how) → Suits how what → is_object_missing how scene ≡ false

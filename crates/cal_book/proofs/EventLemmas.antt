@@ -18,7 +18,7 @@ use Rattle.cal_model.specs.History.Journal.{Entry, entry_of, IsLegal}
 use Rattle.cal_model.specs.History.RightPieces.{IsRight, live_pieces}
 use Rattle.cal_model.specs.Objects.ObjectReading.{first_there}
 use Rattle.cal_model.specs.Requests.MethodContents.{Suits, refusals_of, own_refusals}
-use Rattle.cal_model.specs.Serving.EventReplies.{reply_to, reply_of, state_of, state_after}
+use Rattle.cal_model.specs.Serving.EventReplies.{state_of, state_after}
 use Rattle.cal_model.specs.Serving.Outcomes.{Outcome, accepted, unchanged, outcome, outcome_where, is_reading, rows_of_change, changed, scene_by}
 use Rattle.cal_model.specs.Serving.ServingLaws.{IsNoWant}
 use Rattle.cal_model.specs.Sight.Views.{whole_sight}
@@ -67,21 +67,6 @@ stepped-unchanged users event work reply right e =
 pub latest-alone : (old same new : Work) (latest : ℤ) → new ≡ record same { latest = latest } → same ≡ old → new ≡ record old { latest = new.latest }
 latest-alone old same new latest is was = is ∙ ap (λ (w : Work). record w { latest = latest }) was ∙ ap (λ l. record old { latest = l }) (sym (ap (λ (w : Work). w.latest) is))
 
--- An accepted event enters its change.
-pub stepped-accepted : (users : Users) (event : Event) (work new : Work) (after : ServerState) (status : ℕ) (change : Change) → change_of (directory_of users) event.request ≡ Some change
-    → outcome (directory_of users) (state_behind users work.journal) event ≡ accepted status after
-    → new.journal ≡ work.journal ++ entry_of event change status ∷ [] → new.pieces ≡ live_pieces new.journal work.pieces → new.latest ≡ work.latest → new.out ≡ work.out
-    → new ≡ stepped users event work
-stepped-accepted users event work new after status change asks e journal pieces latest out =
-    let same : new.journal ≡ journal_after users event work.journal =
-    journal ∙ ap (λ more. work.journal ++ more) (sym (entries-accepted users (state_behind users work.journal) after event status change asks e)) in
-    λ i. record {
-      journal = same i;
-      latest = latest i;
-      pieces = (pieces ∙ ap (λ j. live_pieces j work.pieces) same) i;
-      out = out i;
-    }
-
 -- Its journal is the one after the event, seen from a state that is the one behind the journal.
 pub journal-accepted : (users : Users) (event : Event) (state after : ServerState) (journal longer : List Entry) (status : ℕ) (change : Change) → state ≡ state_behind users journal
     → change_of (directory_of users) event.request ≡ Some change → outcome (directory_of users) state event ≡ accepted status after → longer ≡ journal ++ entry_of event change status ∷ []
@@ -89,18 +74,6 @@ pub journal-accepted : (users : Users) (event : Event) (state after : ServerStat
 journal-accepted users event state after journal longer status change is asks e entered =
     entered ∙ ap (λ more. journal ++ more)
     (sym (entries-accepted users (state_behind users journal) after event status change asks (ap (λ s. outcome (directory_of users) s event) (sym is) ∙ e)))
-
--- and an event that changes nothing leaves it as it is, with its pieces
-pub journal-unchanged : (users : Users) (event : Event) (journal : List Entry) (reply : Reply) → outcome (directory_of users) (state_behind users journal) event ≡ unchanged reply → journal ≡ journal_after users event journal
-journal-unchanged users event journal reply e = sym (ap (λ more. journal ++ more) (entries-unchanged users (state_behind users journal) event reply e) ∙ append-nil journal)
-
-pub pieces-unchanged : (journal : List Entry) (pieces : List Piece) → AllByRecursion (IsRight journal) pieces → pieces ≡ live_pieces journal pieces
-pieces-unchanged journal pieces right = sym (live_pieces-right journal pieces right)
-
--- Replies
-
-pub reply-unchanged : (directory : Directory) (state : ServerState) (event : Event) (reply : Reply) → outcome directory state event ≡ unchanged reply → reply ≡ reply_to directory state event
-reply-unchanged directory state event reply e = ap (reply_of event.request) (sym e)
 
 -- Journals
 

@@ -7,7 +7,6 @@ use Rattle.cal_model.specs.declared.object.Object.{Object}
 use Rattle.cal_model.specs.declared.piece.Piece.{Piece}
 use Rattle.cal_model.specs.declared.row.Row.{Row}
 use Rattle.cal_model.specs.History.Journal.{Entry}
-use Rattle.cal_model.specs.History.LiveObjects.{Placed, live_at}
 use Rattle.cal_model.specs.History.Origins.{Origins, AreLive}
 use Rattle.cal_model.specs.History.RightPieces.{IsRight}
 use Rattle.cal_model.specs.Instances.Rows.{rows_in}

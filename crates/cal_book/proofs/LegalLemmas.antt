@@ -1,7 +1,7 @@
 -- The test of legal journals tells them.
 use Rattle.std.proofs.Common.{◌≡◌, ℕ, Bool, true, false, List, [], ◌∷◌, refl, ap, ◌∙◌}
 use Rattle.std.specs.Prelude.{◌&&◌}
-use Rattle.std.proofs.lemmas.Bool.{false≢true, eqb-true, eq-eqb}
+use Rattle.std.proofs.lemmas.Bool.{false≢true, eqb-true, eq-eqb, and_from}
 use Rattle.cal_model.specs.History.Journal.{Entry, asked, IsLegal, IsLegalFrom}
 use Rattle.cal_model.specs.Serving.EventReplies.{state_of, state_after}
 use Rattle.cal_model.specs.Serving.Outcomes.{Outcome, accepted, unchanged, outcome}
@@ -9,10 +9,6 @@ use Rattle.cal_model.specs.State.ServerState.{Directory, ServerState, opening_st
 use Rattle.cal_book.specs.LegalJournals.{is_accepted_with, is_legal, is_legal_from, beginning_is_legal, LegalIsTold}
 
 -- Both tests pass where the two together do.
-
-both_pass : (a b : Bool) → a ≡ true → b ≡ true → (a && b) ≡ true
-both_pass true b x y = y
-both_pass false b x y = x
 
 front_passes : (a b : Bool) → (a && b) ≡ true → a ≡ true
 front_passes true b e = refl
@@ -33,7 +29,7 @@ told_from : (directory : Directory) (state : ServerState) (journal : List Entry)
 told_from directory state [] legal = refl
 told_from directory state (entry ∷ entries) legal =
     let after = state_after directory state (asked directory entry) in
-    both_pass (is_accepted_with entry.status (outcome directory state (asked directory entry))) (is_legal_from directory after entries)
+    and_from (is_accepted_with entry.status (outcome directory state (asked directory entry))) (is_legal_from directory after entries)
     (ap (is_accepted_with entry.status) legal.0 ∙ eq-eqb entry.status entry.status refl) (told_from directory after entries legal.1)
 
 pub legal_is_told : (directory : Directory) (journal : List Entry) → IsLegal directory journal → is_legal directory journal ≡ true

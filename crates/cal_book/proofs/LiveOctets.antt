@@ -27,11 +27,9 @@ use Rattle.cal_model.proofs.State.SoundLaws.{effect-sound, opening-sound}
 use Rattle.cal_journal.specs.KeptEntries.{AreSound}
 use Rattle.cal_journal.proofs.OwnChanges.{asked_is_own, state_after-effect}
 use Rattle.collections.proofs.AcceptedLemmas.{accepted_put, accepted_make}
+use Rattle.cal_book.proofs.StepLemmas.{same_octets}
 
 -- Look-ups in maps and lists
-
-same_octets : (name : List ℕ) → bytes_eq name name ≡ true
-same_octets name = (bytes_eq-Decides name name).1 refl
 
 abbrev value_or : {X : Type 0} → X → Option X → X
 value_or other None = other

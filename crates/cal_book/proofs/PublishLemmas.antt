@@ -1,9 +1,10 @@
 -- Claims and pieces: an object that the journal made, and whether it is still there.
-use Rattle.std.proofs.Common.{◌≡◌, ◌≢◌, ℕ, ◌≤◌, Bool, true, false, ◌||◌, cond, List, [], ◌∷◌, ◌++◌, length, Option, Some, None, refl, sym, ap, ◌∙◌, arith}
+use Rattle.std.proofs.Common.{◌≡◌, ◌≢◌, ℕ, ◌≤◌, Bool, true, false, cond, List, [], ◌∷◌, ◌++◌, length, Option, Some, None, refl, sym, ap, ◌∙◌, arith}
 use Rattle.std.specs.Prelude.{not, is_some, Ok, ℤ, ◌-◌}
 use Rattle.std.specs.List.{AllByRecursion}
 use Rattle.std.proofs.lemmas.Bool.Decides.{nat_tests}
 use Rattle.std.proofs.lemmas.List.Filters.{length-filter_both}
+use Rattle.std.proofs.lemmas.Bool.{or_parts}
 use Rattle.cal_model.specs.declared.object.Object.{Object}
 use Rattle.cal_model.specs.declared.piece.Piece.{Piece}
 use Rattle.cal_model.specs.declared.row.Row.{Row}
@@ -25,15 +26,11 @@ use Rattle.cal_book.specs.UpToDate.{IsUpToDate}
 
 -- Objects that can be served have no more rows than are served
 
-fewer : (b c : Bool) → (b || c) ≡ false → (b ≡ false) × (c ≡ false)
-fewer true c e = absurd cc
-fewer false c e = (refl, e)
-
 pub rows-limited : (octets : List ℕ) (object : Object) → IsServable octets → read_object octets ≡ Ok object → length (rows object) ≤ instances_limit
 rows-limited octets object servable reading =
     let same : servable.object ≡ object = cc (servable.reading, reading) in
     let few : has_too_many object ≡ false = ap has_too_many (sym same) ∙ servable.few in
-    grind (arith, nat_tests, (fewer (has_fine_rule object) _ few).1)
+    grind (arith, nat_tests, (or_parts (has_fine_rule object) _ few).1)
 
 pub window-limited : (object : Object) (window : ℤ) → length (rows object) ≤ instances_limit → length (rows_in object window) ≤ 4_000_000
 window-limited object window few =

@@ -5,7 +5,7 @@ use Rattle.std.specs.Prelude.{◌==◌, is_some, is_none, int_lt, codes, if◌th
 use Rattle.std.specs.BTreeMap.{is_at}
 use Rattle.std.specs.List.{enumerate_from}
 use Rattle.std.specs.Option.{option_map_or}
-use Rattle.std.proofs.lemmas.Bool.{false≢true}
+use Rattle.std.proofs.lemmas.Bool.{false≢true, and_parts}
 use Rattle.cal_base.specs.Lists.NameMap.{Named, name_order, value_at}
 use Rattle.cal_model.specs.declared.object.Class.{Class}
 use Rattle.cal_model.specs.declared.privilege.Grant.{Grant}
@@ -75,15 +75,11 @@ Known status = is_some (lookup (λ known. known == status) reasons) ≡ true
 abbrev pub Fine : ℕ → Type 0
 Fine status = (not (status == 501) && is_some (lookup (λ known. known == status) reasons)) ≡ true
 
-both_hold : (a b : Bool) → (a && b) ≡ true → (a ≡ true) × (b ≡ true)
-both_hold true b e = (refl, e)
-both_hold false b e = absurd (false≢true e)
-
 known : (status : ℕ) → Fine status → Known status
-known status fine = (both_hold _ _ fine).1
+known status fine = (and_parts _ _ fine).1
 
 other-status : (status : ℕ) → Fine status → status ≢ 501
-other-status status fine is = false≢true (sym (ap (λ n. not (n == 501)) is) ∙ (both_hold _ _ fine).0)
+other-status status fine is = false≢true (sym (ap (λ n. not (n == 501)) is) ∙ (and_parts _ _ fine).0)
 
 -- of a row, and of a refusal that may be there
 abbrev pub FineRow : Option Reply → Type 0
@@ -761,10 +757,10 @@ refused-known : (users : Users) (wire : WireRequest) (reply : Reply) → asked_o
 refused-known users wire reply e = subst RefusedKnown e (asked-fine users wire)
 
 refused-reason : (users : Users) (wire : WireRequest) (reply : Reply) → asked_of users wire ≡ refused reply → HasReason reply
-refused-reason users wire reply e = known-reason reply.status (both_hold _ _ (refused-known users wire reply e)).1
+refused-reason users wire reply e = known-reason reply.status (and_parts _ _ (refused-known users wire reply e)).1
 
 refused-no_want : (users : Users) (wire : WireRequest) (reply : Reply) → asked_of users wire ≡ refused reply → reply.status ≢ 503
-refused-no_want users wire reply e is = false≢true (sym (ap (λ n. not (n == 503)) is) ∙ (both_hold _ _ (refused-known users wire reply e)).0)
+refused-no_want users wire reply e is = false≢true (sym (ap (λ n. not (n == 503)) is) ∙ (and_parts _ _ (refused-known users wire reply e)).0)
 
 pub replies_have_reasons : RepliesHaveReasons
 replies_have_reasons = record {

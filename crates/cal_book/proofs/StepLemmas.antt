@@ -30,7 +30,7 @@ and-true : (b : Bool) → (b && true) ≡ b
 and-true true = refl
 and-true false = refl
 
-and-false : (b : Bool) → (b && false) ≡ false
+pub and-false : (b : Bool) → (b && false) ≡ false
 and-false true = refl
 and-false false = refl
 
@@ -123,7 +123,7 @@ module _ (journal : List Entry) (entry : Entry) where
 abbrev is_at : ℕ → List ℕ → List ℕ → Placed → Bool
 is_at home calendar object placed = is_in_calendar placed home calendar && bytes_eq placed.object object
 
-same_octets : (name : List ℕ) → bytes_eq name name ≡ true
+pub same_octets : (name : List ℕ) → bytes_eq name name ≡ true
 same_octets name = (bytes_eq-Decides name name).1 refl
 
 pub filter_same : (p q : Piece → Bool) → ((piece : Piece) → p piece ≡ q piece) → (pieces : List Piece) → filter p pieces ≡ filter q pieces

@@ -24,7 +24,7 @@ use Rattle.piece_claims.specs.Boards.{Board}
 use Rattle.cal_book.specs.EndedObjects.{IsWithout, is_object, is_passed, without_object}
 use Rattle.cal_book.specs.UpToDate.{IsUpToDate}
 use Rattle.cal_book.specs.Cores.{HasLiveOctets}
-use Rattle.cal_book.proofs.StepLemmas.{IsWithout-none, filter_same, origin-within}
+use Rattle.cal_book.proofs.StepLemmas.{IsWithout-none, and-false, filter_same, origin-within}
 
 or-false : (b : Bool) → (b || false) ≡ b
 or-false true = refl
@@ -33,10 +33,6 @@ or-false false = refl
 or-true : (b : Bool) → (b || true) ≡ true
 or-true true = refl
 or-true false = refl
-
-and-false : (b : Bool) → (b && false) ≡ false
-and-false true = refl
-and-false false = refl
 
 neither : (a b : Bool) → not (a || b) ≡ (not a && not b)
 neither true b = refl

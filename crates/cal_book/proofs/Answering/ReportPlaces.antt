@@ -27,7 +27,7 @@ use Rattle.request_checks.specs.declared.scenes.Scene.{Scene}
 use Rattle.request_checks.specs.Scenes.{IsScene}
 use Rattle.request_checks.specs.Sightings.{IsDataAt, user_seen}
 
-no_privilege : (report : ReportRequest) → has_all 0 (privilege_needed report) ≡ false
+pub no_privilege : (report : ReportRequest) → has_all 0 (privilege_needed report) ≡ false
 no_privilege (Query props select filter timezone) = refl
 no_privilege (Multiget props select hrefs) = refl
 no_privilege (FreeBusy range) = refl

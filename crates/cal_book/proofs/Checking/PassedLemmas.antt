@@ -20,7 +20,7 @@ use Rattle.cal_model.proofs.History.ReplayLaws.{NoRow, no_row, some≢none}
 use Rattle.request_checks.specs.declared.scenes.Scene.{Scene}
 use Rattle.request_checks.specs.Scenes.{IsFoundAt, least_of}
 use Rattle.request_checks.proofs.LeastScenes.{rows-least, found}
-use Rattle.cal_book.specs.Checking.Passed.{IsPassed, IsThere, IsOfObject, IsOfCalendar, sighted}
+use Rattle.cal_book.specs.Checking.Passed.{IsPassed, IsThere, IsOfCalendar, sighted}
 
 -- a row that refuses nothing
 pub not_when : (applies : Bool) (reply : Reply) → when applies reply ≡ None → applies ≡ false
@@ -47,13 +47,6 @@ named (Principal user) method has changes = absurd (no_change method has changes
 named (Home user) method has changes = absurd (no_change method has changes)
 named (Calendar user calendar) method has changes = refl
 named (Object user calendar object) method has changes = refl
-
-pub of_object : (path : Path) → IsTrue (has_method path Put) → IsOfObject path
-of_object Root has = false≢true has
-of_object (Principal user) has = false≢true has
-of_object (Home user) has = false≢true has
-of_object (Calendar user calendar) has = false≢true has
-of_object (Object user calendar object) has = tt
 
 -- the methods that change a calendar itself, or make one
 abbrev pub is_of_calendars : Method → Bool

@@ -37,7 +37,7 @@ use Rattle.cal_book.specs.declared.changes.check.ChangeCheck.{ChangeCheck}
 use Rattle.cal_book.specs.declared.changes.check.ChangeCheck.TheVariants.{Made, Deletes, Refused, NoMemory}
 use Rattle.cal_book.specs.declared.changes.places.Place.{Place}
 use Rattle.cal_book.specs.declared.changes.places.Target.{Target}
-use Rattle.cal_book.specs.Checking.OwnChecks.{IsOwnChecked, IsTold, IsRefusal, own_refusal}
+use Rattle.cal_book.specs.Checking.OwnChecks.{IsOwnChecked, IsTold, IsRefusal}
 use Rattle.cal_book.specs.Checking.Places.{IsPlace, IsTarget, may_read, path_beside}
 use Rattle.cal_book.specs.Checking.Rows.{is_full_at, has_all_calendars_at, holder_name, conflict_row}
 
@@ -136,12 +136,6 @@ pub told_behind : (row : Option Reply) (rows : List (Option Reply)) (change : Ch
 told_behind row rows change reply result none told = subst (λ r. IsTold (r ∷ rows) change reply result) (sym none) told
 
 module _ (directory : Directory) (state : ServerState) (scene : Scene) (request : Request) where
-  pub own_refused : (reply : Reply) (result : ChangeCheck) → own_refusal state scene request ≡ Some reply → IsRefusal reply result → IsOwnChecked directory state scene request result
-  own_refused reply (Made made replied) e refused = absurd refused
-  own_refused reply (Deletes home) e refused = absurd refused
-  own_refused reply (Refused replied) e refused = e ∙ ap Some (sym refused)
-  own_refused reply NoMemory e refused = tt
-
   pub own_told : (rows : List (Option Reply)) (change : Change) (reply : Reply) (result : ChangeCheck) → own_rows state scene request request.method ≡ rows → change_of directory request ≡ Some change
       → reply.status ≡ accepted_status scene request.method → reply ≡ reply_to_change reply.status request request.content → is_deletion change ≡ false → IsSoundChange directory change
       → IsTold rows change reply result → IsOwnChecked directory state scene request result

@@ -1,10 +1,9 @@
 -- Histories stay in step: at the start, and with each entry that comes next.
 use Rattle.std.proofs.Common.{◌≡◌, ℕ, List, [], ◌∷◌, ◌++◌, length, refl, sym, ap, ◌∙◌, subst}
 use Rattle.std.proofs.lemmas.List.Elements.{All-nil, All-cons, All-append}
-use Rattle.cal_model.specs.State.ServerState.{directory_of, opening_state}
+use Rattle.cal_model.specs.State.ServerState.{directory_of}
 use Rattle.cal_model.specs.State.Changes.{effect}
 use Rattle.cal_model.specs.State.SoundStates.{IsSoundChange}
-use Rattle.cal_model.specs.State.UserNames.{AreToldApart}
 use Rattle.cal_model.specs.Users.UsersFile.{Users}
 use Rattle.cal_model.specs.Serving.EventReplies.{state_after}
 use Rattle.cal_model.specs.History.Journal.{Entry, asked, replay, IsAcceptedAt}
@@ -15,18 +14,6 @@ use Rattle.cal_model.proofs.History.OriginLaws.{AreLive-push}
 use Rattle.cal_journal.proofs.OwnChanges.{asked_is_own, state_after-effect}
 use Rattle.collections.specs.Kept.{Kept as KeptStore, state_of, users_of, origins_of}
 use Rattle.cal_book.specs.Keeping.KeptHistories.{IsInStep, IsNext}
-
--- the opening state, with no entries
-pub at_start : (users : Users) (store : KeptStore) → AreToldApart (directory_of users) → store.users ≡ users → state_of store ≡ opening_state (directory_of users)
-    → AreLive [] (origins_of store) → IsInStep users store []
-at_start users store told same opening live = record {
-  same = ap directory_of same;
-  told = told;
-  legal = tt;
-  sound = All-nil (λ (entry : Entry). IsSoundChange (directory_of users) entry.change);
-  state_is = opening;
-  live = live;
-}
 
 -- the change of an entry that comes next may be made
 pub is_acceptable : (users : Users) (store : KeptStore) (journal : List Entry) (entry : Entry) → IsInStep users store journal
