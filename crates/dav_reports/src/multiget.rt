@@ -297,6 +297,7 @@ pub(crate) fn multiget<V: View, A: PropAnswers, P: Pieces, L: Ledger>(
 ) -> Result<Option<Octets>, NoMemory>
     requires user { seen.now.who < length (V.directory seen.now.view.now).names }
     requires home { calendar.0 < length (V.directory seen.now.view.now).names }
+    requires sound { IsSound (V.directory seen.now.view.now) (V.state seen.now.view.now) }
     requires right { AreHeldRight (P.held pieces.now) (V.origins seen.now.view.now) (V.state seen.now.view.now) calendar.0 calendar.1.now }
     requires zone { IsTable zone.now }
     requires short { HasShortOffsets zone.now }
@@ -305,7 +306,6 @@ pub(crate) fn multiget<V: View, A: PropAnswers, P: Pieces, L: Ledger>(
 {
     let (home, name) = calendar;
     let (props, select, hrefs) = asked;
-    let _there = seen.view.calendar(home, name);
     let names = names_to_ask(alloc, props)?;
     let ranges = ranges_of_selection(alloc, select)?;
     let mut body = begin_multistatus(alloc)?;

@@ -270,6 +270,7 @@ pub(crate) fn query<V: Walks, A: PropAnswers, P: Pieces, L: Ledger>(
 ) -> Result<Option<Octets>, NoMemory>
     requires user { seen.now.who < length (V.directory seen.now.view.now).names }
     requires home { calendar.0 < length (V.directory seen.now.view.now).names }
+    requires sound { IsSound (V.directory seen.now.view.now) (V.state seen.now.view.now) }
     requires right { AreHeldRight (P.held pieces.now) (V.origins seen.now.view.now) (V.state seen.now.view.now) calendar.0 calendar.1.now }
     requires zone { IsTable zone.now }
     requires short { HasShortOffsets zone.now }
@@ -296,6 +297,7 @@ fn matching<V: Walks, A: PropAnswers, P: Pieces, L: Ledger>(
 ) -> Result<Option<Octets>, NoMemory>
     requires user { seen.now.who < length (V.directory seen.now.view.now).names }
     requires home { calendar.0 < length (V.directory seen.now.view.now).names }
+    requires sound { IsSound (V.directory seen.now.view.now) (V.state seen.now.view.now) }
     requires right { AreHeldRight (P.held pieces.now) (V.origins seen.now.view.now) (V.state seen.now.view.now) calendar.0 calendar.1.now }
     requires zone { IsTable zone.now }
     requires short { HasShortOffsets zone.now }
@@ -305,7 +307,6 @@ fn matching<V: Walks, A: PropAnswers, P: Pieces, L: Ledger>(
 {
     let (home, name) = calendar;
     let (props, select, wanted, ranges) = asked;
-    let _there = seen.view.calendar(home, name);
     let names = names_to_ask(alloc, props)?;
     let mut body = begin_multistatus(alloc)?;
     let whole = push_all_sought(

@@ -7,6 +7,7 @@ ghost use Rattle.cal_model.specs.Refusals.ReportRefusals.{zone_text};
 ghost use Rattle.cal_model.specs.Serving.ReadingReplies.{report_reply};
 ghost use Rattle.cal_model.specs.Sight.Scenes.{held_in};
 ghost use Rattle.cal_model.specs.State.ServerState.{Calendar, calendar_at};
+ghost use Rattle.cal_model.specs.State.SoundStates.{IsSound};
 ghost use Rattle.cal_model.specs.TimeZones.TableBounds.{IsTable};
 ghost use Rattle.dav_reports.specs.CalendarObjects.{AreHeldRight, entries_cost, objects_concerned};
 ghost use Rattle.dav_reports.specs.ReportOutcomes.{HasServedRange, IsBodyOf, MaySee, answer_body, calendar_scene, privilege_needed, reply_of, reply_to_report, unless_long, unless_outside, zone_given, zone_of_text};
@@ -39,6 +40,7 @@ fn report_body<V: Walks, A: PropAnswers, P: Pieces, L: Ledger>(
 ) -> Result<Option<Octets>, NoMemory>
     requires user { seen.now.who < length (V.directory seen.now.view.now).names }
     requires home { calendar.0 < length (V.directory seen.now.view.now).names }
+    requires sound { IsSound (V.directory seen.now.view.now) (V.state seen.now.view.now) }
     requires right { AreHeldRight (P.held pieces.now) (V.origins seen.now.view.now) (V.state seen.now.view.now) calendar.0 calendar.1.now }
     requires there { IsSome (calendar_at (V.state seen.now.view.now) calendar.0 calendar.1.now) }
     requires zone { IsTable zone.now }
