@@ -1,6 +1,6 @@
 -- The first range that leaves the dates, over lists of ranges put together.
 use Rattle.std.proofs.Common.{◌≡◌, ℕ, ◌+◌, ◌<◌, List, [], ◌∷◌, ◌++◌, length, map, take, drop, get_or, Option, Some, None, refl, sym, ap, ◌∙◌, append-nil, append_assoc}
-use Rattle.std.specs.Prelude.{flat_map, option_map, option_to_list}
+use Rattle.std.specs.Prelude.{flat_map, option_to_list}
 use Rattle.std.proofs.lemmas.Grind.{flat_map-append}
 use Rattle.std.proofs.lemmas.List.{take_more, take-append-drop}
 use Rattle.cal_base.specs.Lines.ComponentTrees.{or_else}
@@ -12,7 +12,7 @@ use Rattle.cal_model.specs.Objects.ObjectReading.{first_there}
 use Rattle.cal_model.specs.Refusals.ReportRefusals.{range_refusal}
 use Rattle.cal_model.specs.Reports.NamedRanges.{ranges_of_filter, ranges_step}
 use Rattle.dav_reports.specs.declared.dates.Outside.{Outside}
-use Rattle.dav_reports.specs.RangeDates.{IsFirst, first_refusal, own_ranges, ranges_of_props, refusal_of}
+use Rattle.dav_reports.specs.RangeDates.{IsFirst, first_refusal, own_ranges, ranges_of_props}
 
 pub first-cons : {X : Type 0} (o : Option X) (os : List (Option X)) → first_there (o ∷ os) ≡ or_else o (first_there os)
 first-cons None os = refl
@@ -33,10 +33,6 @@ first_refusal-append (x ∷ xs) ys =
     ∙ ap (or_else (range_refusal x)) (first_refusal-append xs ys)
     ∙ or_else_assoc (range_refusal x) (first_refusal xs) (first_refusal ys)
     ∙ ap (λ o. or_else o (first_refusal ys)) (sym (first-cons (range_refusal x) (map range_refusal xs)))
-
--- of one range
-pub first_of_one : (range : Range) (found : Option Outside) → option_map refusal_of found ≡ range_refusal range → IsFirst (range ∷ []) found
-first_of_one range found e = e ∙ sym (first-cons (range_refusal range) [] ∙ or_else-nothing (range_refusal range))
 
 -- of two lists
 pub first_before : (xs ys : List Range) (found : Outside) → IsFirst xs (Some found) → IsFirst (xs ++ ys) (Some found)

@@ -4,7 +4,7 @@ use Rattle.std.specs.Prelude.{Err, Ok, OnOk, Result, ◌||◌, filter, flat_map,
 use Rattle.std.specs.List.{AllByRecursion, list_any}
 use Rattle.std.specs.Option.{option_map_or}
 use Rattle.std.specs.Str.{bytes_eq}
-use Rattle.std.proofs.lemmas.Bool.{false≢true}
+use Rattle.std.proofs.lemmas.Bool.{false≢true, or_right}
 use Rattle.std.proofs.lemmas.List.{drop-append-le, take-append-le, take_all}
 use Rattle.std.proofs.lemmas.List.Folds.{list_any-append}
 use Rattle.std.proofs.lemmas.Map.Text.{is_eq-slice_cmp}
@@ -72,10 +72,6 @@ kept_value passes (entry ∷ entries) name octets keeps found =
     by true false same is later e = absurd (false≢true (sym is ∙ ap passes (sym (same_name name entry.0 same)) ∙ keeps))
     by false true apart is later e = ap (λ t. cond t (Some entry.1) (value_at (passing passes entries) name)) (is_eq-slice_cmp name entry.0 ∙ apart) ∙ later e
     by false false apart is later e = later e
-
-or_right : (a b : Bool) → b ≡ true → (a || b) ≡ true
-or_right true b is = refl
-or_right false b is = is
 
 -- one href in the middle settles whether some href names an object
 named_by_one : (owner calendar name href : List ℕ) (front rest : List (List ℕ)) → name_at owner calendar href ≡ Some name → list_any (names_object owner calendar name) (front ++ href ∷ rest) ≡ true

@@ -49,10 +49,6 @@ nested : (a b : Option Reply) (x : Reply) → unwrap_or (or_else a b) x ≡ unwr
 nested None b x = refl
 nested (Some r) b x = refl
 
-refused_first : (request : ReportRequest) (answered : Reply) (r : Refusal) → zone_row request ≡ Some r → refusal_reply r ≡ unless_refused request answered
-refused_first request answered r e =
-    sym (by_rows request answered ∙ ap (λ o. unwrap_or (or_else (refuse (or_else o (first_refusal (ranges_named request)))) (too_long Report answered)) answered) e)
-
 passed_first : (request : ReportRequest) (answered : Reply) → zone_row request ≡ None → unless_outside request (unless_long answered) ≡ unless_refused request answered
 passed_first request answered e =
     sym (by_rows request answered
@@ -61,29 +57,12 @@ passed_first request answered e =
 
 -- The zone
 
-refused_text : (text : Option (List ℕ)) (r : Refusal) → Err r ≡ zone_given text → option_and_then zone_refusal text ≡ Some r
-refused_text None r e = absurd cc
-refused_text (Some text) r e = by (read_zone text) e where
-  by : (reading : Result ZoneTable Unread) → Err r ≡ zone_read reading → refused_where (not (is_ok reading)) bad_zone ≡ Some r
-  by (Ok zone) e = absurd cc
-  by (Err why) e = let same : r ≡ bad_zone = cc in ap Some (sym same)
-
 passed_text : (text : Option (List ℕ)) (own : Option ZoneTable) → Ok own ≡ zone_given text → option_and_then zone_refusal text ≡ None
 passed_text None own e = refl
 passed_text (Some text) own e = by (read_zone text) e where
   by : (reading : Result ZoneTable Unread) → Ok own ≡ zone_read reading → refused_where (not (is_ok reading)) bad_zone ≡ None
   by (Ok zone) e = refl
   by (Err why) e = absurd cc
-
-pub own_of_text : (text : Option (List ℕ)) (own : Option ZoneTable) → Ok own ≡ zone_given text → own ≡ zone_of_text text
-own_of_text None own e = let same : own ≡ None = cc in same
-own_of_text (Some text) own e = by (read_zone text) e where
-  by : (reading : Result ZoneTable Unread) → Ok own ≡ zone_read reading → own ≡ result_ok reading
-  by (Ok zone) e = let same : own ≡ Some zone = cc in same
-  by (Err why) e = absurd cc
-
-pub zone_refused : (request : ReportRequest) (answered : Reply) (r : Refusal) → Err r ≡ zone_given (zone_text request) → refusal_reply r ≡ unless_refused request answered
-zone_refused request answered r e = refused_first request answered r (refused_text (zone_text request) r e)
 
 pub zone_passed : (request : ReportRequest) (answered : Reply) (own : Option ZoneTable) → Ok own ≡ zone_given (zone_text request) → unless_outside request (unless_long answered) ≡ unless_refused request answered
 zone_passed request answered own e = passed_first request answered (passed_text (zone_text request) own e)

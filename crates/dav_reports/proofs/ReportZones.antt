@@ -1,31 +1,18 @@
 -- The zone in which a report reads floating times: its own, else that of its calendar, else UTC.
-use Rattle.std.proofs.Common.{◌≡◌, ℕ, List, Option, Some, None, sym, ap, ◌∙◌, subst}
-use Rattle.std.specs.Prelude.{IsSome, option_and_then, option_map, unwrap_or}
+use Rattle.std.proofs.Common.{◌≡◌, ℕ, List, Option, Some, sym, ap, ◌∙◌, subst}
+use Rattle.std.specs.Prelude.{unwrap_or}
 use Rattle.cal_base.specs.Lines.ComponentTrees.{or_else}
-use Rattle.cal_base.specs.Lists.NameMap.{value_at}
 use Rattle.cal_model.specs.declared.store.CalendarData.{CalendarData}
 use Rattle.cal_model.specs.declared.zone.ZoneTable.{ZoneTable}
 use Rattle.cal_model.specs.Instances.Alignment.{utc_zone}
 use Rattle.cal_model.specs.Reports.FloatingZone.{floating_zone}
 use Rattle.cal_model.specs.State.PropertyTexts.{Texts}
-use Rattle.cal_model.specs.State.ServerState.{Calendar, Home, ServerState, calendar_at, home_at, own_zone}
-use Rattle.cal_model.specs.State.StoredData.{data_at, data_of}
+use Rattle.cal_model.specs.State.ServerState.{Calendar, ServerState, calendar_at, own_zone}
+use Rattle.cal_model.specs.State.StoredData.{data_at}
 use Rattle.cal_model.specs.TimeZones.TableBounds.{IsTable}
 use Rattle.dav_reports.specs.ReportOutcomes.{zone_of_text}
 use Rattle.dav_reports.proofs.CalendarZones.{data_known, own_or_table}
 use Rattle.dav_reports.proofs.ReportLemmas.{or_else-or, text_or_table}
-
--- a calendar that is there has its data
-pub data_there : (state : ServerState) (home : ℕ) (name : List ℕ) → None ≡ data_at state home name → IsSome (calendar_at state home name) → ⊥
-data_there state home name none there = by_home (home_at state home) none there
-  where
-    by_name : (value : Option Calendar) → None ≡ option_map (data_of home) value → IsSome value → ⊥
-    by_name None none there = absurd cc
-    by_name (Some c) none there = absurd cc
-
-    by_home : (h : Option Home) → None ≡ option_and_then (λ (h : Home). option_map (data_of home) (value_at h.calendars name)) h → IsSome (option_and_then (λ (h : Home). value_at h.calendars name) h) → ⊥
-    by_home None none there = absurd cc
-    by_home (Some h) none there = by_name (value_at h.calendars name) none there
 
 -- what was chosen is the zone in which floating times are read
 pub zone_chosen : (state : ServerState) (home : ℕ) (name : List ℕ) (c : Calendar) (found : CalendarData) (own : Option ZoneTable) (other zone : ZoneTable) → data_at state home name ≡ Some found → calendar_at state home name ≡ Some c

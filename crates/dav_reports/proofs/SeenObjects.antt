@@ -19,16 +19,14 @@ use Rattle.cal_model.proofs.Sight.SceneLaws.{holds_some, home_in-view, calendar_
 use Rattle.cal_model.proofs.State.NameWalkLaws.{home-sound}
 use Rattle.std.specs.Prelude.{Ok}
 use Rattle.std.specs.Result.{result_ok}
-use Rattle.cal_model.specs.declared.filter.Filter.{Filter}
 use Rattle.cal_model.specs.declared.object.Object.{Object}
 use Rattle.cal_model.specs.declared.row.Row.{Row}
 use Rattle.cal_model.specs.declared.selection.Selection.{Selection}
 use Rattle.cal_model.specs.declared.zone.ZoneTable.{ZoneTable}
-use Rattle.cal_model.specs.Filters.Matching.{matches_object}
 use Rattle.cal_model.specs.Objects.ObjectReading.{read_object}
 use Rattle.cal_model.specs.Selections.Picks.{picked_text}
 use Rattle.cal_model.specs.Selections.ShownData.{shown as shown_by, shown_of_object, shown_tree, takes_all}
-use Rattle.cal_model.specs.Serving.ReportReplies.{octets_match, shown_octets}
+use Rattle.cal_model.specs.Serving.ReportReplies.{shown_octets}
 use Rattle.dav_reports.specs.SeenCalendars.{MayRead}
 use Rattle.dav_reports.specs.ShownObjects.{IsShown}
 
@@ -112,9 +110,6 @@ is_shown directory state who home name c object_name octets text shown sound tol
 -- what a report shows of stored octets
 pub shown_is : (select : Selection) (zone : ZoneTable) (octets : List ℕ) (it : Object) → read_object octets ≡ Ok it → shown_octets select zone octets ≡ shown_of_object octets it select zone
 shown_is select zone octets it reading = ap (λ (found : Option Object). elim found [ None ↦ octets | Some read ↦ shown_of_object octets read select zone ]) (ap result_ok reading)
-
-pub match_is : (wanted : Filter) (zone : ZoneTable) (octets : List ℕ) (it : Object) → read_object octets ≡ Ok it → octets_match wanted zone octets ≡ matches_object wanted it zone
-match_is wanted zone octets it reading = ap (λ (found : Option Object). elim found [ None ↦ false | Some read ↦ matches_object wanted read zone ]) (ap result_ok reading)
 
 -- stored octets that are shown as they are
 pub shown_all : (octets : List ℕ) (it : Object) (rows : List Row) (select : Selection) (zone : ZoneTable) → takes_all select ≡ true → shown_by octets it rows select zone ≡ octets

@@ -1,7 +1,7 @@
 -- The answers to properties of an object in a report.
-use Rattle.std.proofs.Common.{Result, Ok, Err, ◌≡◌, ◌≤◌, ℕ, zero, suc, Bool, length, take, drop, arith, true, false, cond, List, [], ◌∷◌, ◌++◌, Some, refl, sym, ap, ap₂, ◌∙◌}
-use Rattle.std.specs.Prelude.{IfOk, ◌&&◌, not, bytes_eq}
-use Rattle.std.proofs.lemmas.Bool.{false≢true}
+use Rattle.std.proofs.Common.{Result, Ok, Err, ◌≡◌, ◌≤◌, ℕ, length, take, drop, true, cond, List, ◌++◌, Some, sym, ap, ap₂, ◌∙◌}
+use Rattle.std.specs.Prelude.{IfOk, not, bytes_eq}
+use Rattle.std.proofs.lemmas.Bool.{false≢true, and_parts}
 use Rattle.std.proofs.Math.Seq.{take-append_seam, drop-append_seam}
 use Rattle.std.proofs.lemmas.List.{length-take-le}
 use Rattle.std.proofs.lemmas.Slice.Eq.{bytes_eq-Decides}
@@ -27,13 +27,9 @@ data_here directory who text shown owner within name sight octets may is =
     ap (with_text calendar_data) (sym is)
     ∙ ap (λ held. cond (not held) (without_value calendar_data 403) (with_text calendar_data (shown octets))) (sym may)
 
-both_true : (a b : Bool) → (a && b) ≡ true → (a ≡ true) × (b ≡ true)
-both_true true b same = (refl, same)
-both_true false b same = absurd (false≢true same)
-
 same_as : (name other : PropName) → same_name name other ≡ true → name ≡ other
 same_as name other same =
-    let parts = both_true (bytes_eq name.space other.space) (bytes_eq name.name other.name) same in
+    let parts = and_parts (bytes_eq name.space other.space) (bytes_eq name.name other.name) same in
     ap₂ (λ space local. record { space = space; name = local }) ((bytes_eq-Decides name.space other.space).0 parts.0) ((bytes_eq-Decides name.name other.name).0 parts.1)
 
 pub data_answered : {directory : Directory} {state : ServerState} {who : ℕ} {path : Path} {text : List ℕ} {shown : List ℕ → List ℕ} {resource : Resource} → IsShown directory state who path text shown resource
@@ -49,15 +45,6 @@ data_answered {directory} {state} {who} {path} {text} {shown} {resource} is name
       by (home owner) none may is_text = absurd (false≢true none)
       by (calendar owner name sight) none may is_text = absurd (false≢true none)
       by (object owner within name sight octets) there may is_text = data_here directory who text shown owner within name sight octets may is_text
-
-take_fits : {X : Type 0} (n : ℕ) (xs : List X) → length (take n xs) ≤ length xs
-take_fits zero xs = omega arith
-take_fits (suc n) [] = omega arith
-take_fits (suc n) (x ∷ xs) = omega (arith, take_fits n xs)
-
--- what keeps its front is no shorter
-pub front_fits : (old new : List ℕ) → take (length old) new ≡ old → length old ≤ length new
-front_fits old new front = omega (arith, ap length front, take_fits (length old) new)
 
 pub if_ok_then : {E X : Type 0} {P Q : X → Type 0} (result : Result X E) → ((x : X) → P x → Q x) → IfOk result P → IfOk result Q
 if_ok_then (Ok x) next holds = next x holds

@@ -1,10 +1,9 @@
-use Rattle.std.proofs.Common.{◌≡◌, ℕ, List, [], ◌∷◌, ◌+◌, ◌++◌, ◌≤◌, ◌<◌, length, sym, ap, ◌∙◌, subst, arith, append_assoc, append-nil}
+use Rattle.std.proofs.Common.{◌≡◌, List, [], ◌∷◌, ◌+◌, ◌++◌, ◌<◌, length, sym, ap, ◌∙◌, subst, arith, append_assoc, append-nil}
 use Rattle.std.specs.Prelude.{flat_map}
 use Rattle.std.specs.List.{AllByRecursion}
 use Rattle.cal_model.specs.Refusals.RequestLimits.{answer_limit}
 use Rattle.cal_model.specs.Serving.ReportReplies.{href_response}
 use Rattle.dav_reports.specs.CalendarObjects.{NamesAmong}
-use Rattle.dav_reports.specs.MetObjects.{unmet_cost}
 use Rattle.dav_reports.specs.SeenCalendars.{reported_of}
 use Rattle.dav_reports.proofs.QueryWalks.{too_long}
 use Rattle.dav_reports.proofs.multiget.push_hrefs.Goals as goal

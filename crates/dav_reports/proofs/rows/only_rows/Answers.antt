@@ -1,4 +1,4 @@
-use Rattle.std.proofs.Common.{◌≡◌, Bool, cond, ◌∷◌, [], ◌++◌, sym, ap, ◌∙◌, rules, FitsSigned, w32, to_z-of_z}
+use Rattle.std.proofs.Common.{◌≡◌, cond, ◌∷◌, [], ◌++◌, sym, ap, ◌∙◌, rules, FitsSigned, w32, to_z-of_z}
 use Rattle.std.specs.Prelude.{◌&&◌}
 use Rattle.cal_model.specs.Reports.NeededWindows.{counts, is_stated_window}
 use Rattle.dav_reports.proofs.OnlyRows.{only_needed}
