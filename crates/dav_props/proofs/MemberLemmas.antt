@@ -4,8 +4,7 @@ use Rattle.std.specs.Prelude.{All, filter, flat_map, option_map, option_and_then
 use Rattle.std.proofs.lemmas.Bool.Decides.{nat_tests}
 use Rattle.std.proofs.lemmas.Map.Entries.{option_filter}
 use Rattle.cal_base.specs.Lists.NameMap.{Named, name_order, above, next_above}
-use Rattle.cal_model.specs.declared.path.Path.{Path}
-use Rattle.cal_model.specs.declared.path.Path.TheVariants.{Root, Principal, Home, Calendar as CalendarPath, Object as ObjectPath}
+use Rattle.cal_model.specs.declared.path.Path.TheVariants.{Home, Calendar as CalendarPath}
 use Rattle.cal_model.specs.declared.property.Props.{Props}
 use Rattle.cal_model.specs.declared.store.CalendarData.{CalendarData}
 use Rattle.cal_model.specs.Access.Privileges.{privileges_held, has_all, read}
@@ -24,7 +23,7 @@ use Rattle.std.specs.Map.{values_of}
 use Rattle.cal_model.proofs.State.NameWalkLaws.{home-sound}
 use Rattle.dav_props.specs.Subjects.{calendar_sight}
 use Rattle.object_walk.specs.WalkedObjects.{objects_at}
-use Rattle.dav_props.specs.Finding.{IsUpTo, asking, calendar_text, calendars_of, members_text, object_text, with_last}
+use Rattle.dav_props.specs.Finding.{IsUpTo, asking, calendar_text, calendars_of, members_text, object_text}
 use Rattle.dav_props.proofs.SeenLemmas.{calendar_by, no_calendar, some_calendar, sight_there, calendar_seen, sight_is, some_held, unseen_of}
 
 -- Up to a limit
@@ -40,13 +39,6 @@ pub up_to_as : (limit : ℕ) (written whole other : List ℕ) → whole ≡ othe
 up_to_as limit written whole other same up = subst (λ (t : List ℕ). IsUpTo limit written t) same up
 
 -- Last names
-
-pub last_again : (path : Path) (name other : List ℕ) → with_last (with_last path name) other ≡ with_last path other
-last_again Root name other = refl
-last_again (Principal user) name other = refl
-last_again (Home user) name other = refl
-last_again (CalendarPath user last) name other = refl
-last_again (ObjectPath user within last) name other = refl
 
 flat_map_map : {X Y : Type 0} (f : Y → List ℕ) (g : X → Y) (xs : List X) → flat_map f (map g xs) ≡ flat_map (λ x. f (g x)) xs
 flat_map_map f g [] = refl

@@ -1,7 +1,7 @@
 -- What a name finds in the code's table is what the definition's table says of it.
 use Rattle.std.proofs.Common.{◌≡◌, ℕ, Bool, true, false, cond, List, [], ◌∷◌, map, Option, Some, None, refl, sym, ap, ◌∙◌}
-use Rattle.std.specs.Prelude.{find, option_map, unwrap_or, bytes_eq, ◌&&◌}
-use Rattle.std.proofs.lemmas.Bool.{false≢true}
+use Rattle.std.specs.Prelude.{find, option_map, unwrap_or, bytes_eq}
+use Rattle.std.proofs.lemmas.Bool.{false≢true, and_parts}
 use Rattle.std.proofs.lemmas.Slice.Eq.{bytes_eq-Decides}
 use Rattle.cal_model.specs.declared.property.PropName.{PropName}
 use Rattle.cal_model.specs.Access.Privileges.{same_name}
@@ -56,14 +56,9 @@ pub properties_are : properties ≡ map (λ row. property_of row (name_of row)) 
 unfolding properties
 properties_are = refl
 
-both_true : (a b : Bool) → (a && b) ≡ true → (a ≡ true) × (b ≡ true)
-both_true true true e = (refl, refl)
-both_true true false e = absurd cc
-both_true false b e = absurd cc
-
 pub same_name-true : (a b : PropName) → same_name a b ≡ true → a ≡ b
 same_name-true a b e =
-    let both = both_true (bytes_eq a.space b.space) (bytes_eq a.name b.name) e in
+    let both = and_parts (bytes_eq a.space b.space) (bytes_eq a.name b.name) e in
     let space : a.space ≡ b.space = (bytes_eq-Decides a.space b.space).0 both.0 in
     let name : a.name ≡ b.name = (bytes_eq-Decides a.name b.name).0 both.1 in
     λ i. record { space = space i; name = name i }

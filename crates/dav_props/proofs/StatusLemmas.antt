@@ -338,16 +338,6 @@ abbrev answer_by : PropName → Bool → Bool → Option (List ℕ) → Answer
 answer_by name on held value =
     if not on then without_value name 404 else (if not held then without_value name 403 else elim value [ None ↦ without_value name 404 | Some content ↦ record { name = name; status = 200; content = content } ])
 
--- the status, from what was tested in turn
-pub status_not_on : (name : PropName) (on held : Bool) (value : Option (List ℕ)) → on ≡ false → 404 ≡ (answer_by name on held value).status
-status_not_on name true held value e = absurd (false≢true (sym e))
-status_not_on name false held value e = refl
-
-pub status_not_held : (name : PropName) (on held : Bool) (value : Option (List ℕ)) → on ≡ true → held ≡ false → 403 ≡ (answer_by name on held value).status
-status_not_held name false held value on e = absurd (false≢true on)
-status_not_held name true true value on e = absurd (false≢true (sym e))
-status_not_held name true false value on e = refl
-
 pub status_there : (name : PropName) (on held there : Bool) (value : Option (List ℕ)) → on ≡ true → held ≡ true → (on ≡ true → held ≡ true → is_some value ≡ there)
     → cond there 200 404 ≡ (answer_by name on held value).status
 status_there name false held there value on e is = absurd (false≢true on)

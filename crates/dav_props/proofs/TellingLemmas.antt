@@ -1,5 +1,5 @@
 -- Which properties of a resource are told.
-use Rattle.std.proofs.Common.{◌≡◌, ℕ, ◌+◌, ◌<◌, Bool, true, false, not, cond, ◌==◌, List, [], ◌∷◌, ◌++◌, map, length, get_or, take, drop, arith, Option, Some, None, refl, sym, ap, ◌∙◌, subst, append-nil, append_assoc}
+use Rattle.std.proofs.Common.{◌≡◌, ℕ, ◌+◌, ◌<◌, Bool, true, false, not, cond, ◌==◌, List, [], ◌∷◌, ◌++◌, map, length, get_or, take, drop, Option, Some, None, refl, sym, ap, ◌∙◌, subst, append-nil, append_assoc}
 use Rattle.std.specs.Prelude.{filter, is_some, find, option_map, Result, Ok, Err, OnOk}
 use Rattle.std.proofs.Math.Seq.{take-append_seam, drop-append_seam}
 use Rattle.std.proofs.lemmas.Bool.{false≢true}
@@ -36,16 +36,7 @@ told-append There xs ys = filter-append (λ (a : Answer). a.status == 200) xs ys
 told-append Names xs ys =
     ap (map bare) (filter-append (λ (a : Answer). a.status == 200) xs ys) ∙ map-append bare (with_status 200 xs) (with_status 200 ys)
 
-told_none : (telling : Telling) → told telling [] ≡ []
-told_none Every = refl
-told_none There = refl
-told_none Names = refl
-
 module _ (asker : Asker) (resource : Resource) (telling : Telling) where
-  pub tells_none : (response : Response) (written : List ℕ) → Tells asker resource telling [] response written response written
-  tells_none response written front href before so_far =
-      subst (λ (answers : List Answer). IsAnswered front href answers response written) (sym (ap (λ more. before ++ more) (told_none telling) ∙ append-nil before)) so_far
-
   pub tells_more : (names more : List PropName) (r0 : Response) (w0 : List ℕ) (r1 : Response) (w1 : List ℕ) (r2 : Response) (w2 : List ℕ)
       → Tells asker resource telling names r0 w0 r1 w1 → Tells asker resource telling more r1 w1 r2 w2 → Tells asker resource telling (names ++ more) r0 w0 r2 w2
   tells_more names more r0 w0 r1 w1 r2 w2 first second front href before so_far =

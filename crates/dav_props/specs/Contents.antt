@@ -65,10 +65,6 @@ abbrev pub memberships_shown : Directory → Subject → List ℕ
 memberships_shown directory (subject.Principal user (Some number)) = memberships_of directory number
 memberships_shown directory other = []
 
-abbrev pub octets_in : Subject → List ℕ
-octets_in (subject.Object user held stored) = stored.now.octets
-octets_in other = []
-
 -- what is said of an object's octets
 abbrev pub said_of_octets : (List ℕ → List ℕ) → Subject → List ℕ
 said_of_octets content (subject.Object user held stored) = content stored.now.octets
