@@ -3,7 +3,7 @@ use Rattle.std.proofs.Common.{◌≡◌, ℕ, ◌+◌, ◌<◌, ◌≤◌, ◌^�
 use Rattle.std.specs.Prelude.{IfSome, option_map, option_and_then, option_to_list, flat_map, is_some, is_none, nat_lt, ◌==◌, if◌then◌else◌, unwrap_or}
 use Rattle.std.specs.Option.{option_map_or}
 use Rattle.std.specs.BTreeMap.{is_at}
-use Rattle.std.proofs.lemmas.Bool.{false≢true, ltb-false, eqb-true}
+use Rattle.std.proofs.lemmas.Bool.{false≢true, ltb-false, eqb-true, not-false}
 use Rattle.std.proofs.lemmas.Bool.Decides.{nat_tests}
 use Rattle.std.proofs.lemmas.Map.Entries.{option_filter}
 use Rattle.cal_base.specs.Lines.ComponentTrees.{or_else}
@@ -61,10 +61,6 @@ second : (a b : Bool) → (a || (b && true)) ≡ false → b ≡ false
 second true b e = absurd (false≢true (sym e))
 second false true e = e
 second false false e = refl
-
-not_false : (b : Bool) → not b ≡ false → b ≡ true
-not_false true e = refl
-not_false false e = absurd (false≢true (sym e))
 
 some_false : {X : Type 0} (o : Option X) → is_some o ≡ false → o ≡ None
 some_false None e = refl
@@ -243,7 +239,7 @@ module _ (directory : Directory) (state : ServerState) (sound : IsSound director
       let known = home_of_make (user_number directory (user_name directory home)) home calendar sets size (asks change ok) in
       let rows = rows_of directory state _ event ok.entry.status refl (done change ok) in
       let own = rows.1.1.1.1.1.1 in
-      let owned : is_owner scene ≡ true = not_false _ (not_when _ _ rows.1.0) in
+      let owned : is_owner scene ≡ true = not-false _ (not_when _ _ rows.1.0) in
       let mine : home ≡ ok.entry.who = eqb-true home ok.entry.who (owner_by scene.user home ok.entry.who known owned) in (
         room_at state scene home size known (no_room_either _ _ own.1.1.0),
         absent_by directory home ok.entry.who scene (calendar_at state home calendar) mine (seen_at ok.entry.who home (user_name directory home) calendar known) (some_false scene.calendar (not_when _ _ own.0)),

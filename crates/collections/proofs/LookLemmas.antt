@@ -93,9 +93,6 @@ module _ (kept : Kept) (store : IsStore kept) (number : ℕ) where
   pub origin_some : (calendar name : List ℕ) (c : KeptCalendar) → kept_calendar kept.homes number calendar ≡ Some c → option_map (λ (o : KeptObject). o.origin) (value_at c.objects name) ≡ origins_of kept number calendar name
   origin_some calendar name c at = sym (ap (λ found. option_map (λ (o : KeptObject). o.origin) (option_and_then (λ (k : KeptCalendar). value_at k.objects name) found)) at)
 
-  pub origin_none : (calendar name : List ℕ) → kept_calendar kept.homes number calendar ≡ None → None ≡ origins_of kept number calendar name
-  origin_none calendar name at = sym (ap (λ found. option_map (λ (o : KeptObject). o.origin) (option_and_then (λ (k : KeptCalendar). value_at k.objects name) found)) at)
-
   calendar_at_some : (calendar : List ℕ) (found : Option KeptCalendar) → kept_calendar kept.homes number calendar ≡ found → calendar_at (state_of kept) number calendar ≡ option_map calendar_of found
   calendar_at_some calendar found at = calendar_shown kept.users kept.homes number calendar ∙ ap (option_map calendar_of) at
 

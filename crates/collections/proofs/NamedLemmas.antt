@@ -105,13 +105,6 @@ module _ {V W : Type 0} (f : V → W) where
       let here = is_at (name_order name) entry.0 in
       map-cond here named (entry ∷ without named name) ∙ ap (λ rest. cond here (each_value f named) ((entry.0, f entry.1) ∷ rest)) (without-each named name)
 
-  pub with_changed-each : (named : Named V) (name : List ℕ) (value : V) → each_value f (with_changed named name value) ≡ with_changed (each_value f named) name (f value)
-  with_changed-each [] name value = refl
-  with_changed-each (entry ∷ named) name value =
-      let here = is_at (name_order name) entry.0 in
-      map-cond here ((entry.0, value) ∷ named) (entry ∷ with_changed named name value)
-      ∙ ap (λ rest. cond here ((entry.0, f value) ∷ each_value f named) ((entry.0, f entry.1) ∷ rest)) (with_changed-each named name value)
-
   above-each : (named : Named V) (name : List ℕ) → above (each_value f named) name ≡ each_value f (above named name)
   above-each [] name = refl
   above-each (entry ∷ named) name =

@@ -1,5 +1,5 @@
 -- Properties that are kept as settings: what is written at a place, and what is at a name afterwards.
-use Rattle.std.proofs.Common.{◌≡◌, ℕ, suc, ◌+◌, ◌<◌, Bool, true, false, ◌&&◌, ◌||◌, cond, List, [], ◌∷◌, ◌++◌, Option, Some, None, length, drop, get_or, refl, sym, ap, ◌∙◌, subst, inl, inr}
+use Rattle.std.proofs.Common.{◌≡◌, ℕ, suc, ◌+◌, Bool, true, false, ◌&&◌, ◌||◌, cond, List, [], ◌∷◌, ◌++◌, Option, Some, None, get_or, refl, sym, ap, ◌∙◌, subst, inl, inr}
 use Rattle.std.specs.Prelude.{bytes_eq, slice_get, slice_set, find, unwrap_or, option_and_then, if◌then◌else◌, codes}
 use Rattle.std.specs.Result.{result_ok}
 use Rattle.std.specs.List.{insert, remove, list_any, AllByRecursion}
@@ -14,7 +14,6 @@ use Rattle.std.proofs.lemmas.Bool.{cases_Bool, false≢true}
 use Rattle.std.proofs.lemmas.Cmp.{nat_list_cmp_total, then_total, on_total, eq_by_cmp_equiv}
 use Rattle.std.proofs.lemmas.Map.{lookup-remove_entry}
 use Rattle.std.proofs.lemmas.Map.Keys.{IsDistinct-from_sorted}
-use Rattle.std.proofs.lemmas.List.{at_drop_more}
 use Rattle.std.proofs.lemmas.Map.Text.{is_eq-slice_cmp}
 use Rattle.std.proofs.lemmas.Option.{get_or_from_slice_get}
 use Rattle.std.proofs.lemmas.Slice.Eq.{bytes_eq-Decides}
@@ -208,12 +207,6 @@ same-sym a b = elim (cases_Bool (same_name a b)) [
 
 pub zone_by_name : (set : PropSet) → is_zone set ≡ same_name set.name (in_caldav (codes "calendar-timezone"))
 zone_by_name set = at_same calendar_timezone set.name ∙ same-sym calendar_timezone set.name
-
--- A place, one step on
-
-pub place_at : (items : List PropSet) (name : PropName) (at : ℕ) (other : PropSet) → at < length items
-    → place_in (drop at items) name ≡ match_ordering (prop_order name (get_or items at other).name) 0 0 (suc (place_in (drop (at + 1) items) name))
-place_at items name at other within = at_drop_more (λ them. place_in them name) items at other within
 
 -- The same of the items of a vector
 

@@ -5,7 +5,7 @@ use Rattle.cal_model.specs.Users.UsersFile.{Users}
 use Rattle.cal_model.specs.State.Changes.{Change, effect}
 use Rattle.cal_model.specs.History.Origins.{origins_after}
 use Rattle.collections.specs.declared.home.KeptHome.{KeptHome}
-use Rattle.collections.specs.Kept.{Kept, state_of, users_of, origins_of}
+use Rattle.collections.specs.Kept.{Kept, state_of, origins_of}
 use Rattle.collections.specs.Stores.{IsStore}
 use Rattle.collections.proofs.MadeLemmas.{IsMade}
 
@@ -19,12 +19,6 @@ store_after users homes homes' made (Ok x) ok err store before = subst (λ hs. I
 store_after users homes homes' made (Err e) ok err store before = subst (λ hs. IsStore (kept users hs)) (sym err) before
 
 module _ (users : Users) (homes homes' : List KeptHome) (now : Kept) (is : ◌≡◌ {A = Kept} (record { users = users; homes = homes }) now) where
-  pub users_shown : users_of (record { users = users; homes = homes' }) ≡ users_of now
-  users_shown = ap users_of is
-
-  pub same_shown : homes' ≡ homes → ◌≡◌ {A = Kept} (record { users = users; homes = homes' }) now
-  same_shown e = ap (kept users) e ∙ is
-
   module _ (made : List KeptHome) (change : Change) (origin : ℕ) (done : IsMade (record { users = users; homes = homes }) (record { users = users; homes = made }) change origin) where
     pub state_shown : homes' ≡ made → state_of (record { users = users; homes = homes' }) ≡ effect change (state_of now)
     state_shown e = ap (λ hs. state_of (kept users hs)) e ∙ (done.state ∙ ap (λ k. effect change (state_of k)) is)

@@ -123,12 +123,6 @@ one_down nodes height at left next size sums i is = by_test (has nodes (at + at)
                 at_least zero = lit≤ tt
                 at_least (suc n) = let rest = at_least n in omega arith
 
--- at the end
-pub at_leaf : (nodes : List Bool) (height at : ℕ) → IsOnTheWay nodes height at 0 → (doubled height ≤ at) × (at < doubled height + doubled height)
-at_leaf nodes height at i =
-    let e : i.depth ≡ height = (let level = i.level in omega arith) in
-    (subst (λ n. doubled n ≤ at) e i.low, subst (λ n. at < doubled n + doubled n) e i.high)
-
 -- where the root is not set, no leaf is
 pub none_set : (nodes : List Bool) (height : ℕ) → length nodes ≡ doubled height + doubled height → AreSums nodes → has nodes 1 ≡ false → (p : ℕ) → doubled height ≤ p → has nodes p ≡ true → ⊥
 none_set nodes height size sums root p low set =

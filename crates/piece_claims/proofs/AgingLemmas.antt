@@ -1,9 +1,9 @@
 -- What is kept when the newest piece comes and the oldest goes.
-use Rattle.std.proofs.Common.{◌≡◌, ℕ, ◌+◌, ◌-◌, ◌<◌, ◌≤◌, Bool, true, false, ◌&&◌, ◌||◌, ◌==◌, if◌then◌else◌, List, [], ◌∷◌, ◌++◌, length, length-append, filter, set, replicate, None, refl, sym, ap, ◌∙◌, subst, inl, inr, lit≤, arith, negsuc}
+use Rattle.std.proofs.Common.{◌≡◌, ℕ, ◌+◌, ◌-◌, ◌<◌, ◌≤◌, Bool, true, false, ◌&&◌, ◌||◌, ◌==◌, if◌then◌else◌, List, [], ◌∷◌, ◌++◌, length, length-append, filter, set, replicate, None, refl, sym, ap, ◌∙◌, subst, inl, inr, arith}
 use Rattle.std.specs.Prelude.{ℤ, pos, not, nat_le, ◌+ℤ◌, is_some, OnOk, Result, Ok, Err}
 use Rattle.std.specs.List.{list_any, AllByRecursion}
-use Rattle.std.proofs.lemmas.Bool.Decides.{Decides-int_eq, Decides-eqb, nat_tests}
-use Rattle.std.proofs.lemmas.List.{get_or-set_other, get_or-replicate}
+use Rattle.std.proofs.lemmas.Bool.Decides.{Decides-eqb, nat_tests}
+use Rattle.std.proofs.lemmas.List.{get_or-set_other}
 use Rattle.cal_model.specs.History.Claims.{Pair, pair_of, same_pair}
 use Rattle.cal_model.specs.declared.piece.Piece.{Piece}
 use Rattle.cal_model.specs.Pieces.KeptPieces.{KeptPieces}
@@ -13,7 +13,7 @@ use Rattle.cal_model.proofs.Pieces.FoundPieces.{All-newest_within, All-snoc}
 use Rattle.number_set.specs.Sets.{has}
 use Rattle.number_set.proofs.TreeLemmas.{cases_le}
 use Rattle.piece_claims.specs.Boards.{is_open_if, gone_for, pair_at, rows_limit}
-use Rattle.piece_claims.specs.Counts.{count_at, rows_if, size_at, sizes_to, AreCounts, HasMoreIn, HasMoreOf}
+use Rattle.piece_claims.specs.Counts.{count_at, size_at, sizes_to, AreCounts, HasMoreIn, HasMoreOf}
 use Rattle.piece_claims.specs.Kept.{IsStored, AreOfLive}
 use Rattle.piece_claims.specs.Lanes.{AreLanes, AreAsWide, AreOpen, IsRefreshedAt}
 use Rattle.piece_claims.proofs.KeptLemmas.{has_grown}
@@ -37,27 +37,13 @@ snoc_pairs live p ps out n w far =
 
 -- Counts
 
-pub counted_head : (counts counts' : List ℕ) (from : ℤ) (p : Piece) (ps : List Piece) → AreCounts counts from (p ∷ ps) → HasMoreIn counts' counts from p.window (length p.rows) → AreCounts counts' from ps
-counted_head counts counts' from p ps was less k below = (let a = was k below in let b = less k below in omega (arith, a, b))
-
 pub counted_snoc : (counts counts' : List ℕ) (from : ℤ) (p : Piece) (ps : List Piece) → AreCounts counts from ps → HasMoreIn counts counts' from p.window (length p.rows) → AreCounts counts' from (ps ++ p ∷ [])
 counted_snoc counts counts' from p ps was more k below = (let a = was k below in let b = more k below in let c = window_snoc (from +ℤ pos k) ps p in omega (arith, a, b, c))
 
-pub rows_there : (counts : List ℕ) (from : ℤ) (p : Piece) (ps : List Piece) → AreCounts counts from (p ∷ ps) → (k : ℕ) → k < 13 → p.window ≡ from +ℤ pos k → length p.rows ≤ count_at counts k
-rows_there counts from p ps was k below at =
-    (let a = was k below in let b : rows_if (from +ℤ pos k) p.window (length p.rows) ≡ length p.rows = ap (λ t. if t then length p.rows else 0) ((Decides-int_eq p.window (from +ℤ pos k)).1 at) in omega (arith, a, b))
-
 -- Room in the sets
-
-pub as_wide_same : (lanes : List (List Bool)) → AreAsWide lanes lanes
-as_wide_same lanes = record { count = refl; sizes = λ k small. refl }
 
 pub as_wide_both : (a b c : List (List Bool)) → AreAsWide a b → AreAsWide b c → AreAsWide a c
 as_wide_both a b c one two = record { count = two.count ∙ one.count; sizes = λ k small. two.sizes k small ∙ one.sizes k small }
-
-pub still_wide : (lanes new : List (List Bool)) (bound : ℕ) → AreLanes lanes bound → AreAsWide lanes new → AreLanes new bound
-still_wide lanes new bound wide same =
-    record { count = same.count ∙ wide.count; wide = λ k small. (let a = wide.wide k small in let b = same.sizes k small in omega arith) }
 
 -- Pieces within their limit
 
@@ -101,16 +87,6 @@ known_live live entries (p ∷ ps) unknown all =
     (elim (cases_le entries p.origin) [ inr below ↦ below | inl above ↦ absurd (let none = unknown p.origin above in let both : true ≡ false = sym all.0 ∙ none in cc) ], known_live live entries ps unknown all.1)
 
 -- What is stored after each change
-
-pub stored_new : IsStored (record { budget = 8_000_000; pieces = [] }) (negsuc 3) (false ∷ []) (replicate 13 0)
-stored_new =
-    record {
-      room = refl;
-      within = lit≤ tt;
-      apart = tt;
-      of_live = tt;
-      counted = λ k below. get_or-replicate 13 k 0 0 below;
-    }
 
 pub stored_set : (index : KeptPieces) (first : ℤ) (live : List Bool) (counts : List ℕ) (n : ℕ) (v : Bool) → IsStored index first live counts → has live n ≡ false → IsStored index first (set live n v) counts
 stored_set index first live counts n v s none =

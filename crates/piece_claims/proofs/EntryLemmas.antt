@@ -19,11 +19,10 @@ use Rattle.cal_model.proofs.History.LiveObjectLaws.{live_at-push, live_at-last}
 use Rattle.cal_model.proofs.History.OriginLaws.{live_within}
 use Rattle.cal_model.proofs.Pieces.FoundPieces.{All-newest_within, All-snoc, found_after_add, right_if_found}
 use Rattle.number_set.specs.Sets.{has}
-use Rattle.number_set.proofs.TreeLemmas.{cases_le}
+use Rattle.number_set.proofs.TreeLemmas.{cases_le, has_within}
 use Rattle.piece_claims.specs.Boards.{Board, Shows, piece_at, pieces_with, rows_limit}
 use Rattle.piece_claims.specs.Entries.{HasEntry, ends_it, pieces_of_live, work_with}
 use Rattle.piece_claims.specs.Kept.{AreOfLive}
-use Rattle.piece_claims.proofs.NextLemmas.{known_if_live}
 
 -- One more entry
 
@@ -133,7 +132,7 @@ entry_leaves live made (p ∷ pieces) known =
 
 pub all_known : (live : List Bool) (pieces : List Piece) → AreOfLive live pieces → AllByRecursion (λ (piece : Piece). piece.origin < length live) pieces
 all_known live [] all = tt
-all_known live (p ∷ pieces) all = (known_if_live live p.origin all.0, all_known live pieces all.1)
+all_known live (p ∷ pieces) all = (has_within live p.origin all.0, all_known live pieces all.1)
 
 -- One more piece
 

@@ -1,11 +1,11 @@
 -- What is open after one object was found out anew, and what of others a change leaves as it was.
-use Rattle.std.proofs.Common.{◌≡◌, ◌≢◌, ℕ, ◌+◌, ◌<◌, ◌≤◌, Bool, true, false, ◌&&◌, ◌||◌, ◌==◌, if◌then◌else◌, List, [], ◌∷◌, ◌++◌, length, length-append, filter, set, take, length-take, replicate, lit≤, zero, suc, to_z, of_z, w32, FitsSigned, negsuc, ◌≤ℤ◌, ◌^◌, rules, refl, sym, ap, ◌∙◌, subst, inl, inr, arith}
+use Rattle.std.proofs.Common.{◌≡◌, ◌≢◌, ℕ, ◌+◌, ◌<◌, ◌≤◌, Bool, true, false, ◌&&◌, ◌||◌, ◌==◌, if◌then◌else◌, List, [], ◌∷◌, ◌++◌, length, length-append, filter, set, take, length-take, replicate, zero, suc, to_z, of_z, w32, FitsSigned, negsuc, ◌≤ℤ◌, ◌^◌, rules, refl, sym, ap, ◌∙◌, subst, inl, inr, arith}
 use Rattle.std.specs.Prelude.{ℤ, pos, not, ◌+ℤ◌}
 use Rattle.std.specs.List.{list_any}
 use Rattle.std.specs.Ordering.{int_eq}
 use Rattle.std.proofs.lemmas.Int.{to_z-of_z, ints}
 use Rattle.std.proofs.lemmas.Bool.Decides.{Decides-eqb}
-use Rattle.std.proofs.lemmas.List.{get_or-set_same, get_or-set_other, length-set, get_or-replicate, map-append, take-append-le}
+use Rattle.std.proofs.lemmas.List.{get_or-set_same, get_or-set_other, length-set, map-append}
 use Rattle.std.proofs.lemmas.List.Sums.{length-filter, count_by-le-length}
 use Rattle.cal_model.specs.History.Claims.{Pair, pair_of, same_pair, without_claim}
 use Rattle.cal_model.specs.declared.piece.Piece.{Piece}
@@ -170,26 +170,6 @@ first_fits z low high = first_of (search rules, omega (arith, ints))
 pub first_passed : (z : ℤ) → negsuc (2 ^ 30) ≤ℤ z → z ≤ℤ pos (2 ^ 30) → to_z w32 (of_z w32 z) ≡ z
 first_passed z low high = to_z-of_z w32 z (first_fits z low high)
 
--- at first nothing is there
-
-none_set : (n : ℕ) → has (false ∷ []) n ≡ false
-none_set n = grind arith
-
-pub kept_new : (cap : ℕ) → 64 ≤ cap → IsKept [] [] cap (pos 0) (negsuc 3) (false ∷ []) 0 1 (replicate 13 (false ∷ []))
-kept_new cap room =
-    record {
-      lanes_wide = record { count = refl; wide = λ k small. (let e = get_or-replicate 13 k (false ∷ []) [] small in omega (arith, ap length e)) };
-      live_wide = lit≤ tt;
-      fits = lit≤ tt;
-      unknown = λ n past. none_set n;
-      claims = lit≤ tt;
-      claims_fit = room;
-      horizon = refl;
-      low = search rules;
-      high = search rules;
-      are_open = λ k n small. ap (λ flags. has flags n) (get_or-replicate 13 k (false ∷ []) [] small) ∙ none_set n ∙ sym (ap (λ b. is_open_if b [] [] (pair_at n (negsuc 3 +ℤ pos k))) (none_set n));
-    }
-
 -- more room changes nothing
 
 pub has_grown : (flags : List Bool) (k n : ℕ) → has (flags ++ replicate k false) n ≡ has flags n
@@ -221,25 +201,7 @@ pub wide_after : (lanes lanes' : List (List Bool)) (limit : ℕ) → AreLanes la
 wide_after lanes lanes' limit wide same =
     record { count = same.count ∙ wide.count; wide = λ k small. (let a = wide.wide k small in let b = same.wider k in omega arith) }
 
-pub same_lanes : (lanes : List (List Bool)) → AreSameLanes lanes lanes
-same_lanes lanes = record { count = refl; members = λ k n. refl; wider = λ k. omega arith }
-
-pub shown_grown : (entries k : ℕ) (live live' : List Bool) → entries ≤ length live → live' ≡ live ++ replicate k false → take entries live' ≡ take entries live
-shown_grown entries k live live' wide grown = ap (take entries) grown ∙ take-append-le entries live (replicate k false) wide
-
 -- one object more
-
-pub swept_one : (old mid new : List (List Bool)) (first : ℤ) (live : List Bool) (pieces : List Piece) (out : List Pair) (n : ℕ) → AreLanes old (n + 1) → AreSwept old mid first live pieces out n → IsRefreshed mid new first n (λ window. is_open_if (has live n) pieces out (pair_at n window)) → AreSwept old new first live pieces out (n + 1)
-swept_one old mid new first live pieces out n wide was fresh =
-    record {
-      count = fresh.count ∙ was.count;
-      sizes = λ k small. ap length (fresh.lanes k small) ∙ length-set (lane_at mid k) n _ ∙ was.sizes k small;
-      swept = λ k m small below. ap (λ flags. has flags m) (fresh.lanes k small) ∙ elim (same_or_not m n) [
-        | inl same ↦ subst (λ (j : ℕ). has (set (lane_at mid k) n (is_open_if (has live n) pieces out (pair_at n (first +ℤ pos k)))) j ≡ is_open_if (has live j) pieces out (pair_at j (first +ℤ pos k))) (sym same) (get_or-set_same (lane_at mid k) n _ false (let room = wide.wide k small in let size = was.sizes k small in omega arith))
-        | inr far ↦ get_or-set_other (lane_at mid k) n m _ false far ∙ was.swept k m small (omega arith)
-      ];
-      beyond = λ k m small above. ap (λ flags. has flags m) (fresh.lanes k small) ∙ get_or-set_other (lane_at mid k) n m _ false (omega arith) ∙ was.beyond k m small (omega arith);
-    }
 
 -- the horizon has moved
 pub kept_moved : (pieces : List Piece) (out : List (ℕ × ℤ)) (cap : ℕ) (latest first latest' first' : ℤ) (live : List Bool) (entries limit : ℕ) (lanes lanes' : List (List Bool)) → IsKept pieces out cap latest first live entries limit lanes → AreSwept lanes lanes' first' live pieces (pairs_out out) entries → first' ≡ first_window_of latest' → negsuc (2 ^ 30) ≤ℤ first' → first' ≤ℤ pos (2 ^ 30) → IsKept pieces out cap latest' first' live entries limit lanes'

@@ -1,5 +1,5 @@
 -- The first open pair of the definition, over sets of origins.
-use Rattle.std.proofs.Common.{◌≡◌, ℕ, ◌+◌, ◌<◌, ◌≤◌, Bool, true, false, ◌&&◌, ◌||◌, if◌then◌else◌, List, [], ◌∷◌, ◌++◌, length, filter, map, take, length-take, zero, suc, Option, Some, None, MatchOption, IfSome, refl, sym, ap, ◌∙◌, inl, inr, arith}
+use Rattle.std.proofs.Common.{◌≡◌, ℕ, ◌+◌, ◌<◌, ◌≤◌, Bool, true, false, ◌&&◌, ◌||◌, if◌then◌else◌, List, [], ◌∷◌, ◌++◌, length, filter, map, take, length-take, zero, suc, Option, Some, None, MatchOption, refl, sym, ap, ◌∙◌, inl, inr, arith}
 use Rattle.std.specs.Prelude.{ℤ, pos, nat_le, flat_map, ◌+ℤ◌}
 use Rattle.std.specs.List.{range_with_len}
 use Rattle.std.proofs.lemmas.Bool.{cases_eq}
@@ -9,7 +9,7 @@ use Rattle.std.proofs.lemmas.List.Elements.{filter-append}
 use Rattle.cal_base.specs.Lines.ComponentTrees.{first}
 use Rattle.cal_model.specs.History.Claims.{Pair, rows_in_horizon}
 use Rattle.number_set.specs.Sets.{has}
-use Rattle.number_set.proofs.TreeLemmas.{cases_le}
+use Rattle.number_set.proofs.TreeLemmas.{cases_le, has_within}
 use Rattle.piece_claims.specs.Boards.{Board, is_open, is_open_if, is_full, next_of, open_pairs, pair_at, pair_in, pairs_of, work_of}
 use Rattle.piece_claims.specs.Kept.{first_of}
 use Rattle.piece_claims.specs.Lanes.{AreOpen, AreEmptyTo, IsNext, lane_at}
@@ -69,13 +69,6 @@ shown_same entries live unknown n =
       | inl above ↦ get_or_past (take entries live) n false (omega (arith, length-take entries live)) ∙ sym (unknown n above)
     ]
 
-pub known_if_live : (live : List Bool) (n : ℕ) → has live n ≡ true → n < length live
-known_if_live live n is =
-    elim (cases_le (length live) n) [
-      | inr below ↦ below
-      | inl above ↦ absurd (let none = get_or_past live n false above in let both : true ≡ false = sym is ∙ none in cc)
-    ]
-
 alive_if_open : (alive : Bool) (b c : Bool) → (alive && b && c) ≡ true → alive ≡ true
 alive_if_open true b c is = refl
 alive_if_open false b c is = is
@@ -95,7 +88,7 @@ module _ (board : Board) (lanes : List (List Bool)) (from : ℤ) (live : List Bo
       ∙ sym (least_at_all (is_open board) (length board.live) from 0 13 found.place p.0 (omega arith) (let high = found.in_horizon in omega arith)
       (λ k m below. flag_is k m (let high = found.in_horizon in omega arith) ∙ found.before k m below) here
       (λ m below. flag_is found.place m found.in_horizon ∙ found.least.none_below m below)
-      (known_if_live board.live p.0 (alive_if_open (has board.live p.0) _ _ here)))
+      (has_within board.live p.0 (alive_if_open (has board.live p.0) _ _ here)))
     where
       here : is_open board (pair_at p.0 (from +ℤ pos found.place)) ≡ true
       here = flag_is found.place p.0 found.in_horizon ∙ found.least.member
@@ -106,18 +99,7 @@ module _ (board : Board) (lanes : List (List Bool)) (from : ℤ) (live : List Bo
       ∙ ap (λ (f : ℤ). first (filter (is_open board) (flat_map (pairs_of board) (map (λ k. f +ℤ pos k) (range_with_len 0 13))))) horizon_is
       ∙ sym (ap (λ b. if b then None else first (open_pairs board)) free)
 
-  pub live_if_next : (numbers : Option (ℕ × ℤ)) → MatchOption numbers (AreEmptyTo lanes 13) (λ p. IsNext lanes from p.0 p.1) → IfSome numbers (λ p. has board.live p.0 ≡ true)
-  live_if_next None none = tt
-  live_if_next (Some p) found =
-      alive_if_open (has board.live p.0) _ _ (flag_is found.place p.0 found.in_horizon ∙ found.least.member)
-
 -- No more claims are given
-
-pub full_by_claims : (board : Board) → 64 ≤ length board.out → true ≡ is_full board
-full_by_claims board many = ap (λ b. b || nat_le 3_000_000 (rows_in_horizon (work_of board))) (sym (at_most 64 (length board.out) many))
-  where
-    at_most : (a b : ℕ) → a ≤ b → nat_le a b ≡ true
-    at_most a b fits = grind (arith, nat_tests)
 
 pub full_by_rows : (board : Board) (n : ℕ) → length board.out < 64 → n ≡ rows_in_horizon (work_of board) → nat_le 3_000_000 n ≡ is_full board
 full_by_rows board n few same =
@@ -125,10 +107,3 @@ full_by_rows board n few same =
   where
     over : (a b : ℕ) → b < a → nat_le a b ≡ false
     over a b less = grind (arith, nat_tests)
-
-pub few_if_free : (board : Board) → is_full board ≡ false → length board.out < 64
-few_if_free board free = by_test (nat_le 64 (length board.out)) refl free
-  where
-    by_test : (b : Bool) → nat_le 64 (length board.out) ≡ b → (b || nat_le 3_000_000 (rows_in_horizon (work_of board))) ≡ false → length board.out < 64
-    by_test true is full = absurd (cc)
-    by_test false is full = grind (arith, nat_tests)

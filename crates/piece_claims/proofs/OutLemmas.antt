@@ -84,9 +84,6 @@ other_way a false is = ap not (sym is)
 
 -- the three answers of the test
 module _ (alive : Bool) (pieces : List Piece) (out : List (ℕ × ℤ)) (o : ℕ) (w : ℤ) where
-  pub not_alive : alive ≡ false → false ≡ is_open_if alive pieces (pairs_out out) (pair_at o w)
-  not_alive dead = ap (λ b. b && not (list_any (λ piece. same_pair (pair_of piece) (pair_at o w)) pieces) && not (list_any (same_pair (pair_at o w)) (pairs_out out))) (sym dead)
-
   pub claimed_out : list_any (is_pair o w) out ≡ true → false ≡ is_open_if alive pieces (pairs_out out) (pair_at o w)
   claimed_out is =
       both_false (alive && not (list_any (λ piece. same_pair (pair_of piece) (pair_at o w)) pieces))

@@ -1,5 +1,5 @@
 -- The list of pieces when one goes out or comes in.
-use Rattle.std.proofs.Common.{◌≡◌, ◌≢◌, ℕ, ◌+◌, ◌<◌, Bool, true, false, if◌then◌else◌, List, [], ◌∷◌, ◌++◌, map, filter, length, Option, Some, None, IsSome, MatchOption, refl, sym, ap, ◌∙◌, subst, inl, inr, arith, append_assoc, length-append}
+use Rattle.std.proofs.Common.{◌≡◌, ◌≢◌, ℕ, ◌+◌, Bool, true, false, if◌then◌else◌, List, [], ◌∷◌, ◌++◌, map, filter, length, Option, Some, None, IsSome, MatchOption, refl, sym, ap, ◌∙◌, subst, inl, inr, arith, append_assoc, length-append}
 use Rattle.std.specs.Prelude.{ℤ}
 use Rattle.std.specs.List.{last_or}
 use Rattle.std.proofs.lemmas.Bool.{cases_eq}
@@ -125,9 +125,6 @@ module _ (piece : Piece) (old new : List Piece) (out : IsOneOut piece old new) w
         length-append (filter (is_piece_of o) out.before) (filter (is_piece_of o) out.after),
         length-append (filter (is_piece_of o) out.before) (piece ∷ filter (is_piece_of o) out.after),
       )
-
-  pub shorter : length new < length old
-  shorter = omega (arith, ap length out.was, ap length out.left, length-append out.before (piece ∷ out.after), length-append out.before out.after)
 
 -- the order of the pieces doesn't matter where the pairs are apart
 pub rows_at_reversed : (o : ℕ) (w : ℤ) (es : List (ℕ × Piece)) → ArePairsApart (pieces_of es) → rows_at o w (map (λ (e : ℕ × Piece). e.1) es) ≡ rows_at o w (pieces_of es)

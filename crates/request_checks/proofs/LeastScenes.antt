@@ -22,8 +22,6 @@ use Rattle.cal_model.specs.Objects.ObjectReading.{first_there}
 use Rattle.cal_model.specs.Replies.BareReplies.{bare_reply}
 use Rattle.cal_model.specs.Refusals.RefusalReplies.{when, refusal_reply, need_privileges}
 use Rattle.cal_model.specs.Refusals.SharedRefusals.{Need, nothing, held, owned, makes_or_asks, is_missing, need, unmet, needs_object, is_object_missing, fault_of, is_options, is_get, not_modified, if_match_fails, if_none_match_fails, shared_rows}
-use Rattle.cal_model.specs.Serving.Outcomes.{accepted_status}
-use Rattle.cal_model.specs.Serving.ReadingReplies.{get_reply}
 use Rattle.cal_model.specs.Sight.Scenes.{Scene as Sighted, held_in, object_in, user_in}
 use Rattle.cal_model.specs.State.ServerState.{group_number}
 use Rattle.cal_model.specs.Users.UsersFile.{Group}
@@ -234,12 +232,6 @@ no_room P None none = tt
 no_room P (Some r) none = λ takes. absurd (false≢true (sym none ∙ takes))
 
 -- Replies that go by the object alone
-
-pub get-least : (shown : Scene) (scene : Sighted) → IsScene shown scene → get_reply (least_of shown) ≡ get_reply scene
-get-least shown scene is = ap (λ (object : Option (List ℕ)). get_reply (record (least_of shown) { object = object })) is.object
-
-pub status-least : (shown : Scene) (scene : Sighted) (method : Method) → IsScene shown scene → accepted_status (least_of shown) method ≡ accepted_status scene method
-status-least shown scene method is = ap (λ (object : Option (List ℕ)). accepted_status (record (least_of shown) { object = object }) method) is.object
 
 -- nor is a fault of a content told where only conditions fail
 pub faultless_fault : (content : Content) (o : Option SharedRefusal) → IfSome o IsFaultless → IfSome o (IsFaultOf content)

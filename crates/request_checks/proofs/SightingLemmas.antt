@@ -53,15 +53,6 @@ grants_of directory state owner name kept sound e =
     let found = some_calendar state owner name kept e in
     have_groups directory kept.acl.grants (subst (λ (k : CalendarData). AreToUsers directory k.acl.grants) (sym found.2) (calendar-sound directory state owner name found.0 sound found.1).grants)
 
--- without a name no calendar is seen, and no object
-no_name : {X : Type 0} (named : Option (Named X)) → at_both named None ≡ None
-no_name None = refl
-no_name (Some named) = refl
-
-pub unnamed : (look : Look) (directory : Directory) (state : ServerState) (who : ℕ) (user : Option ℕ) (name : Option (List ℕ)) → None ≡ name
-    → calendar_seen look directory state who user name ≡ None
-unnamed look directory state who user name e = ap (calendar_seen look directory state who user) (sym e) ∙ no_name _
-
 module _ (look : Look) (directory : Directory) (state : ServerState) (who : ℕ) where
   abbrev looked : ℕ → List ℕ → Option Sight
   looked owner name = calendar_seen look directory state who (Some owner) (Some name)
@@ -156,15 +147,6 @@ module _ (look : Look) (directory : Directory) (state : ServerState) (who : ℕ)
         ∙ ap (λ sight. cond (shows_objects look (held_or_nothing (held_on_sight sight))) (value_at c.objects name) None) (sym (sight_there owner within c sound e))
         ∙ ap (λ h. cond (shows_objects look h) (value_at c.objects name) None) (sym is)
         ∙ ap (λ o. cond (shows_objects look held) o None) (sym (octets_there owner within name (Some c) e))
-
--- no object is seen at a path of none, or without its user
-pub no_object_named : (look : Look) (directory : Directory) (state : ServerState) (who : ℕ) (user : Option ℕ) (path : Path) → object_in path ≡ None
-    → at_both (octets_seen (calendar_seen look directory state who user (calendar_in path))) (object_in path) ≡ None
-no_object_named look directory state who user path e = ap (at_both (octets_seen (calendar_seen look directory state who user (calendar_in path)))) e ∙ no_name _
-
-pub no_object_without_user : (look : Look) (directory : Directory) (state : ServerState) (who : ℕ) (path : Path)
-    → at_both (octets_seen (calendar_seen look directory state who None (calendar_in path))) (object_in path) ≡ None
-no_object_without_user look directory state who path = refl
 
 -- the object at a path, where it is known what its calendar is
 pub object_answer : (look : Look) (directory : Directory) (state : ServerState) (who : ℕ) (user : Option ℕ) (path : Path) (kept : Option (ℕ × Bor CalendarData)) (owner : ℕ) (name within object : List ℕ)
