@@ -1,6 +1,6 @@
 -- The instances of rows, one after another.
 use Rattle.std.proofs.Common.{◌≡◌, ℕ, Bool, true, false, List, [], ◌∷◌, ◌++◌, refl, sym, ap, ◌∙◌, append-nil, append_assoc}
-use Rattle.std.specs.Prelude.{flat_map, filter, if◌then◌else◌, ◌||◌, Option, Some, None, option_to_list, slice_get}
+use Rattle.std.specs.Prelude.{flat_map, filter, if◌then◌else◌, ◌||◌, Option, Some, option_to_list, slice_get}
 use Rattle.std.specs.List.{list_any}
 use Rattle.std.proofs.lemmas.List.Concat.{flat_map-append}
 use Rattle.cal_base.specs.declared.line.Node.{Node}
@@ -40,16 +40,6 @@ one_row : (expansion : Expansion) (row : Row) (found : Option Component) → sli
     → instances_in expansion (row ∷ []) ≡ flat_map (λ r. made_of expansion.object.now r (option_to_list (slice_get expansion.object.now.components r.component))) (found_in expansion row found)
 one_row expansion row found is = ap (λ o. flat_map (instances_of_row expansion.object.now) (found_in expansion row o)) is
 
--- a row of no component
-pub row-none : (expansion : Expansion) (row : Row) → slice_get expansion.object.now.components row.component ≡ None → instances_in expansion (row ∷ []) ≡ []
-row-none expansion row is = one_row expansion row None is
-
--- a row that does not overlap the range
-pub row-apart : (expansion : Expansion) (row : Row) (c : Component) → slice_get expansion.object.now.components row.component ≡ Some c → row_overlaps c row expansion.range expansion.zone.now ≡ false → instances_in expansion (row ∷ []) ≡ []
-row-apart expansion row c is apart =
-    one_row expansion row (Some c) is
-    ∙ ap (λ b. flat_map (instances_of_row expansion.object.now) (if b || false then row ∷ [] else [])) apart
-
 met_row : (expansion : Expansion) (row : Row) (c : Component) → slice_get expansion.object.now.components row.component ≡ Some c → row_overlaps c row expansion.range expansion.zone.now ≡ true
     → instances_in expansion (row ∷ []) ≡ flat_map (λ node. instance_from expansion.object.now row c node ∷ []) (node_of expansion.object.now c)
 met_row expansion row c is meets =
@@ -58,10 +48,6 @@ met_row expansion row c is meets =
     ∙ append-nil (instances_of_row expansion.object.now row)
     ∙ ap (λ o. made_of expansion.object.now row (option_to_list o)) is
     ∙ append-nil (flat_map (λ node. instance_from expansion.object.now row c node ∷ []) (node_of expansion.object.now c))
-
-pub row-lost : (expansion : Expansion) (row : Row) (c : Component) → slice_get expansion.object.now.components row.component ≡ Some c → row_overlaps c row expansion.range expansion.zone.now ≡ true
-    → slice_get (children_of expansion.object.now.tree) c.child ≡ None → instances_in expansion (row ∷ []) ≡ []
-row-lost expansion row c is meets lost = met_row expansion row c is meets ∙ ap (λ o. flat_map (λ node. instance_from expansion.object.now row c node ∷ []) (option_to_list o)) lost
 
 pub row-one : (expansion : Expansion) (row : Row) (c : Component) (node : Node) → slice_get expansion.object.now.components row.component ≡ Some c → row_overlaps c row expansion.range expansion.zone.now ≡ true
     → slice_get (children_of expansion.object.now.tree) c.child ≡ Some node → instances_in expansion (row ∷ []) ≡ instance_from expansion.object.now row c node ∷ []

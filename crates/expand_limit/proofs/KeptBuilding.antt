@@ -37,11 +37,6 @@ kept-all_comps (suc levels) x picks says all some = (
   λ name. inner_all (IsKeptBy levels) (out-Kept (roll-Kept x)).all_comps (named_in (roll-Kept x) name) (flat_map (comp_picks name) picks) (ap (λ (y : Kept-F Kept). y.all_comps) (out-roll-Kept x) ∙ all) (inner-keeps_all name picks some),
 )
 
--- of a component without levels nothing is asked
-pub kept-none : (levels : ℕ) (kept : Kept) (picks : List CompPick) → levels ≡ 0 → IsKeptBy levels kept picks
-kept-none zero kept picks none = tt
-kept-none (suc levels) kept picks none = absurd (omega (arith, none))
-
 empty_list : (picks : List CompPick) → is_empty picks ≡ true → picks ≡ []
 empty_list [] is = refl
 empty_list (pick ∷ picks) is = absurd (omega (arith, eqb-true (length (pick ∷ picks)) 0 is))

@@ -1,8 +1,8 @@
 -- What picks keep that keep all, and what is kept of the components in a component.
-use Rattle.std.proofs.Common.{◌≡◌, ℕ, suc, Bool, true, false, not, List, [], ◌∷◌, length, arith, Option, Some, None, refl, sym, ap, ◌∙◌, ⊎_elim}
-use Rattle.std.specs.Prelude.{◌&&◌, ◌||◌, if◌then◌else◌, flat_map, is_none}
+use Rattle.std.proofs.Common.{◌≡◌, ℕ, suc, Bool, true, false, not, List, [], ◌∷◌, length, arith, Option, Some, None, sym, ap, ◌∙◌, ⊎_elim}
+use Rattle.std.specs.Prelude.{◌&&◌, if◌then◌else◌, flat_map, is_none}
 use Rattle.std.specs.List.{list_any}
-use Rattle.std.proofs.lemmas.Bool.{and_parts, and_from, or_cases, false≢true, cond-true, cond-false, ne_eqb}
+use Rattle.std.proofs.lemmas.Bool.{and_parts, and_from, or_cases, false≢true, cond-true, cond-false, ne_eqb, or_right, or_left}
 use Rattle.std.proofs.lemmas.List.Folds.{list_any-append}
 use Rattle.cal_model.specs.declared.selection.PropPick.{PropPick}
 use Rattle.cal_model.specs.declared.selection.CompPick.{CompPick, out-CompPick}
@@ -12,13 +12,6 @@ use Rattle.cal_model.specs.Words.Lists.{is_empty}
 use Rattle.shown_lines.specs.declared.portion.Portion.TheVariants.{Whole}
 use Rattle.expand_limit.specs.declared.kept.Kept.{Kept, out-Kept}
 use Rattle.expand_limit.specs.KeptParts.{portion_by, keeps_all, IsKeptBy, IsInner, IsKeptAs, named_in, inner_as, leaves_out_as}
-
-or_right : (a b : Bool) → b ≡ true → (a || b) ≡ true
-or_right true b is = refl
-or_right false b is = is
-
-or_left : (a b : Bool) → a ≡ true → (a || b) ≡ true
-or_left a b is = ap (λ x. x || b) is
 
 some-cons : {X : Type 0} (x : X) (xs : List X) → is_empty (x ∷ xs) ≡ false
 some-cons x xs = ne_eqb (length (x ∷ xs)) 0 (λ (none : length (x ∷ xs) ≡ 0). absurd (omega (arith, none)))
@@ -80,12 +73,3 @@ inner-kept levels None name picks is stays =
     let all = inner-keeps_all name picks (all-comps picks is) in
     (some-keeps_all (flat_map (comp_picks name) picks) all, all)
 inner-kept levels (Some kept) name picks is stays = inner_by levels (out-Kept kept).all_comps (named_in kept name) (flat_map (comp_picks name) picks) (is.1 name) stays
-
-none_by : (levels : ℕ) (all : Bool) (named : Option Kept) (wanted : List CompPick) → IsInner (IsKeptBy levels) all named wanted → (not all && is_none named) ≡ true → wanted ≡ []
-none_by levels true named wanted is goes = absurd (false≢true goes)
-none_by levels false None wanted is goes = is
-none_by levels false (Some kept) wanted is goes = absurd (false≢true goes)
-
-pub inner-none : (levels : ℕ) (around : Option Kept) (name : List ℕ) (picks : List CompPick) → IsKeptAs (suc levels) around picks → leaves_out_as around name ≡ true → flat_map (comp_picks name) picks ≡ []
-inner-none levels None name picks is goes = absurd (false≢true goes)
-inner-none levels (Some kept) name picks is goes = none_by levels (out-Kept kept).all_comps (named_in kept name) (flat_map (comp_picks name) picks) (is.1 name) goes

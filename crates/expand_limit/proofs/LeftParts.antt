@@ -1,41 +1,14 @@
 -- Marked places, and the components that stay, one after another.
-use Rattle.std.proofs.Common.{◌≡◌, ℕ, ◌+◌, ◌<◌, ◌≤◌, Bool, true, false, List, [], ◌∷◌, ◌++◌, length, get_or, set, refl, sym, ap, ◌∙◌, append_assoc, inl, inr, arith}
+use Rattle.std.proofs.Common.{◌≡◌, ℕ, ◌+◌, Bool, true, false, List, [], ◌∷◌, ◌++◌, get_or, refl, sym, ap, ◌∙◌, append_assoc}
 use Rattle.std.specs.Prelude.{◌==◌, ◌||◌, if◌then◌else◌, flat_map}
-use Rattle.std.proofs.lemmas.Bool.{cases_Bool, eqb-true, ne_eqb}
-use Rattle.std.proofs.lemmas.Bool.Decides.{nat_tests}
-use Rattle.std.proofs.lemmas.List.{get_or-set_same, get_or-set_other}
 use Rattle.std.proofs.lemmas.List.Concat.{flat_map-append}
 use Rattle.std.proofs.lemmas.List.Folds.{list_any-append}
 use Rattle.cal_base.specs.declared.line.Node.{Node}
 use Rattle.expand_limit.specs.SeenRows.{is_place, left_nodes}
 
-or_none : (b : Bool) → (b || false) ≡ b
-or_none true = refl
-or_none false = refl
-
-or_last : (b c : Bool) → c ≡ true → (b || c) ≡ true
-or_last true c is = refl
-or_last false c is = is
-
 or_three : (a b c : Bool) → ((a || b) || c) ≡ (a || (b || c))
 or_three true b c = refl
 or_three false b c = refl
-
--- a place is marked
-pub marked : (old : List Bool) (place k : ℕ) → place < length old → get_or (set old place true) k false ≡ (get_or old k false || (place == k))
-marked old place k within = elim (cases_Bool (place == k)) [
-  | inl same ↦ (let e : place ≡ k = eqb-true place k same in
-      ap (λ j. get_or (set old place true) j false) (sym e) ∙ get_or-set_same old place true false within ∙ sym (or_last (get_or old k false) (place == k) same))
-  | inr other ↦ get_or-set_other old place k true false (λ (e : k ≡ place). absurd (grind (arith, nat_tests, other, e))) ∙ sym (ap (λ b. get_or old k false || b) other ∙ or_none (get_or old k false))
-]
-
-pub not_marked : (old : List Bool) (place k : ℕ) → length old ≤ place → k < length old → get_or old k false ≡ (get_or old k false || (place == k))
-not_marked old place k beyond within =
-    sym (ap (λ b. get_or old k false || b) (ne_eqb place k (λ (e : place ≡ k). absurd (omega (arith, beyond, within, e)))) ∙ or_none (get_or old k false))
-
--- no more places
-pub none-marked : (b : Bool) → b ≡ (b || false)
-none-marked b = sym (or_none b)
 
 -- one more component's place
 pub marked-next : (k : ℕ) (before after : Bool) (one more : List ℕ) → after ≡ (before || is_place k one) → (after || is_place k more) ≡ (before || is_place k (one ++ more))

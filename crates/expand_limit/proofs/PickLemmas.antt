@@ -3,7 +3,7 @@ use Rattle.std.proofs.Common.{◌≡◌, ℕ, zero, suc, ◌+◌, ◌<◌, Bool,
 use Rattle.std.specs.Prelude.{IfSome, if◌then◌else◌, ◌||◌, flat_map, filter, bytes_eq, option_and_then, slice_get}
 use Rattle.std.specs.List.{list_any}
 use Rattle.std.specs.Borrow.{Bor}
-use Rattle.std.proofs.lemmas.Bool.{cases_Bool, cond-true, cond-false, false≢true, ne_eqb, or_cases, or_parts}
+use Rattle.std.proofs.lemmas.Bool.{cases_Bool, cond-true, cond-false, false≢true, ne_eqb, or_cases, or_parts, or_right}
 use Rattle.std.proofs.lemmas.List.Folds.{list_any-append}
 use Rattle.std.proofs.lemmas.List.{length_push}
 use Rattle.std.proofs.Math.Seq.{drop-cons}
@@ -80,10 +80,6 @@ all_props_in picks = list_any (λ pick. (out-CompPick pick).all_props) picks
 
 abbrev pub all_comps_in : List CompPick → Bool
 all_comps_in picks = list_any (λ pick. (out-CompPick pick).all_comps) picks
-
-or_right : (a b : Bool) → b ≡ true → (a || b) ≡ true
-or_right true b is = refl
-or_right false b is = is
 
 whole_by : (props : List PropPick) → has_whole props ≡ true → portion_by props ≡ Whole
 whole_by [] is = absurd (false≢true is)

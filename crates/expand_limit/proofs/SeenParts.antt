@@ -1,10 +1,7 @@
 -- What rows say of components, component by component, is what the definition asks of all rows.
-use Rattle.std.proofs.Common.{◌≡◌, ℕ, ◌+◌, ◌<◌, ◌≤◌, Bool, true, false, not, List, [], ◌∷◌, ◌++◌, length, map, take, get_or, set, refl, sym, ap, ap₂, subst, ◌∙◌, arith, ℤ, Option, Some, None, inl, inr}
+use Rattle.std.proofs.Common.{◌≡◌, ℕ, ◌+◌, ◌<◌, ◌≤◌, Bool, true, false, not, List, [], ◌∷◌, ◌++◌, length, map, take, get_or, refl, sym, ap, ap₂, subst, ◌∙◌, arith, ℤ, Option, Some, None}
 use Rattle.std.specs.Prelude.{◌==◌, ◌||◌, if◌then◌else◌, All, filter, flat_map, option_to_list, is_some, unwrap_or, slice_get}
 use Rattle.std.specs.List.{list_any, enumerate_from}
-use Rattle.std.proofs.lemmas.Bool.{cases_Bool, cond-true, cond-false, eqb-true, ne_eqb}
-use Rattle.std.proofs.lemmas.Bool.Decides.{nat_tests}
-use Rattle.std.proofs.lemmas.List.{get_or-set_same, get_or-set_other}
 use Rattle.std.proofs.lemmas.List.Elements.{All-cons, All-filter, All-head, All-nil, All-tail}
 use Rattle.std.proofs.lemmas.List.Folds.{list_any-append}
 use Rattle.std.proofs.lemmas.Option.{none-some, same_Some}
@@ -235,21 +232,6 @@ ids_there zones object all = at_hand (ids_start object) refl
     at_hand : (o : Option Stamp) → ids_start object ≡ o → All (IsConvertible zones) (option_to_list o)
     at_hand None is = All-nil (IsConvertible zones)
     at_hand (Some s) is = All-cons (IsConvertible zones) s [] (ids_convertible zones object s all (sym is)) (All-nil (IsConvertible zones))
-
--- One row more
-
-pub noted : (limit : Limit) (row : Row) (old : List Seen) (number : ℕ) (new : Seen) → row.component < length old → new ≡ seen_row limit row (get_or old row.component nothing_seen)
-    → get_or (set old row.component new) number nothing_seen ≡ seen_more limit number row (get_or old number nothing_seen)
-noted limit row old number new within is = elim (cases_Bool (row.component == number)) [
-  | inl same ↦ (let e : row.component ≡ number = eqb-true row.component number same in
-      ap (λ k. get_or (set old row.component new) k nothing_seen) (sym e) ∙ get_or-set_same old row.component new nothing_seen within ∙ is
-      ∙ ap (λ k. seen_row limit row (get_or old k nothing_seen)) e
-      ∙ sym (cond-true (row.component == number) _ _ same))
-  | inr other ↦ get_or-set_other old row.component number new nothing_seen (λ (e : number ≡ row.component). absurd (grind (arith, nat_tests, other, e))) ∙ sym (cond-false (row.component == number) _ _ other)
-]
-
-pub not_noted : (limit : Limit) (row : Row) (old : List Seen) (number : ℕ) → length old ≤ row.component → number < length old → get_or old number nothing_seen ≡ seen_more limit number row (get_or old number nothing_seen)
-not_noted limit row old number beyond within = sym (cond-false (row.component == number) _ _ (ne_eqb row.component number (λ (e : row.component ≡ number). absurd (omega (arith, beyond, within, e)))))
 
 -- The master
 

@@ -1,8 +1,8 @@
 -- The text of a component is made of that of its lines and of the components in it.
-use Rattle.std.proofs.Common.{◌≡◌, ℕ, Bool, true, false, List, [], ◌∷◌, ◌++◌, map, Option, Some, None, refl, sym, ap, ap₂, ◌∙◌, append-nil, inl, inr}
+use Rattle.std.proofs.Common.{◌≡◌, ℕ, Bool, true, false, List, [], ◌∷◌, ◌++◌, map, Option, Some, None, refl, sym, ap, ap₂, ◌∙◌, append-nil}
 use Rattle.std.specs.Prelude.{◌&&◌, not, if◌then◌else◌, flat_map, bytes_eq, codes}
 use Rattle.std.specs.List.{concat, list_any}
-use Rattle.std.proofs.lemmas.Bool.{cases_Bool, cond-true, cond-false, false≢true}
+use Rattle.std.proofs.lemmas.Bool.{cond-false}
 use Rattle.std.proofs.lemmas.List.Folds.{flat_map-map}
 use Rattle.cal_base.specs.declared.line.Line.{Line}
 use Rattle.cal_base.specs.declared.line.Node.{Node}
@@ -86,13 +86,6 @@ node_text-component picks busy name lines children some =
     ∙ append-nil (printed (child.kept wanted))
     ∙ body-text wanted busy name lines children
 
-node_text-none : (picks : List CompPick) (busy : Option Range) (name : List ℕ) (lines : List Line) (children : List Node) → flat_map (comp_picks name) picks ≡ []
-    → node_text picks busy (component name (record { lines = lines; children = children })) ≡ []
-node_text-none picks busy name lines children none =
-    let child = picked (busy_shown busy (component name (record { lines = lines; children = children }))) in
-    ap (λ n. flat_map printed (child_by (flat_map (comp_picks n) picks) child)) (picked_name busy name lines children)
-    ∙ ap (λ wanted. flat_map printed (child_by wanted child)) none
-
 -- What is seen of a component
 
 abbrev pub is_zone : Node → Bool
@@ -113,28 +106,12 @@ seen_one : (without : Bool) (node : Node) → (without && is_zone node) ≡ fals
 seen_one true node other = append-nil (plain node) ∙ plain_of node ∙ cond-false _ _ _ other
 seen_one false node other = ap (λ n. n ∷ []) (node-component node)
 
-seen_none : (without : Bool) (node : Node) → (without && is_zone node) ≡ true → seen_nodes without (node ∷ []) ≡ []
-seen_none true node is = append-nil (plain node) ∙ plain_of node ∙ cond-true _ _ _ is
-seen_none false node is = absurd (false≢true is)
-
 -- the text of a component that is seen and kept
 pub child-text : (picks : List CompPick) (busy : Option Range) (without : Bool) (node : Node) → (without && is_zone node) ≡ false → is_empty (flat_map (comp_picks (name_of node)) picks) ≡ false
     → flat_map (node_text picks busy) (seen_nodes without (node ∷ [])) ≡ body_text (flat_map (comp_picks (name_of node)) picks) busy (name_of node) (seen_lines without (lines_of node)) (seen_nodes without (children_of node))
 child-text picks busy without node other some =
     ap (flat_map (node_text picks busy)) (seen_one without node other) ∙ append-nil (node_text picks busy (seen_component without node))
     ∙ node_text-component picks busy (name_of node) (seen_lines without (lines_of node)) (seen_nodes without (children_of node)) some
-
--- one that is not seen, or not kept, has no text
-pub child-unseen : (picks : List CompPick) (busy : Option Range) (without : Bool) (node : Node) → (without && is_zone node) ≡ true → flat_map (node_text picks busy) (seen_nodes without (node ∷ [])) ≡ []
-child-unseen picks busy without node is = ap (flat_map (node_text picks busy)) (seen_none without node is)
-
-pub child-left_out : (picks : List CompPick) (busy : Option Range) (without : Bool) (node : Node) → flat_map (comp_picks (name_of node)) picks ≡ [] → flat_map (node_text picks busy) (seen_nodes without (node ∷ [])) ≡ []
-child-left_out picks busy without node none =
-    elim (cases_Bool (without && is_zone node)) [
-      | inl is ↦ child-unseen picks busy without node is
-      | inr other ↦ ap (flat_map (node_text picks busy)) (seen_one without node other) ∙ append-nil (node_text picks busy (seen_component without node))
-          ∙ node_text-none picks busy (name_of node) (seen_lines without (lines_of node)) (seen_nodes without (children_of node)) none
-    ]
 
 -- Lines
 

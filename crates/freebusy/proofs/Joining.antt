@@ -54,10 +54,6 @@ Follow-order span (next ∷ rest) rising each = (
 
 -- What is covered
 
-or_false : (b : Bool) → (b || false) ≡ b
-or_false true = refl
-or_false false = refl
-
 or_assoc : (b c d : Bool) → ((b || c) || d) ≡ (b || (c || d))
 or_assoc true c d = refl
 or_assoc false c d = refl

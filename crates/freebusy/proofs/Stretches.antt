@@ -30,9 +30,6 @@ with_class-one : (t : ℤ) (c : Class) (rs : List BusyTime) → with_class t c r
 with_class-one t c [] = refl
 with_class-one t c (r ∷ rs) = refl
 
-follows : (t : ℤ) (c : Class) → (same_class c c && same_int (t +ℤ pos 1) (t +ℤ pos 1)) ≡ true
-follows t c = and_from (same_class c c) (same_int (t +ℤ pos 1) (t +ℤ pos 1)) (same_class-self c) (same_int-self (t +ℤ pos 1))
-
 -- a second of the same class before a run
 lengthens : (t : ℤ) (c : Class) (r : BusyTime) (rs : List BusyTime) → same_class c r.class ≡ true → with_class t c (record r { start = t +ℤ pos 1 } ∷ rs) ≡ record r { start = t } ∷ rs
 lengthens t c r rs same =

@@ -1,9 +1,9 @@
 -- The windows that are found are those that ranges need.
 use Rattle.std.proofs.Common.{◌≡◌, ℕ, zero, suc, ◌+◌, ◌<◌, Bool, true, false, List, [], ◌∷◌, length, map, Option, Some, None, refl, sym, ap, ◌∙◌, arith, ℤ, inl, inr}
-use Rattle.std.specs.Prelude.{All, AllPairs, ◌==◌, ◌&&◌, ◌||◌, not, filter, filter_map, flat_map, is_some, option_to_list, if◌then◌else◌}
+use Rattle.std.specs.Prelude.{All, ◌==◌, ◌&&◌, ◌||◌, not, filter, filter_map, flat_map, is_some, option_to_list, if◌then◌else◌}
 use Rattle.std.specs.List.{list_any}
 use Rattle.std.specs.List.Sorted.{IsPermutation}
-use Rattle.std.proofs.lemmas.Bool.{cases_Bool, eqb-true, false≢true}
+use Rattle.std.proofs.lemmas.Bool.{cases_Bool, eqb-true, false≢true, or_parts}
 use Rattle.std.proofs.lemmas.List.Elements.{All-nil}
 use Rattle.std.proofs.lemmas.List.Sorted.{list_any-IsPermutation, All-permutation}
 use Rattle.cal_moment.specs.declared.stamp.Stamp.{Stamp}
@@ -19,7 +19,7 @@ use Rattle.cal_model.specs.Reports.NeededWindows.{counts, meets_some, stated_win
 use Rattle.cal_model.specs.Words.Integers.{same_int}
 use Rattle.cal_model.specs.Words.Lists.{is_empty}
 use Rattle.needed_windows.specs.declared.windows.Stretch.{Stretch}
-use Rattle.needed_windows.specs.Stretches.{IsStretch, Puts, StartsNoLater, override_windows, places, places_in, some_holds, holds, window_of_place, windows_at}
+use Rattle.needed_windows.specs.Stretches.{IsStretch, Puts, override_windows, places, places_in, some_holds, holds, window_of_place, windows_at}
 use Rattle.needed_windows.proofs.StretchLemmas.{or_false, windows-tested}
 
 -- Overrides
@@ -98,14 +98,10 @@ stretches_found tests others old one two sorted none first second moved = All-pe
 
 -- Objects without overrides
 
-neither : (s t : Bool) → (s || t) ≡ false → (s ≡ false) × (t ≡ false)
-neither true t e = absurd cc
-neither false t e = (refl, e)
-
 overrides_none : (k : ℕ) (cs : List Component) → list_any (λ (c : Component). is_some c.recurrence_id) cs ≡ false → filter has_id (numbered_from k cs) ≡ []
 overrides_none k [] e = refl
 overrides_none k (c ∷ cs) e =
-    let both = neither (is_some c.recurrence_id) (list_any (λ (x : Component). is_some x.recurrence_id) cs) e in
+    let both = or_parts (is_some c.recurrence_id) (list_any (λ (x : Component). is_some x.recurrence_id) cs) e in
     rw both.0 (overrides_none (k + 1) cs both.1)
 
 pub no_overrides : (object : Object) → list_any (λ (c : Component). is_some c.recurrence_id) object.components ≡ false → overrides object ≡ []
@@ -130,6 +126,3 @@ counts_one object ranges more range window first last none =
 pub one_found : (object : Object) (ranges : List Range) (stretch : Stretch) → ((place : ℕ) → place < places → holds place stretch ≡ counts object ranges (window_of_place place))
     → windows_at (places_in (stretch ∷ [])) ≡ filter (counts object ranges) stated_windows
 one_found object ranges stretch same = windows-tested (some_holds (stretch ∷ [])) (counts object ranges) (λ place below. or_false (holds place stretch) ∙ same place below)
-
-pub one_rising : (stretch : Stretch) → AllPairs StartsNoLater (stretch ∷ [])
-one_rising stretch i j d lt below = absurd (omega (arith, lt, below))

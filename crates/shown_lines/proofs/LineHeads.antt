@@ -140,13 +140,6 @@ before_colon line parts =
     let count : length parts.head ≡ length line.raw - length line.value - 1 = omega (arith, size, ap length parts.raw) in
     ap (take (length line.raw - length line.value - 1)) parts.raw ∙ take_at parts.head (colon ∷ line.value) (length line.raw - length line.value - 1) count
 
--- the header of a line that has this text up to its colon
-pub header-made : (line : Line) (front value : List ℕ) → line.raw ≡ front ++ value → line.value ≡ value → header line ≡ front
-header-made line front value raw same =
-    let size = length-append front value in
-    let count : length front ≡ length line.raw - length line.value = omega (arith, size, ap length raw, ap length same) in
-    ap (take (length line.raw - length line.value)) raw ∙ take_at front value (length line.raw - length line.value) count
-
 -- a line that was read has a text before its colon, and a line of it with no value or another one is a line too
 pub head-read : (line : Line) → IsReadLine line → (head : List ℕ) × (header line ≡ head ++ colon ∷ []) × IsHead head
 head-read line is =

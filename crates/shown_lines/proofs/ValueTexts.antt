@@ -1,26 +1,15 @@
 -- The texts of rows' values are parts of a moment's text in UTC, and have no octet but digits, T and Z.
-use Rattle.std.proofs.Common.{◌≡◌, ℕ, zero, suc, ◌<◌, ◌^◌, ◌%◌, true, List, [], ◌∷◌, ◌++◌, take, refl, sym, subst, arith, ℤ}
+use Rattle.std.proofs.Common.{ℕ, zero, suc, ◌<◌, ◌^◌, ◌%◌, true, List, [], ◌∷◌, ◌++◌, take, sym, subst, arith}
 use Rattle.std.specs.Prelude.{codes}
 use Rattle.std.specs.List.{AllByRecursion}
 use Rattle.cal_moment.specs.declared.stamp.Day.{Day}
 use Rattle.cal_moment.specs.declared.stamp.Local.{Local}
-use Rattle.cal_moment.specs.Calendar.{moment_of_seconds}
-use Rattle.cal_moment.specs.Texts.{digits, SpellsDateTime, SpellsDate, SpellsTime, written_local}
+use Rattle.cal_moment.specs.Texts.{digits, SpellsDateTime, SpellsDate, SpellsTime}
 use Rattle.cal_moment.proofs.CalendarLaws.{month_length-bounds}
 use Rattle.cal_moment.proofs.DigitLemmas.{digit_below, tail_below}
 use Rattle.ical_lines.proofs.Pieces.{all_append}
-use Rattle.cal_model.specs.declared.row.RowKind.{RowKind}
-use Rattle.cal_model.specs.declared.row.RowKind.TheVariants.{Instant, Floating, Date, Undated}
-use Rattle.cal_model.specs.Selections.RowLines.{value_text}
 use Rattle.shown_lines.specs.Heads.{IsClean}
-use Rattle.shown_lines.specs.Values.{value_octets}
 use Rattle.shown_lines.proofs.CleanTexts.{IsPlain, clean-plain}
-
-pub value_text-front : (kind : RowKind) (seconds : ℤ) → take (value_octets kind) (written_local (moment_of_seconds seconds) ++ codes "Z") ≡ value_text kind seconds
-value_text-front Date seconds = refl
-value_text-front Floating seconds = refl
-value_text-front Instant seconds = refl
-value_text-front Undated seconds = refl
 
 digits_plain : (count n : ℕ) → n < 10 ^ count → AllByRecursion IsPlain (digits count n)
 digits_plain zero n h = tt

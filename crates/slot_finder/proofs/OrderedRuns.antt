@@ -1,5 +1,5 @@
 -- For those who look for free time: the runs of a calendar stand in order, and in their range a second is free of the runs of several calendars exactly where it is free of their times.
-use Rattle.std.proofs.Common.{◌≡◌, Bool, true, false, cond, not, ◌||◌, List, [], ◌∷◌, map, refl, sym, ap, subst, ◌∙◌, arith}
+use Rattle.std.proofs.Common.{◌≡◌, Bool, true, false, cond, ◌||◌, List, [], ◌∷◌, map, refl, sym, ap, subst, arith}
 use Rattle.std.specs.Prelude.{ℤ, ◌≤ℤ◌, ◌<ℤ◌, AllPairs, filter}
 use Rattle.std.specs.Option.{is_some}
 use Rattle.std.specs.List.{list_any}
@@ -13,7 +13,7 @@ use Rattle.cal_model.proofs.Busy.BusyRunLaws.{AreRuns-runs}
 use Rattle.cal_model.proofs.Words.AllLemmas.{All-unmap}
 use Rattle.freebusy.specs.declared.busy.Run.{Run}
 use Rattle.freebusy.specs.Times.{time_of_run}
-use Rattle.slot_finder.specs.FreeTimes.{AreInOrder, is_free}
+use Rattle.slot_finder.specs.FreeTimes.{AreInOrder}
 
 apart_unmapped : (found : List Run) → AllPairs (λ (run later : BusyTime). run.end ≤ℤ later.start) (map time_of_run found) → AllPairs (λ (run later : Run). run.end.0 ≤ℤ later.start.0) found
 apart_unmapped found apart i j d less below =
@@ -40,16 +40,3 @@ covered_by false time rest others is = is
 pub has_class : (times : List BusyTime) (t : ℤ) → is_some (class_at times t) ≡ list_any (covers t) times
 has_class [] t = refl
 has_class (time ∷ times) t = covered_by (covers t time) time (filter (covers t) times) (list_any (covers t) times) (has_class times t)
-
-busy-runs : (calendars : List (List BusyTime)) (range : Range) (t : ℤ) → range.start.0 ≤ℤ t → t <ℤ range.end.0
-    → list_any (list_any (covers t)) (map (λ (times : List BusyTime). runs times range) calendars) ≡ list_any (list_any (covers t)) calendars
-busy-runs [] range t from before = refl
-busy-runs (times ∷ calendars) range t from before =
-    let here : list_any (covers t) (runs times range) ≡ list_any (covers t) times =
-    sym (has_class (runs times range) t) ∙ ap is_some ((AreRuns-runs times range).classes t from before) ∙ has_class times t in
-    ap (λ (b : Bool). b || list_any (list_any (covers t)) (map (λ (others : List BusyTime). runs others range) calendars)) here
-    ∙ ap (λ (b : Bool). list_any (covers t) times || b) (busy-runs calendars range t from before)
-
-pub is_free-runs : (calendars : List (List BusyTime)) (range : Range) (t : ℤ) → range.start.0 ≤ℤ t → t <ℤ range.end.0
-    → is_free (map (λ (times : List BusyTime). runs times range) calendars) t ≡ is_free calendars t
-is_free-runs calendars range t from before = ap not (busy-runs calendars range t from before)
