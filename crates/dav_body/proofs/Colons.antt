@@ -1,5 +1,5 @@
 -- Names with a prefix, by their first colon; attributes, by their quotes.
-use Rattle.std.proofs.Common.{◌≡◌, ℕ, Bool, true, false, List, [], ◌∷◌, ◌++◌, Option, Some, None, refl, sym, ap, ◌∙◌, drop, append_assoc}
+use Rattle.std.proofs.Common.{◌≡◌, ℕ, true, false, List, [], ◌∷◌, ◌++◌, Option, Some, None, refl, sym, ap, ◌∙◌, drop, append_assoc}
 use Rattle.std.specs.Prelude.{◌==◌, ◌&&◌, option_map, option_and_then, if◌then◌else◌, cond}
 use Rattle.cal_base.specs.Texts.Octets.{colon}
 use Rattle.cal_base.specs.Lines.ContentLines.{pieces, onto_first}
@@ -87,9 +87,6 @@ pub attributes_bad : (done : List WrittenAttribute) (before value : List ℕ) (m
 attributes_bad done before value more none = ap (λ found. preceded done (option_and_then (λ attribute. option_map (λ others. attribute ∷ others) (attributes_of more)) found)) none
 
 -- Names
-
-if_none : {X : Type 0} (b : Bool) (x : X) → b ≡ false → (if b then Some x else None) ≡ None
-if_none b x is = ap (λ t. if t then Some x else None) is
 
 pub qname_plain : (text : List ℕ) → first_split (is_octet colon) text ≡ None → qname_of text ≡ (if is_plain_name text then Some (record { prefix = []; local = text }) else None)
 qname_plain text none = ap qname_of_pieces (pieces_split text ∙ ap (split_pieces (pieces colon) text) none)

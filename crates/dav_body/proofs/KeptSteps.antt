@@ -156,11 +156,5 @@ stop_opening around tag why is = around_stands around tag ∙ is
 
 -- The end
 
-pub end_behind : (end place : ℕ) (element : Element) → (fault_with end (behind element) place [] ≡ None) × (element_with (behind element) [] ≡ Some element)
-end_behind end place element = (refl, refl)
-
-pub end_nothing : (end place : ℕ) → fault_with end nothing place [] ≡ Some (fault_at end cut_short)
-end_nothing end place = refl
-
 pub end_inside : (end place : ℕ) (inner : OpenPart) (around : List OpenPart) → fault_with end (inside inner around) place [] ≡ Some (fault_at end cut_short)
 end_inside end place inner around = refl

@@ -35,9 +35,6 @@ pub tag_size_here : (quote : Option ℕ) (octet : ℕ) (text behind : List ℕ) 
 tag_size_here quote octet text behind is here unquoted =
     ap (tag_size quote) is ∙ ap (λ q. tag_size q (octet ∷ behind)) unquoted ∙ ap (λ b. elim b [ true ↦ 1 | false ↦ suc (tag_size (quote_after None octet) behind) ]) here
 
-tag_size_none : (octet : ℕ) (behind : List ℕ) → (octet == 62) ≡ false → tag_size None (octet ∷ behind) ≡ suc (tag_size (quote_after None octet) behind)
-tag_size_none octet behind other = ap (λ b. elim b [ true ↦ 1 | false ↦ suc (tag_size (quote_after None octet) behind) ]) other
-
 tag_size_cons : (quote : Option ℕ) (octet : ℕ) (behind : List ℕ) → ((octet == 62) && is_none quote) ≡ false → tag_size quote (octet ∷ behind) ≡ suc (tag_size (quote_after quote octet) behind)
 tag_size_cons (Some quote) octet behind other = refl
 tag_size_cons None octet behind other =

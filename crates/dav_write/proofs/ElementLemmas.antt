@@ -1,18 +1,17 @@
 -- The text of an element, made of its pieces.
-use Rattle.std.proofs.Common.{◌≡◌, ℕ, suc, ◌+◌, ◌<◌, Bool, true, false, List, [], ◌∷◌, ◌++◌, length, take, drop, get_or, map, Option, Some, None, zero, cond, not, ◌==◌, nat_eq, IsTrue, refl, sym, ap, subst, ◌∙◌, arith, add-one, append_assoc, append-nil, length-append}
+use Rattle.std.proofs.Common.{◌≡◌, ℕ, suc, ◌+◌, ◌<◌, Bool, true, false, List, [], ◌∷◌, ◌++◌, length, take, get_or, map, Option, Some, None, zero, cond, not, ◌==◌, nat_eq, IsTrue, refl, sym, ap, subst, ◌∙◌, arith, append_assoc, append-nil, length-append}
 use Rattle.std.specs.Prelude.{codes, decimal}
-use Rattle.std.specs.List.{concat, enumerate_from, flat_map}
+use Rattle.std.specs.List.{concat}
 use Rattle.std.proofs.lemmas.Bool.{false≢true}
 use Rattle.std.proofs.lemmas.Bool.Decides.{nat_tests}
 use Rattle.std.proofs.lemmas.List.{take_more, map-append}
 use Rattle.std.proofs.lemmas.List.Folds.{concat-append}
-use Rattle.std.proofs.Math.Seq.{drop-cons}
 use Rattle.cal_base.specs.declared.element.Attr.{Attr}
 use Rattle.cal_base.specs.declared.element.Element.{Element}
 use Rattle.cal_base.specs.declared.element.Item.{Item}
-use Rattle.cal_base.specs.declared.element.Item.TheVariants.{Element as Inner, Text}
+use Rattle.cal_base.specs.declared.element.Item.TheVariants.{Text}
 use Rattle.cal_base.specs.Xml.CanonicalXml.{text_octet, xml_text, attribute_text, attribute, element_with, known_prefix, declaration, named_element, written_attribute, written_attributes, written_element, prefixes, written_body}
-use Rattle.cal_base.proofs.Xml.CanonicalXmlLemmas.{written_element-out, written_item-Text, written_item-Element}
+use Rattle.cal_base.proofs.Xml.CanonicalXmlLemmas.{written_element-out, written_item-Text}
 use Rattle.dav_write.specs.ElementTexts.{element_name, own_declaration, tag_front, end_tag, value_text, own_prefix, known_attribute, own_attribute, item_text}
 
 -- Attributes
@@ -51,14 +50,6 @@ written_attribute-other place attr other =
   where
     closed : (value rest : List ℕ) → (codes "=\"" ++ (attribute_text value ++ codes "\"")) ++ rest ≡ (codes "=\"" ++ (attribute_text value ++ codes "\"")) ++ rest
     closed value rest = refl
-
-pub attributes_more : (attrs : List Attr) (place : ℕ) (attr : Attr) (old out new : List ℕ) → place < length attrs → attr ≡ get_or attrs place attr
-    → out ++ flat_map written_attribute (enumerate_from place (drop place attrs)) ≡ old ++ written_attributes attrs → new ≡ out ++ written_attribute (place, attr)
-    → new ++ flat_map written_attribute (enumerate_from (place + 1) (drop (place + 1) attrs)) ≡ old ++ written_attributes attrs
-attributes_more attrs place attr old out new within here so_far now =
-    let rest = flat_map written_attribute (enumerate_from (place + 1) (drop (place + 1) attrs)) in
-    let next : drop place attrs ≡ attr ∷ drop (place + 1) attrs = drop-cons attrs place attr within ∙ ap (λ first. first ∷ drop (suc place) attrs) (sym here) ∙ ap (λ n. attr ∷ drop n attrs) (sym (add-one place)) in
-    ap (λ text. text ++ rest) now ∙ append_assoc out (written_attribute (place, attr)) rest ∙ ap (λ these. out ++ flat_map written_attribute (enumerate_from place these)) (sym next) ∙ so_far
 
 -- Elements
 
@@ -106,15 +97,6 @@ written_element-filled element declarations some =
     ∙ with_some (element_name element.space element.name) (declarations ++ (own_declaration element.space ++ written_attributes element.attrs)) (concat (map item_text element.items)) some
 
 -- Items
-
-pub element_is_written : (element : Element) → 0 < length (item_text (Inner element))
-element_is_written element =
-    subst (λ text. 0 < length text) (sym (written_item-Element element ∙ written_element-out element [] ∙ named_is [] element.space element.name element.attrs (concat (map item_text element.items))))
-    (begins (element_name element.space element.name) ([] ++ (own_declaration element.space ++ written_attributes element.attrs)) (concat (map item_text element.items)))
-  where
-    begins : (name attributes content : List ℕ) → 0 < length (element_with name attributes content)
-    begins name attributes [] = omega arith
-    begins name attributes (c ∷ cs) = omega arith
 
 octet_is_written : (octet : ℕ) → 0 < length (text_octet octet)
 octet_is_written octet = one (nat_eq octet 38) (nat_eq octet 60) (nat_eq octet 62) (nat_eq octet 13)

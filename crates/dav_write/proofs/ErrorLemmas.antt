@@ -92,10 +92,6 @@ segment_plain (c ∷ name) =
 behind : (name rest : List ℕ) → xml_text rest ≡ rest → xml_text (segment name ++ rest) ≡ segment name ++ rest
 behind name rest is = xml_text-append (segment name) rest ∙ ap (λ text. text ++ xml_text rest) (segment_plain name) ∙ ap (λ text. segment name ++ text) is
 
-slash_plain : xml_text (codes "/") ≡ codes "/"
-unfolding xml_text
-slash_plain = refl
-
 pub href_plain : (path : Path) → xml_text (href path) ≡ href path
 unfolding xml_text
 href_plain Root = refl
@@ -106,7 +102,7 @@ href_plain (Calendar user calendar) =
 href_plain (Object user calendar object) =
     ap (λ text. codes "/calendars/" ++ text) (behind user (codes "/" ++ (segment calendar ++ (codes "/" ++ segment object))) (ap (λ text. codes "/" ++ text) (behind calendar (codes "/" ++ segment object) (ap (λ text. codes "/" ++ text) (segment_plain object)))))
 
-href_filled : (path : Path) → 0 < length (href path)
+pub href_filled : (path : Path) → 0 < length (href path)
 href_filled Root = omega arith
 href_filled (Principal user) = omega arith
 href_filled (Home user) = omega arith

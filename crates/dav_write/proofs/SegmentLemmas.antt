@@ -6,7 +6,7 @@ use Rattle.std.specs.Str.{bytes_eq}
 use Rattle.percent_encoding.specs.Percent.{percent_decode}
 use Rattle.cal_base.specs.Lines.ContentLines.{pieces}
 use Rattle.cal_model.specs.declared.path.Path.{Path}
-use Rattle.cal_model.specs.declared.path.Path.TheVariants.{Root, Object}
+use Rattle.cal_model.specs.declared.path.Path.TheVariants.{Object}
 use Rattle.cal_model.specs.Words.Lists.{is_empty, last_or_else}
 use Rattle.cal_model.specs.Paths.TargetPaths.{slash, is_resource_name, path_of_segments, path_of_text, without_query, without_host, target_path}
 use Rattle.dav_write.specs.Segments.{named_path}
@@ -18,13 +18,6 @@ closed ends segments = named_path ends (map percent_decode (cond ends (take (len
 both : (b : Bool) (path : Option Path) → cond b path path ≡ path
 both true path = refl
 both false path = refl
-
-pub path_of_one : (kind : List ℕ) → path_of_segments (kind ∷ []) ≡ cond (is_empty kind) (Some Root) None
-path_of_one kind = by (is_empty kind)
-  where
-    by : (ends : Bool) → closed ends (kind ∷ []) ≡ cond ends (Some Root) None
-    by true = refl
-    by false = both _ None
 
 pub path_of_two_open : (kind user : List ℕ) → is_empty user ≡ false → path_of_segments (kind ∷ user ∷ []) ≡ named_path false (percent_decode kind ∷ percent_decode user ∷ [])
 path_of_two_open kind user some = ap (λ ends. closed ends (kind ∷ user ∷ [])) some

@@ -1,8 +1,8 @@
 -- A multistatus, made of its pieces.
-use Rattle.std.proofs.Common.{◌≡◌, ℕ, ◌<◌, ◌≤◌, Bool, true, false, cond, ◌==◌, List, [], ◌∷◌, ◌++◌, length, take, Option, Some, None, refl, sym, ap, ◌∙◌, arith, append_assoc, append-nil, length-append}
+use Rattle.std.proofs.Common.{◌≡◌, ℕ, ◌<◌, ◌≤◌, List, [], ◌∷◌, ◌++◌, length, take, refl, sym, ap, ◌∙◌, arith, append_assoc, append-nil, length-append}
 use Rattle.std.specs.Prelude.{codes, flat_map}
 use Rattle.std.proofs.Math.Seq.{take-append_seam}
-use Rattle.cal_base.specs.Xml.CanonicalXml.{text_octet, known_prefix, declaration, element_with, named_element, attribute_text}
+use Rattle.cal_base.specs.Xml.CanonicalXml.{element_with, attribute_text}
 use Rattle.cal_model.specs.Replies.XmlText.{element, xml_text, propstat, response, document, multistatus}
 use Rattle.cal_model.specs.Properties.PropertyTable.{Answer}
 use Rattle.cal_model.specs.Properties.PropertyReplies.{property_element, with_status, propstat_of, propstats}
@@ -18,23 +18,8 @@ pub element_filled : (name attributes content : List ℕ) → 0 < length (elemen
 element_filled name attributes [] = omega arith
 element_filled name attributes (first ∷ more) = omega arith
 
-named_filled : (space name content : List ℕ) → 0 < length (named_element [] space name [] content)
-named_filled space name content = by (known_prefix space) where
-  by : (found : Option (List ℕ)) → 0 < length {A = ℕ} (elim found [
-    | None ↦ element_with (codes "x:" ++ name) ([] ++ (declaration (codes "x") space ++ [])) content
-    | Some prefix ↦ element_with (prefix ++ name) ([] ++ []) content
-  ])
-  by None = element_filled (codes "x:" ++ name) ([] ++ (declaration (codes "x") space ++ [])) content
-  by (Some prefix) = element_filled (prefix ++ name) ([] ++ []) content
-
-property_filled : (a : Answer) → 0 < length (property_element a)
-property_filled a = named_filled a.name.space a.name.name a.content
-
 longer : (a b : List ℕ) → 0 < length a → 0 < length (a ++ b)
 longer a b some = omega (arith, some, length-append a b)
-
-all_filled : (a : Answer) (answers : List Answer) → 0 < length (flat_map property_element (a ∷ answers))
-all_filled a answers = longer (property_element a) (flat_map property_element answers) (property_filled a)
 
 -- Properties with their status
 
@@ -81,20 +66,6 @@ pub href_empty : (href : List ℕ) → length href ≡ 0 → codes "<D:href/>" �
 unfolding xml_text
 href_empty [] none = refl
 href_empty (c ∷ href) none = absurd (omega arith)
-
-octet_filled : (octet : ℕ) → 0 < length (text_octet octet)
-octet_filled octet = by (octet == 38) (octet == 60) (octet == 62) (octet == 13) where
-  by : (a b c d : Bool) → 0 < length (cond a (codes "&amp;") (cond b (codes "&lt;") (cond c (codes "&gt;") (cond d (codes "&#13;") (octet ∷ [])))))
-  by true b c d = omega arith
-  by false true c d = omega arith
-  by false false true d = omega arith
-  by false false false true = omega arith
-  by false false false false = omega arith
-
-pub text_filled : (text : List ℕ) → 0 < length text → 0 < length (xml_text text)
-unfolding xml_text
-text_filled [] some = some
-text_filled (c ∷ text) some = longer (text_octet c) (flat_map text_octet text) (octet_filled c)
 
 -- The front of a reply stays
 

@@ -4,22 +4,14 @@ use Rattle.std.specs.Prelude.{codes, Result, Ok, Err, OnOk, OnErr}
 use Rattle.std.proofs.lemmas.Bool.Decides.{nat_tests}
 use Rattle.cal_base.specs.Xml.CanonicalXml.{known_prefix, declaration, element_with, named_element}
 use Rattle.cal_model.specs.declared.path.Path.{Path}
-use Rattle.cal_model.specs.declared.path.Path.TheVariants.{Root, Principal, Home, Calendar, Object}
 use Rattle.cal_model.specs.Replies.Hrefs.{href}
 use Rattle.cal_model.specs.Replies.ReplyElements.{href_element}
 use Rattle.cal_model.specs.Replies.XmlText.{element}
 use Rattle.dav_write.specs.ElementTexts.{element_name, own_declaration, end_tag}
-use Rattle.dav_write.proofs.ErrorLemmas.{filled, href_plain}
+use Rattle.dav_write.proofs.ErrorLemmas.{filled, href_filled, href_plain}
 use Rattle.multistatus.specs.PropertyTags.{opened, closed}
 
 -- The paths of resources
-
-href_filled : (path : Path) → 0 < length (href path)
-href_filled Root = omega arith
-href_filled (Principal user) = omega arith
-href_filled (Home user) = omega arith
-href_filled (Calendar user calendar) = omega arith
-href_filled (Object user calendar object) = omega arith
 
 pub href_pieces : (path : Path) → codes "<D:href>" ++ (href path ++ codes "</D:href>") ≡ href_element path
 href_pieces path = sym (ap (element (codes "D:href")) (href_plain path) ∙ filled (codes "D:href") [] (href path) (href_filled path))

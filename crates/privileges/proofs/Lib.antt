@@ -12,4 +12,3 @@ pub mod UserNumbers
 pub mod KeptUsers
 pub mod Marking
 pub mod NamedGroups
-pub mod Authentication

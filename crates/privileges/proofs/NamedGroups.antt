@@ -2,7 +2,7 @@
 use Rattle.std.proofs.Common.{◌≡◌, ℕ, ◌<◌, ◌≤◌, Bool, true, false, not, ◌&&◌, List, length, nat_lt, Some, None, Result, Ok, Err, refl, sym, ap, ◌∙◌}
 use Rattle.std.specs.Prelude.{is_some, if◌then◌else◌}
 use Rattle.std.specs.List.{list_all}
-use Rattle.std.proofs.lemmas.Bool.{lt-ltb}
+use Rattle.std.proofs.lemmas.Bool.{lt-ltb, and_parts}
 use Rattle.cal_model.specs.State.ServerState.{directory_of}
 use Rattle.cal_model.specs.State.UserNames.{AreToldApart}
 use Rattle.cal_model.specs.Users.UsersFile.{NamedGroup, Users, number_of, user_limit, group_limit, are_apart, numbered_group}
@@ -10,10 +10,6 @@ use Rattle.privileges.specs.KnownUsers.{and_group}
 use Rattle.privileges.specs.LineReading.{is_taken, with_named}
 use Rattle.privileges.specs.Marks.{marked_group, no_marks, with_marks}
 use Rattle.privileges.proofs.Marking.{marks_found, marks_lost}
-
-both_true : (a b : Bool) → (a && b) ≡ true → (a ≡ true) × (b ≡ true)
-both_true true b e = (refl, e)
-both_true false b e = (e, absurd cc)
 
 module _ (users : Users) (place : ℕ) (name : List ℕ) (names : List (List ℕ)) where
   abbrev named : NamedGroup
@@ -26,7 +22,7 @@ module _ (users : Users) (place : ℕ) (name : List ℕ) (names : List (List ℕ
       → with_marks users names no_marks ≡ Some marks → with_named users place named ≡ Ok (and_group users (marked_group name marks))
   with_named-found marks told few room new is =
       let found = marks_found users told few names marks is in
-      let can = both_true (list_all (λ member. is_some (number_of users member)) names) (are_apart names) found.can in
+      let can = and_parts (list_all (λ member. is_some (number_of users member)) names) (are_apart names) found.can in
       (λ i. by_tests (can.1 i) (lt-ltb (length users.groups) group_limit room i) (new i) (can.0 i))
       ∙ ap (λ group. Ok (and_group users group)) (sym (found.members name))
 

@@ -1,6 +1,7 @@
 -- Parts that make the same items, and texts that spell them, one behind the other.
 use Rattle.std.proofs.Common.{◌≡◌, ℕ, true, List, [], ◌∷◌, ◌++◌, map, refl, sym, ap, ◌∙◌, subst, append_assoc}
 use Rattle.std.specs.List.{concat}
+use Rattle.std.proofs.lemmas.List.{append-nil}
 use Rattle.cal_base.specs.declared.element.Item.{Item}
 use Rattle.cal_base.specs.declared.element.Item.TheVariants.{Element as Inner, Text}
 use Rattle.cal_base.specs.Xml.XmlMarkup.{Tag}
@@ -55,23 +56,16 @@ xml_text-nil : xml_text [] ≡ []
 unfolding xml_text
 xml_text-nil = refl
 
-written_items : List Item → List ℕ
-written_items items = concat (map written_item items)
-
 text_items-written : (text : List ℕ) (items : List Item) → concat (map written_item (text_items text ++ items)) ≡ xml_text text ++ concat (map written_item items)
 text_items-written [] items = ap (λ (front : List ℕ). front ++ concat (map written_item items)) (sym xml_text-nil)
 text_items-written (octet ∷ text) items = ap (λ (front : List ℕ). front ++ concat (map written_item items)) (written_item-Text (octet ∷ text))
 
-append_nil : (text : List ℕ) → text ++ [] ≡ text
-append_nil [] = refl
-append_nil (octet ∷ text) = ap (λ (more : List ℕ). octet ∷ more) (append_nil text)
-
 items_behind-nil : (text : List ℕ) → concat (map written_item (text_items text)) ≡ xml_text text
 items_behind-nil [] = sym xml_text-nil
-items_behind-nil (octet ∷ text) = append_nil (written_item (Text (octet ∷ text))) ∙ written_item-Text (octet ∷ text)
+items_behind-nil (octet ∷ text) = append-nil (written_item (Text (octet ∷ text))) ∙ written_item-Text (octet ∷ text)
 
 pub items_behind-written : (text : List ℕ) (parts : List Part) → concat (map written_item (items_behind text parts)) ≡ xml_text text ++ written_parts parts
-items_behind-written text [] = items_behind-nil text ∙ sym (append_nil (xml_text text))
+items_behind-written text [] = items_behind-nil text ∙ sym (append-nil (xml_text text))
 items_behind-written text (said more ∷ parts) = items_behind-written (text ++ more) parts ∙ ap (λ (front : List ℕ). front ++ written_parts parts) (xml_text-append text more) ∙ append_assoc (xml_text text) (xml_text more) (written_parts parts)
 items_behind-written text (held element ∷ parts) =
     text_items-written text (Inner element ∷ items_behind [] parts)

@@ -5,6 +5,7 @@ use Rattle.std.specs.Str.{is_utf8, chars, IsUtf8}
 use lib.Utf8.{scalar, scalars, encode, encodes}
 use Rattle.std.proofs.lemmas.Str.{IsUtf8-append, IsUtf8-from_is_utf8, is_utf8-from_IsUtf8, chars-encodes, encodes-chars, scalars-chars, chars-append}
 use Rattle.std.proofs.lemmas.List.Folds.{list_all-append}
+use Rattle.std.proofs.lemmas.List.{append-nil}
 use Rattle.cal_base.specs.Xml.XmlNames.{is_xml_character, is_xml_text}
 use Rattle.cal_base.proofs.Xml.XmlNameLemmas.{both_true}
 
@@ -36,16 +37,12 @@ xml_text_append text more e f =
 pub xml_text_utf8 : (text : List ℕ) → is_xml_text text ≡ true → IsUtf8 text
 xml_text_utf8 text e = IsUtf8-from_is_utf8 text (both_true (is_utf8 text) _ e).0
 
-append_nil : (text : List ℕ) → text ++ [] ≡ text
-append_nil [] = refl
-append_nil (octet ∷ text) = ap (λ (more : List ℕ). octet ∷ more) (append_nil text)
-
 -- one character
 pub one_text : (character : ℕ) (characters : List ℕ) → AreCharacters (character ∷ characters) → is_xml_text (encode character) ≡ true
 one_text character characters are =
     let values = both_true (scalar character) _ are.scalar_values in
     let of_xml = both_true (is_xml_character character) _ are.of_xml in
-    subst (λ text. is_xml_text text ≡ true) (append_nil (encode character)) (text_of (character ∷ []) (record { scalar_values = rw (values.0) refl; of_xml = rw (of_xml.0) refl }))
+    subst (λ text. is_xml_text text ≡ true) (append-nil (encode character)) (text_of (character ∷ []) (record { scalar_values = rw (values.0) refl; of_xml = rw (of_xml.0) refl }))
 
 pub behind_one : (character : ℕ) (characters : List ℕ) → AreCharacters (character ∷ characters) → AreCharacters characters
 behind_one character characters are = record { scalar_values = (both_true (scalar character) _ are.scalar_values).1; of_xml = (both_true (is_xml_character character) _ are.of_xml).1 }

@@ -11,7 +11,7 @@ use Rattle.cal_base.specs.declared.element.Element.{Element}
 use Rattle.cal_base.specs.Xml.XmlNames.{QName, is_plain_name, is_xml_text}
 use Rattle.cal_base.specs.Xml.XmlMarkup.{Tag}
 use Rattle.cal_base.specs.Xml.XmlScopes.{Scope, outer_scope, declared_by, declarations, scope_at, space_of, attributes_in, has_repeat, is_same_attribute, is_bad_binding, has_bad_attribute, has_undeclared_prefix}
-use Rattle.cal_base.specs.Xml.XmlFaults.{Why, syntax, too_deep, tag_fault, greatest_depth, closes_innermost}
+use Rattle.cal_base.specs.Xml.XmlFaults.{syntax, too_deep, tag_fault, greatest_depth}
 use Rattle.cal_base.specs.Xml.XmlFaults as Faults
 use Rattle.cal_base.specs.Xml.CanonicalXml.{dav, caldav, attribute, declaration, written_attributes, prefixes, named_element, element_with}
 use Rattle.dav_write.proofs.ReadBack.Lookups.{text_same, space_of_cons, space_of_append}

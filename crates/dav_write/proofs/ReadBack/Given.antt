@@ -2,14 +2,14 @@
 use Rattle.std.proofs.Common.{◌≡◌, ℕ, suc, ◌+◌, ◌-◌, ◌<◌, ◌^◌, Bool, true, false, List, [], ◌∷◌, length, drop, Option, Some, None, inl, inr, arith, refl, sym, ap, subst, ◌∙◌, length-append}
 use Rattle.std.specs.Prelude.{⊤, filter_map, if◌then◌else◌, unwrap_or, nat_le}
 use Rattle.std.specs.List.{concat}
-use Rattle.std.proofs.lemmas.Bool.{le-leb, cases_Bool}
+use Rattle.std.proofs.lemmas.Bool.{cases_Bool}
 use Rattle.std.proofs.lemmas.List.{length-drop}
 use Rattle.cal_base.specs.Lines.ComponentTrees.{or_else}
 use Rattle.cal_base.specs.declared.element.Element.{Element}
 use Rattle.cal_base.specs.Xml.XmlNames.{is_xml_text}
 use Rattle.cal_base.specs.Xml.XmlMarkup.{Tag, Markup, opening, closing, character, section, reference, skipped, markups, markup_of, referenced}
 use Rattle.cal_base.specs.Xml.XmlScopes.{outer_scope}
-use Rattle.cal_base.specs.Xml.XmlFaults.{Why, syntax, Fault, fault_at, is_declaration, declaration_fault, tag_fault, greatest_depth, references_fault, no_markup_fault, first_fault, fault_behind, mark_size, body_fault, markup_fault, can_stand, own_fault, tags_behind, rooted_behind}
+use Rattle.cal_base.specs.Xml.XmlFaults.{Why, syntax, Fault, fault_at, is_declaration, declaration_fault, tag_fault, greatest_depth, references_fault, no_markup_fault, first_fault, fault_behind, mark_size, markup_fault, can_stand, own_fault, tags_behind, rooted_behind}
 use Rattle.cal_base.specs.Xml.XmlBodies.{Part, said, held, with_line_feeds, Level, element_of_tag, with_part, with_opening, levels_before, first_element, outermost, without_declaration}
 use Rattle.cal_base.proofs.Xml.XmlMarkupLemmas.{concat-markups}
 use Rattle.dav_write.specs.Readable.{HasTag, AreParts, IsReadable, IsSpellable, ReadingGives}

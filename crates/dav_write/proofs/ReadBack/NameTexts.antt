@@ -4,7 +4,7 @@ use Rattle.std.specs.List.{list_any, list_all}
 use lib.Utf8.{encode}
 use Rattle.std.specs.Str.{chars, is_utf8}
 use Rattle.std.proofs.Common.{inl, inr, arith, refl, ap, subst, ◌∙◌}
-use Rattle.std.proofs.lemmas.Bool.{leb-true, le-leb, cases_Bool}
+use Rattle.std.proofs.lemmas.Bool.{leb-true, le-leb, cases_Bool, or_right}
 use Rattle.cal_base.specs.Texts.Octets.{colon}
 use Rattle.cal_base.specs.Lines.ContentLines.{pieces, onto_first}
 use Rattle.cal_base.specs.Xml.XmlNames.{QName, is_among, is_xml_character, is_xml_text, name_starts, name_followers, is_name_start, is_name_character, are_name_characters, is_plain_name, qname_of, qname_of_pieces}
@@ -12,10 +12,6 @@ use Rattle.cal_base.proofs.Xml.XmlNameLemmas.{both_true, both_false, is_one_of, 
 use Rattle.dav_write.proofs.ReadBack.Characters.{xml_text_append}
 
 -- Characters of names are characters of XML
-
-pub or_other : (one other : Bool) → other ≡ true → (one || other) ≡ true
-or_other true other e = refl
-or_other false other e = e
 
 abbrev holds_range : (ℕ × ℕ) → (ℕ × ℕ) → Bool
 holds_range inner outer = nat_le outer.0 inner.0 && nat_le inner.1 outer.1
@@ -28,7 +24,7 @@ in_wider (wide ∷ outer) range character h low high = elim (cases_Bool (holds_r
       let below : wide.0 ≤ character = omega (arith, leb-true wide.0 range.0 each.0, low) in
       let above : character ≤ wide.1 = omega (arith, leb-true range.1 wide.1 each.1, high) in
       true_or (nat_le wide.0 character && nat_le character wide.1) (is_among outer character) (rw (le-leb wide.0 character below, le-leb character wide.1 above) refl)
-  | inr other ↦ or_other (nat_le wide.0 character && nat_le character wide.1) (is_among outer character) (in_wider outer range character (subst (λ (test : Bool). (test || list_any (holds_range range) outer) ≡ true) other h) low high)
+  | inr other ↦ or_right (nat_le wide.0 character && nat_le character wide.1) (is_among outer character) (in_wider outer range character (subst (λ (test : Bool). (test || list_any (holds_range range) outer) ≡ true) other h) low high)
 ]
 
 in_outer : (inner outer : List (ℕ × ℕ)) → list_all (λ range. list_any (holds_range range) outer) inner ≡ true → (character : ℕ) → is_among inner character ≡ true → is_among outer character ≡ true

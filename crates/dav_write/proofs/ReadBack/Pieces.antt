@@ -2,6 +2,7 @@
 use Rattle.std.proofs.Common.{◌≡◌, ℕ, ◌<◌, Bool, true, false, List, [], ◌∷◌, ◌++◌, Option, Some, None, inl, inr, arith, refl, sym, ap, ◌∙◌, append_assoc}
 use Rattle.std.specs.Prelude.{⊤, ◌==◌, ◌&&◌, ◌||◌}
 use Rattle.std.proofs.lemmas.Bool.{eqb-true, cases_Bool}
+use Rattle.std.proofs.lemmas.List.{append-nil}
 use Rattle.cal_base.specs.Texts.Octets.{colon}
 use Rattle.cal_base.specs.Lines.ContentLines.{pieces, onto_first}
 use Rattle.cal_base.specs.Xml.XmlNames.{QName, is_plain_name, is_xml_text, qname_of, qname_of_pieces}
@@ -54,10 +55,6 @@ quote_small octet e = elim (cases_Bool (octet == 34)) [
   | inr double ↦ omega (arith, eqb-true octet 39 (sym (ap (λ (test : Bool). test || (octet == 39)) double) ∙ e))
 ]
 
-append_nil : (text : List ℕ) → text ++ [] ≡ text
-append_nil [] = refl
-append_nil (octet ∷ text) = ap (λ (more : List ℕ). octet ∷ more) (append_nil text)
-
 abbrev IsSmall : Option ℕ → Type 0
 IsSmall None = ⊤
 IsSmall (Some quote) = quote < 128
@@ -78,7 +75,7 @@ step_inside : (quote : ℕ) (front : List ℕ) (octet : ℕ) (text : List ℕ) (
     → FineOutside (quoted_pieces None text) → FineInside (front ++ octet ∷ []) (quoted_pieces (Some quote) text)
     → FineInside front (elim test [ true ↦ [] ∷ quoted_pieces None text | false ↦ onto_first octet (quoted_pieces (Some quote) text) ])
 step_inside quote front octet text true q small e outer more =
-    (ap is_xml_text (append_nil front) ∙ (ascii_split front text octet (omega (arith, eqb-true octet quote q, small)) e).0, outer)
+    (ap is_xml_text (append-nil front) ∙ (ascii_split front text octet (omega (arith, eqb-true octet quote q, small)) e).0, outer)
 step_inside quote front octet text false q small e outer more = inside_onto front octet (quoted_pieces (Some quote) text) more
 
 pieces_fine : (quote : Option ℕ) (text : List ℕ) → IsSmall quote → (front : List ℕ) → is_xml_text (front ++ text) ≡ true → Fine quote front (quoted_pieces quote text)

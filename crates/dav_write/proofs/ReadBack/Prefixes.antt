@@ -1,11 +1,10 @@
 -- The prefixes of canonical texts: those that each body knows, and those that a tag declares for itself.
 use Rattle.std.proofs.Common.{◌≡◌, ℕ, zero, suc, ◌+◌, ◌%◌, ◌<◌, ◌^◌, Bool, true, false, List, [], ◌∷◌, ◌++◌, map, length, Some, None, inl, inr, arith, refl, sym, ap, subst, ◌∙◌, append_assoc}
-use Rattle.std.specs.Prelude.{⊤, not, ◌==◌, ◌&&◌, ◌||◌, nat_eq, codes, decimal, flat_map, if◌then◌else◌, ◌⊎◌, option_map, cond}
-use Rattle.std.specs.Option.{option_or}
-use Rattle.std.specs.List.{list_any, list_all, enumerate_from}
+use Rattle.std.specs.Prelude.{not, ◌==◌, ◌&&◌, codes, decimal, flat_map, ◌⊎◌}
+use Rattle.std.specs.List.{list_all, enumerate_from}
 use Rattle.std.specs.Str.{bytes_eq, is_utf8, chars, IsAscii}
 use lib.Utf8.{encode}
-use Rattle.std.proofs.lemmas.Bool.{eqb-true, cases_Bool}
+use Rattle.std.proofs.lemmas.Bool.{eqb-true, cases_Bool, or_right}
 use Rattle.std.proofs.lemmas.Fmt.{decimal_injective, decimal_by_steps, IsAscii-decimal}
 use Rattle.std.proofs.lemmas.Str.{chars_from_encodes, encodes-IsAscii, IsUtf8-from_ascii, is_utf8-from_IsUtf8}
 use Rattle.std.proofs.lemmas.List.Folds.{list_all-append}
@@ -17,7 +16,7 @@ use Rattle.cal_base.proofs.Xml.XmlEscapeLemmas.{differ}
 use Rattle.dav_write.proofs.ReadBack.Lookups.{same_text}
 use Rattle.dav_write.specs.Readable.{IsSpace, IsAttr, AreAttrs}
 use Rattle.dav_write.proofs.ReadBack.Spelling.{HasKnown}
-use Rattle.dav_write.proofs.ReadBack.NameTexts.{in_wider, or_other}
+use Rattle.dav_write.proofs.ReadBack.NameTexts.{in_wider}
 use Rattle.dav_write.proofs.ReadBack.Tags.{pairs_text}
 use Rattle.dav_write.proofs.ReadBack.Entries.{Entry, binds, gives, prefixed, entry_pair, IsPrefix, IsBinding, AreEntries, attrs_of}
 
@@ -47,10 +46,6 @@ pub record Own (space : List ℕ) : Type 0 where
 empty_is : (space : List ℕ) → (length space == 0) ≡ true → space ≡ []
 empty_is [] e = refl
 empty_is (octet ∷ space) e = absurd (omega (arith, eqb-true (length (octet ∷ space)) 0 e))
-
-or_none : (test : Bool) → test ≡ false → (test || false) ≡ false
-or_none false e = refl
-or_none true e = absurd cc
 
 known_none : Known []
 known_none = record {
@@ -96,7 +91,7 @@ abbrev pub y_of : ℕ → List ℕ
 y_of place = 121 ∷ decimal place
 
 digit_name : (digit : ℕ) → digit < 10 → is_name_character (48 + digit) ≡ true
-digit_name digit h = or_other (is_name_start (48 + digit)) (is_among name_followers (48 + digit)) (in_wider name_followers (0x30, 0x39) (48 + digit) refl (omega arith) (omega arith))
+digit_name digit h = or_right (is_name_start (48 + digit)) (is_among name_followers (48 + digit)) (in_wider name_followers (0x30, 0x39) (48 + digit) refl (omega arith) (omega arith))
 
 decimal_names : (place : ℕ) → place < 2 ^ 64 → list_all is_name_character (decimal place) ≡ true
 decimal_names place h =
@@ -134,9 +129,6 @@ attr_entry place attr (inr own) = binds (y_of place) attr.space ∷ gives (y_of 
 abbrev pub attr_entries : ℕ → List Attr → List Entry
 attr_entries place [] = []
 attr_entries place (attr ∷ attrs) = attr_entry place attr (view attr.space) ++ attr_entries (place + 1) attrs
-
-entries_text : List Entry → List ℕ
-entries_text entries = pairs_text (map entry_pair entries)
 
 one_text : (place : ℕ) (attr : Attr) (seen : Known attr.space ⊎ Own attr.space) (more : List Entry) → written_attribute (place, attr) ++ pairs_text (map entry_pair more) ≡ pairs_text (map entry_pair (attr_entry place attr seen ++ more))
 one_text place attr (inl known) more =

@@ -1,13 +1,13 @@
 -- The text that a markup brings is of characters of XML.
 use Rattle.std.proofs.Common.{◌≡◌, ℕ, zero, suc, ◌<◌, Bool, true, false, List, [], ◌∷◌, ◌++◌, length, inl, inr, arith, refl, sym, ap, subst, ◌∙◌, append_assoc, length-append}
-use Rattle.std.specs.Prelude.{⊤, not, ◌==◌, ◌&&◌, ◌||◌, if◌then◌else◌, ◌⊎◌, codes, get_or, unwrap_or}
+use Rattle.std.specs.Prelude.{◌==◌, ◌&&◌, if◌then◌else◌}
 use Rattle.std.specs.List.{list_all}
 use Rattle.std.specs.Str.{is_utf8, chars, IsUtf8, IsCharBoundary}
 use lib.Utf8.{encode}
 use Rattle.std.proofs.lemmas.Bool.{eqb-true, cases_Bool}
 use Rattle.std.proofs.lemmas.List.{take_at, drop_at}
 use Rattle.std.proofs.lemmas.List.Folds.{list_all-append}
-use Rattle.std.proofs.lemmas.Str.{IsUtf8-from_is_utf8, is_utf8-from_IsUtf8, chars-append, IsUtf8-take, IsUtf8-drop, IsUtf8-past_char}
+use Rattle.std.proofs.lemmas.Str.{is_utf8-from_IsUtf8, chars-append, IsUtf8-take, IsUtf8-drop, IsUtf8-past_char}
 use Rattle.cal_base.specs.Texts.Octets.{line_feed, carriage_return}
 use Rattle.cal_base.specs.Xml.XmlNames.{is_xml_character, is_xml_text}
 use Rattle.cal_base.specs.Xml.XmlBodies.{with_line_feeds}

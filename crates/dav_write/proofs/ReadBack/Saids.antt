@@ -6,6 +6,7 @@ use Rattle.std.specs.Str.{is_utf8, chars, bytes_eq}
 use lib.Utf8.{scalar, encode}
 use Rattle.std.proofs.lemmas.Bool.{leb-true, ltb-true, lt-ltb, le-leb, cases_Bool}
 use Rattle.std.proofs.lemmas.Option.{same_Some}
+use Rattle.std.proofs.lemmas.List.{append-nil}
 use Rattle.cal_base.specs.Xml.XmlNames.{qname_of, is_among, is_xml_character, is_xml_text}
 use Rattle.cal_base.specs.Xml.XmlMarkup.{Markup, opening, closing, character, section, skipped, begins, ends, inside, comment_of, section_of, instruction_of, closing_of, opening_of, reference_of, tag_of, quoted_pieces, attributes_of, is_not_blank, without_last_blanks, referenced, referenced_number, entities, entity_octets, character_octets}
 use Rattle.cal_base.proofs.Xml.XmlNameLemmas.{both_true}
@@ -46,14 +47,10 @@ scalar_among (range ∷ ranges) t code h =
       | inr other ↦ scalar_among ranges tests.1 code (subst (λ (test : Bool). (test || is_among ranges code) ≡ true) other h)
     ]
 
-append_nil : (text : List ℕ) → text ++ [] ≡ text
-append_nil [] = refl
-append_nil (octet ∷ text) = ap (λ (more : List ℕ). octet ∷ more) (append_nil text)
-
 character_fine : (code : ℕ) → is_xml_character code ≡ true → is_xml_text (encode code) ≡ true
 character_fine code h =
     let value : scalar code ≡ true = scalar_among ((0x9, 0xA) ∷ (0xD, 0xD) ∷ (0x20, 0xD7FF) ∷ (0xE000, 0xFFFD) ∷ (0x10000, 0x10FFFF) ∷ []) refl code h in
-    ap is_xml_text (sym (append_nil (encode code))) ∙ text_of (code ∷ []) (record { scalar_values = rw (value) refl; of_xml = rw (h) refl })
+    ap is_xml_text (sym (append-nil (encode code))) ∙ text_of (code ∷ []) (record { scalar_values = rw (value) refl; of_xml = rw (h) refl })
 
 -- References
 

@@ -112,9 +112,6 @@ unfolding attribute_text
 unquoted_value [] = tt
 unquoted_value (octet ∷ value) = unquoted_join (value_octet octet) (attribute_text value) (value_unquoted octet) (unquoted_value value)
 
-other_less : (octet : ℕ) → (octet == 60) ≡ false → nat_eq 60 octet ≡ false
-other_less octet e = other_way 60 octet e
-
 no_less : (value : List ℕ) → Unquoted value → holds (codes "<") value ≡ false
 no_less [] u = refl
 no_less (octet ∷ value) (quote, less, u) = rw (other_way 60 octet less) (no_less value u)

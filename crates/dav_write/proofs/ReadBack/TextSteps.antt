@@ -1,14 +1,14 @@
 -- The canonical text of text is read as that text, character by character.
 use Rattle.std.proofs.Common.{◌≡◌, ℕ, ◌+◌, ◌/◌, ◌≤◌, ◌<◌, true, false, List, [], ◌∷◌, ◌++◌, Option, Some, None, inl, inr, arith, refl, sym, ap, subst, ◌∙◌, append_assoc}
-use Rattle.std.specs.Prelude.{not, ◌==◌, ◌&&◌, nat_eq, nat_lt, codes, flat_map, filter_map, if◌then◌else◌, ◌⊎◌, unwrap_or}
+use Rattle.std.specs.Prelude.{not, ◌==◌, nat_eq, nat_lt, codes, if◌then◌else◌, unwrap_or}
 use Rattle.std.specs.List.{list_any}
-use Rattle.std.specs.Str.{continuation_len, is_utf8, chars}
+use Rattle.std.specs.Str.{is_utf8, chars}
 use lib.Utf8.{encode, encodes, next}
 use Rattle.std.proofs.lemmas.Bool.{eqb-true, eqb-false, ltb-true, cases_Bool}
 use Rattle.cal_base.specs.Texts.Octets.{carriage_return}
 use Rattle.cal_base.specs.Xml.XmlNames.{is_xml_text}
 use Rattle.cal_base.specs.Xml.XmlMarkup.{Tag, begins, markup_size, markup_of, character, reference, referenced}
-use Rattle.cal_base.specs.Xml.XmlFaults.{Why, Fault, is_within, reference_fault, references_fault, markup_fault, can_stand}
+use Rattle.cal_base.specs.Xml.XmlFaults.{Fault, is_within, references_fault, markup_fault}
 use Rattle.cal_base.specs.Xml.XmlBodies.{Part, said, items_behind, Level, with_part, with_line_feeds}
 use Rattle.cal_base.specs.Xml.CanonicalXml.{text_octet, xml_text}
 use Rattle.cal_base.proofs.Xml.XmlMarkupLemmas.{markups-append}

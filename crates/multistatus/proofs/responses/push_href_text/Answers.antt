@@ -3,8 +3,9 @@ use Rattle.std.specs.Prelude.{codes}
 use Rattle.std.proofs.lemmas.Bool.Decides.{nat_tests}
 use Rattle.cal_model.specs.Replies.XmlText.{xml_text}
 use Rattle.dav_write.proofs.Appending.{on_ok_then, then_more}
+use Rattle.dav_write.proofs.ElementLemmas.{text_is_written}
 use Rattle.dav_write.proofs.ErrorLemmas.{filled}
-use Rattle.multistatus.proofs.ReplyLemmas.{href_empty, text_filled}
+use Rattle.multistatus.proofs.ReplyLemmas.{href_empty}
 use Rattle.multistatus.proofs.TagLemmas.{behind_front}
 use Rattle.multistatus.proofs.responses.push_href_text.Goals as goal
 
@@ -22,5 +23,5 @@ returns-clause-text c =
     on_ok_then c.extend_from_slice-3.result
     (λ written.
     then_more old (codes "<D:href>") _ c.in_ok-extend_from_slice.ensures.ok (then_more _ text (codes "</D:href>") c.in_ok-push_text.ensures.text written)
-    ∙ ap (λ text. old ++ text) (sym (filled (codes "D:href") [] text (text_filled c.args.href.now (grind (arith, nat_tests, c.is_empty.ensures, c.if-is_empty.false))))))
+    ∙ ap (λ text. old ++ text) (sym (filled (codes "D:href") [] text (text_is_written c.args.href.now (grind (arith, nat_tests, c.is_empty.ensures, c.if-is_empty.false))))))
     c.extend_from_slice-3.ensures.ok
