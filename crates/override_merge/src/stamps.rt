@@ -1,12 +1,12 @@
 //! Stamps beside a start (RFC 5545, 3.8.4.4 and 3.8.5.1).
-ghost use Rattle.std.specs.Prelude.{◌≡◌, ℕ, ◌<◌, length, ℤ, pos, neg_ℤ, ◌+ℤ◌, ◌-ℤ◌};
+ghost use Rattle.std.specs.Prelude.{◌≡◌, ℕ, ◌<◌, length, ℤ, pos, ◌+ℤ◌, ◌-ℤ◌};
 ghost use Rattle.cal_moment.specs.Calendar.{IsBetween};
 ghost use Rattle.cal_model.specs.Instances.Alignment as spec;
 ghost use Rattle.cal_model.specs.TimeZones.TableBounds.{IsDigits};
 ghost use Rattle.override_merge.specs.Conversions.{tables_of, HasZone, IsConvertible, IsRowTime};
 ghost use Rattle.override_merge.specs.AlignedStamps.{aligned_by, HasDigits};
 
-use crate::zones::{instant_beside, local_beside};
+use crate::zones::instant_beside;
 use cal_model::{LocalTimes, RowKind, written_value};
 use cal_moment::Stamp;
 
@@ -87,17 +87,5 @@ pub fn align(zones: &[LocalTimes<'_>], stamp: Stamp, start: Stamp) -> Aligned
         Stamp::Date(_) => Aligned::At(midnight_of(written_value(stamp))),
         Stamp::Floating(_) => align_floating(stamp),
         Stamp::Zoned(_, _) | Stamp::Utc(_) => align_timed(zones, stamp, start),
-    }
-}
-
-/// Whether what a stamp says beside a start names an instance that starts at a value.
-pub fn names_start(zones: &[LocalTimes<'_>], start: Stamp, value: i64, name: Aligned) -> bool
-    requires start { HasZone (length zones.now) start }
-    requires near { IsBetween (neg_ℤ (pos 180_000_000_000_000)) (pos 180_000_000_000_000) value }
-    ensures { result ≡ spec.names_start (spec.reading_of (tables_of zones.now) start) value (aligned_by name) }
-{
-    match name {
-        Aligned::At(named) => named == value,
-        Aligned::OnDay(midnight) => midnight == midnight_of(local_beside(zones, start, value)),
     }
 }
