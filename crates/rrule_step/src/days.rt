@@ -2,6 +2,7 @@
 ghost use Rattle.std.specs.Prelude.{◌≡◌, ℕ, ℤ, List, ◌+◌, ◌-◌, ◌*◌, ◌<◌, ◌≤◌, ◌==◌, true, false, if◌then◌else◌, slice_index_or};
 ghost use Rattle.std.specs.List.{list_any};
 ghost use Rattle.cal_moment.specs.Calendar as cal;
+ghost use Rattle.cal_model.specs.declared.rule.DayPart.{DayPart};
 ghost use Rattle.cal_model.specs.Recurrence.RuleBounds.{IsUsable};
 ghost use Rattle.cal_model.specs.Recurrence.Passing as spec;
 ghost use Rattle.cal_model.specs.Words.Lists as lists;
@@ -147,15 +148,13 @@ fn with_weekday(
     with_weeks(set, front, back, weekday, first, before, size)
 }
 
-/// The days that BYDAY names, weekday by weekday.
-fn all_weekdays(rule: &Rule, ordinals: &Ordinals, first: u32, before: u32, size: u32) -> Set
-    requires ordinals { AreOrdinals rule.now.by_day ordinals.now }
+/// The days that values of BYDAY name, weekday by weekday.
+fn all_weekdays(ordinals: &Ordinals, first: u32, before: u32, size: u32) -> Set
     requires first { first < 3_652_425 }
     requires before { before ≤ 366 }
     requires size { size ≤ 366 }
-    ensures { (i : ℕ) → i < 31 → has result i ≡ list_any (spec.weekday_passes (cal.weekday_of (first + i)) (before + i + 1) size) rule.now.by_day }
+    ensures { (parts : List DayPart) → AreOrdinals parts ordinals.now → (i : ℕ) → i < 31 → has result i ≡ list_any (spec.weekday_passes (cal.weekday_of (first + i)) (before + i + 1) size) parts }
 {
-    let _ = rule;
     let mut set = Set::none();
     for weekday in 0..7u32 {
         set = with_weekday(set, ordinals, weekday, first, before, size);
@@ -182,11 +181,11 @@ fn by_days(rule: &Rule, ordinals: &Ordinals, month: &Month) -> Set
         return Set::all();
     }
     if counts_in_month(rule.freq, &rule.by_month) {
-        all_weekdays(rule, ordinals, month.first, 0, month.size)
+        all_weekdays(ordinals, month.first, 0, month.size)
     } else {
         let before = days_before_month(month.year, month.month);
         let size = year_length(month.year);
-        all_weekdays(rule, ordinals, month.first, before, size)
+        all_weekdays(ordinals, month.first, before, size)
     }
 }
 

@@ -14,9 +14,9 @@ loop-weekday-preserved c = λ i lt.
     ∙ one_more (λ weekday. asks_of c.args.ordinals.now weekday (c.args.before + i + 1) c.args.size) (has c.loop-weekday.set i) (asks_of c.args.ordinals.now c.loop-weekday.weekday (c.args.before + i + 1) c.args.size) (weekday_of (c.args.first + i)) c.loop-weekday.weekday (c.loop-weekday.invariant i lt) refl
 
 pub returns : goal.returns
-returns c = λ i lt.
+returns c = λ parts are i lt.
     let small : weekday_of (c.args.first + i) < 7 = omega arith in
     let all : nat_lt (weekday_of (c.args.first + i)) c.loop-weekday.weekday ≡ true = lt-ltb (weekday_of (c.args.first + i)) c.loop-weekday.weekday (omega (arith, small, c.loop-weekday-test.false)) in
     c.loop-weekday.invariant i lt
     ∙ (ap (λ b. if b then asks_of c.args.ordinals.now (weekday_of (c.args.first + i)) (c.args.before + i + 1) c.args.size else false) all
-    ∙ asks_of-parts c.args.rule.now.by_day c.args.ordinals.now c.requires.ordinals (weekday_of (c.args.first + i)) (c.args.before + i + 1) c.args.size small (omega (arith, lt, c.requires.before)) c.requires.size)
+    ∙ asks_of-parts parts c.args.ordinals.now are (weekday_of (c.args.first + i)) (c.args.before + i + 1) c.args.size small (omega (arith, lt, c.requires.before)) c.requires.size)

@@ -14,10 +14,10 @@ all_weekdays-requires-else-counts_in_month-clause-size c = let most = year_at_mo
 pub returns-then-counts_in_month : goal.returns-then-counts_in_month
 returns-then-counts_in_month c = λ i lt.
     let bound = size_bound c.args.month.now in
-    c.all_weekdays.ensures i (omega (arith, bound, lt)) ∙ by_day_month_at c.args.month.now i lt c.args.rule.now (search rules) (search rules)
+    c.all_weekdays.ensures c.args.rule.now.by_day c.requires.ordinals i (omega (arith, bound, lt)) ∙ by_day_month_at c.args.month.now i lt c.args.rule.now (search rules) (search rules)
 
 pub returns-else-counts_in_month : goal.returns-else-counts_in_month
 returns-else-counts_in_month c = λ i lt.
     let bound = size_bound c.args.month.now in
-    c.all_weekdays-else-counts_in_month.ensures i (omega (arith, bound, lt))
+    c.all_weekdays-else-counts_in_month.ensures c.args.rule.now.by_day c.requires.ordinals i (omega (arith, bound, lt))
     ∙ by_day_year_at c.args.month.now i lt c.args.rule.now c.days_before_month-before.result c.year_length-size.result (search rules) (search rules) c.days_before_month-before.ensures.value c.year_length-size.ensures
