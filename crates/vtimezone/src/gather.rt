@@ -38,7 +38,7 @@ fn count(room: &mut u32, more: usize) -> Result<(), TableFault>
 fn add_dates(part: &ZonePart, dates: &[Local], changes: &mut List<Change>) -> Result<(), NoMemory>
     requires part { IsPart part.now }
     requires dates { All IsWritten dates.now }
-    ensures { OnOk result (spec.changes_of changes.new ≡ spec.changes_of changes.old ++ spec.changes_at part.now (map moment_of_local dates.now)) }
+    ensures { OnOk result (spec.HasAdded part.now (map moment_of_local dates.now) changes.old changes.new) }
 {
     let mut rest = dates;
     while let Some((date, behind)) = rest.split_first() {
@@ -62,9 +62,9 @@ fn add_set<R: ReadyRule, L: Ledger>(
     requires part { IsPart part.now }
     requires rule { IsUsable rule.now }
     requires coarse { is_fine rule.now.freq ≡ false }
-    ensures changes { OnOk result (spec.changes_of changes.new ≡ spec.changes_of changes.old ++ spec.changes_at part.now (zone.rule_moments every_moment part.now rule.now)) }
-    ensures room { OnOk result (room.new + length (zone.rule_moments every_moment part.now rule.now) ≡ room.old) }
-    ensures many { IsErrOf result TableFault.TooMany → room.old < length (zone.rule_moments every_moment part.now rule.now) }
+    ensures changes { OnOk result (spec.HasAdded part.now (spec.moments_of_rule part.now rule.now) changes.old changes.new) }
+    ensures room { OnOk result (room.new + length (spec.moments_of_rule part.now rule.now) ≡ room.old) }
+    ensures many { IsErrOf result TableFault.TooMany → room.old < length (spec.moments_of_rule part.now rule.now) }
 {
     count(room, 1)?;
     add_change(part, part.start, changes)?;
@@ -96,9 +96,9 @@ fn add_rule<R: Rules, L: Ledger>(
     requires part { IsPart part.now }
     requires rule { IsUsable rule.now }
     requires coarse { is_fine rule.now.freq ≡ false }
-    ensures changes { OnOk result (spec.changes_of changes.new ≡ spec.changes_of changes.old ++ spec.changes_at part.now (zone.rule_moments every_moment part.now rule.now)) }
-    ensures room { OnOk result (room.new + length (zone.rule_moments every_moment part.now rule.now) ≡ room.old) }
-    ensures many { IsErrOf result TableFault.TooMany → room.old < length (zone.rule_moments every_moment part.now rule.now) }
+    ensures changes { OnOk result (spec.HasAdded part.now (spec.moments_of_rule part.now rule.now) changes.old changes.new) }
+    ensures room { OnOk result (room.new + length (spec.moments_of_rule part.now rule.now) ≡ room.old) }
+    ensures many { IsErrOf result TableFault.TooMany → room.old < length (spec.moments_of_rule part.now rule.now) }
 {
     let ready = rules.ready(rule, part.start, false);
     add_set(alloc, &ready, part, rule, room, changes, steps)
@@ -117,7 +117,7 @@ fn add_rules<R: Rules, L: Ledger>(
     requires part { IsPart part.now }
     requires usable { All IsUsable of_part.now }
     requires coarse { All (λ (rule : Rule). is_fine rule.freq ≡ false) of_part.now }
-    ensures changes { OnOk result (spec.changes_of changes.new ≡ spec.changes_of changes.old ++ spec.changes_at part.now (flat_map (zone.rule_moments every_moment part.now) of_part.now)) }
+    ensures changes { OnOk result (spec.HasAdded part.now (flat_map (spec.moments_of_rule part.now) of_part.now) changes.old changes.new) }
     ensures room { OnOk result (room.new + spec.count_of_rules part.now of_part.now ≡ room.old) }
     ensures many { IsErrOf result TableFault.TooMany → room.old < spec.count_of_rules part.now of_part.now }
 {
