@@ -5,6 +5,5 @@ mod JournalLaws
 mod LoadWordLaws
 mod MigrateWordLaws
 mod Numbers
-mod RangeTexts
 mod SlotWordLaws
 mod WordLaws

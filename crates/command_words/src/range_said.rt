@@ -1,20 +1,13 @@
 //! The range that two words state, and the options that have them.
 ghost use Rattle.std.specs.Prelude.{◌≡◌, codes, false};
 ghost use Rattle.clap.specs.Words.{rule_of};
-ghost use Rattle.cal_model.specs.Bodies.RangeElements.{range_between};
-ghost use Rattle.cal_model.specs.Values.UtcTexts.{moment_in_utc, utc_of};
-ghost use Rattle.cal_model.specs.Values.ValueTexts.{utc_of_local};
-ghost use Rattle.cal_moment.specs.Calendar.{IsCalendarDay};
 ghost use Rattle.command_words.specs.Options.{needed};
 ghost use Rattle.command_words.specs.RangeSaid as spec;
 
 use crate::options::needed_option;
-use cal_model::{FIRST_DATE, LAST_DATE, Range};
-use cal_moment::{Local, Utc, read_date_time};
+use cal_model::{FIRST_DATE, LAST_DATE, Range, range_between, utc_of};
 use clap::Arg;
 use std::alloc::Global;
-
-const DAY_SECONDS: i64 = 86_400;
 
 /// The option that says where a range begins.
 pub(crate) fn from_option<'a>(alloc: Global) -> Arg<'a>
@@ -52,20 +45,6 @@ pub(crate) fn range_said(from: &str, to: &str) -> Option<Range>
     range_between(start, end)
 }
 
-/// The range from a moment up to a later one.
-fn range_between(start: i64, end: i64) -> Option<Range>
-    ensures { result ≡ range_between start end }
-{
-    if start < end {
-        Some(Range {
-            start: Utc(start),
-            end: Utc(end),
-        })
-    } else {
-        None
-    }
-}
-
 /// The moment that a word says, in seconds since 1970, if it is one of the dates that are served.
 fn moment_said(text: &str) -> Option<i64>
     ensures { result ≡ spec.moment_said text.now }
@@ -83,35 +62,4 @@ fn served(moment: i64) -> Option<i64>
     } else {
         None
     }
-}
-
-/// The moment that a DATE-TIME in UTC names (RFC 5545, 3.3.5), in seconds since 1970.
-#[tactic(auto, using(crate::proofs::RangeTexts::utc_read))]
-fn utc_of(text: &[u8]) -> Option<i64>
-    ensures { result ≡ utc_of text.now }
-{
-    match read_date_time(text) {
-        Ok((local, utc)) => moment_in_utc(local, utc),
-        Err(_) => None,
-    }
-}
-
-/// The moment of a local time, if it is one of UTC.
-#[tactic(auto, using(crate::proofs::RangeTexts::moment_of_utc, crate::proofs::RangeTexts::moment_of_none))]
-fn moment_in_utc(local: Local, utc: bool) -> Option<i64>
-    requires { IsCalendarDay local.day }
-    ensures { result ≡ moment_in_utc (local, utc) }
-{
-    if utc {
-        Some(moment_of_local(local))
-    } else {
-        None
-    }
-}
-
-fn moment_of_local(local: Local) -> i64
-    requires { IsCalendarDay local.day }
-    ensures { result ≡ (utc_of_local local).0 }
-{
-    i64::from(local.day) * DAY_SECONDS + i64::from(local.second)
 }

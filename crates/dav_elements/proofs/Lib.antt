@@ -8,6 +8,5 @@ pub mod RowLemmas
 pub mod NameLemmas
 pub mod DepthLemmas
 pub mod SettingLemmas
-pub mod RangeLemmas
 pub mod SetLemmas
 pub mod AclLemmas

@@ -1,18 +1,13 @@
 //! Ranges of time in a body (RFC 4791, 9.9).
 ghost use Rattle.std.specs.Prelude.{◌≡◌, option_map};
 ghost use Rattle.std.specs.Option.{option_copied};
-ghost use Rattle.cal_model.specs.Values.UtcTexts.{moment_in_utc, utc_of};
-ghost use Rattle.cal_model.specs.Values.ValueTexts.{utc_of_local};
 ghost use Rattle.cal_model.specs.Bodies.RangeElements as spec;
-ghost use Rattle.cal_moment.specs.Calendar.{IsCalendarDay};
 ghost use Rattle.dav_elements.specs.Texts.{text_there};
 
 use crate::parts::attribute;
 use cal_base::Element;
-use cal_model::{FIRST_DATE, LAST_DATE, Range};
-use cal_moment::{Local, Utc, read_date_time};
-
-const DAY_SECONDS: i64 = 86_400;
+use cal_model::{FIRST_DATE, LAST_DATE, Range, range_between, utc_of};
+use cal_moment::Utc;
 
 /// The range that an element states, if each end that is there is a UTC text and the end lies after
 /// the start. One of both may be absent.
@@ -33,19 +28,6 @@ fn range_of_ends(start: Option<&[u8]>, end: Option<&[u8]>) -> Option<Range>
     range_between(start, end)
 }
 
-fn range_between(start: i64, end: i64) -> Option<Range>
-    ensures { result ≡ spec.range_between start end }
-{
-    if start < end {
-        Some(Range {
-            start: Utc(start),
-            end: Utc(end),
-        })
-    } else {
-        None
-    }
-}
-
 /// The moment that a text spells, or another where there is no text.
 fn moment_or(absent: i64, text: Option<&[u8]>) -> Option<i64>
     ensures { result ≡ spec.moment_or absent (option_map text_there text.entry) }
@@ -54,37 +36,6 @@ fn moment_or(absent: i64, text: Option<&[u8]>) -> Option<i64>
         Some(text) => utc_of(text),
         None => Some(absent),
     }
-}
-
-/// The moment that a DATE-TIME in UTC names (RFC 5545, 3.3.5), in seconds since 1970.
-#[tactic(auto, using(crate::proofs::RangeLemmas::utc_read))]
-fn utc_of(text: &[u8]) -> Option<i64>
-    ensures { result ≡ utc_of text.now }
-{
-    match read_date_time(text) {
-        Ok((local, utc)) => moment_in_utc(local, utc),
-        Err(_) => None,
-    }
-}
-
-/// The moment of a local time, if it is one of UTC.
-#[tactic(auto, using(crate::proofs::RangeLemmas::moment_of_utc, crate::proofs::RangeLemmas::moment_of_none))]
-fn moment_in_utc(local: Local, utc: bool) -> Option<i64>
-    requires { IsCalendarDay local.day }
-    ensures { result ≡ moment_in_utc (local, utc) }
-{
-    if utc {
-        Some(moment_of_local(local))
-    } else {
-        None
-    }
-}
-
-fn moment_of_local(local: Local) -> i64
-    requires { IsCalendarDay local.day }
-    ensures { result ≡ (utc_of_local local).0 }
-{
-    i64::from(local.day) * DAY_SECONDS + i64::from(local.second)
 }
 
 /// Whether an element states no range.

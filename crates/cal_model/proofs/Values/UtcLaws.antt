@@ -1,12 +1,13 @@
--- A text that has a moment in UTC spells a DATE-TIME of UTC.
-use Rattle.std.proofs.Common.{◌≡◌, ℕ, true, false, Bool, List, codes, ◌++◌, Option, Some, None, ℤ, pos, refl, sym}
+-- A text that has a moment in UTC spells a DATE-TIME of UTC, and one that spells none has no moment.
+use Rattle.std.proofs.Common.{◌≡◌, ℕ, true, false, Bool, List, codes, ◌++◌, Option, Some, None, ℤ, pos, refl, sym, ap}
 use Rattle.std.specs.Prelude.{◌+ℤ◌, ◌*ℤ◌, option_and_then}
 use Rattle.std.proofs.lemmas.Option.{none-some, same_Some}
+use Rattle.cal_moment.specs.BadPlace.{IsBadAt}
 use Rattle.cal_moment.specs.Texts.{date_text, time_text, SpellsDateTime}
 use Rattle.cal_moment.specs.declared.stamp.Local.{Local}
-use Rattle.cal_model.specs.Values.ValueTexts.{date_time_of}
+use Rattle.cal_model.specs.Values.ValueTexts.{date_time_of, utc_of_local}
 use Rattle.cal_model.specs.Values.UtcTexts.{moment_in_utc, utc_of}
-use Rattle.cal_model.proofs.Values.ValueLaws.{SpellsDateTime-date_time_of}
+use Rattle.cal_model.proofs.Values.ValueLaws.{SpellsDateTime-date_time_of, date_time_of-SpellsDateTime}
 
 -- the text of a date and a time in UTC
 abbrev pub moment_text : ℕ → ℕ → ℕ → ℕ → ℕ → ℕ → List ℕ
@@ -26,3 +27,24 @@ unfolding utc_of
 SpellsDateTime-utc_of text at e =
     let read = of_utc (date_time_of text) at e in
     (read.0, SpellsDateTime-date_time_of text (read.0, true) read.1, read.2)
+
+-- The moment of a text, by what the text spells
+
+pub moment_of_utc : (local : Local) (utc : Bool) → utc ≡ true → moment_in_utc (local, utc) ≡ Some (utc_of_local local).0
+moment_of_utc local true e = refl
+moment_of_utc local false e = absurd cc
+
+pub moment_of_none : (local : Local) (utc : Bool) → utc ≡ false → moment_in_utc (local, utc) ≡ None
+moment_of_none local false e = refl
+moment_of_none local true e = absurd cc
+
+pub utc_read : (text : List ℕ) (time : Local × Bool) → SpellsDateTime text time → utc_of text ≡ moment_in_utc time
+unfolding utc_of
+utc_read text time spells = ap (option_and_then moment_in_utc) (date_time_of-SpellsDateTime text time spells)
+
+pub nothing_spelled : (text : List ℕ) (place : ℕ) → IsBadAt SpellsDateTime text place → utc_of text ≡ None
+nothing_spelled text place bad = by (utc_of text) refl
+  where
+    by : (found : Option ℤ) → utc_of text ≡ found → found ≡ None
+    by None e = refl
+    by (Some at) e = let spelled = SpellsDateTime-utc_of text at e in absurd (bad.outside ((spelled.0, true), spelled.1))

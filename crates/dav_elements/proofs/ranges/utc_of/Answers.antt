@@ -1,6 +1,0 @@
-use Rattle.std.proofs.Common.{sym}
-use Rattle.dav_elements.proofs.RangeLemmas.{nothing_spelled}
-use Rattle.dav_elements.proofs.ranges.utc_of.Goals as goal
-
-pub returns-in-Err : goal.returns-in-Err
-returns-in-Err c = sym (nothing_spelled c.args.text.now c.in-Err.field-0.place c.in-Err.ensures.err)
