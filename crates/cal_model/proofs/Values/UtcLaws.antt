@@ -1,17 +1,13 @@
 -- A text that has a moment in UTC spells a DATE-TIME of UTC, and one that spells none has no moment.
-use Rattle.std.proofs.Common.{◌≡◌, ℕ, true, false, Bool, List, codes, ◌++◌, Option, Some, None, ℤ, pos, refl, sym, ap}
+use Rattle.std.proofs.Common.{◌≡◌, ℕ, true, false, Bool, List, Option, Some, None, ℤ, pos, refl, sym, ap}
 use Rattle.std.specs.Prelude.{◌+ℤ◌, ◌*ℤ◌, option_and_then}
 use Rattle.std.proofs.lemmas.Option.{none-some, same_Some}
 use Rattle.cal_moment.specs.BadPlace.{IsBadAt}
-use Rattle.cal_moment.specs.Texts.{date_text, time_text, SpellsDateTime}
+use Rattle.cal_moment.specs.Texts.{SpellsDateTime}
 use Rattle.cal_moment.specs.declared.stamp.Local.{Local}
 use Rattle.cal_model.specs.Values.ValueTexts.{date_time_of, utc_of_local}
 use Rattle.cal_model.specs.Values.UtcTexts.{moment_in_utc, utc_of}
 use Rattle.cal_model.proofs.Values.ValueLaws.{SpellsDateTime-date_time_of, date_time_of-SpellsDateTime}
-
--- the text of a date and a time in UTC
-abbrev pub moment_text : ℕ → ℕ → ℕ → ℕ → ℕ → ℕ → List ℕ
-moment_text year month day hour minute second = date_text year month day ++ (codes "T" ++ (time_text hour minute second ++ codes "Z"))
 
 -- a moment is that of a local time of UTC
 of_utc : (time : Option (Local × Bool)) (at : ℤ) → option_and_then moment_in_utc time ≡ Some at
