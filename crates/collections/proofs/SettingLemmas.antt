@@ -6,19 +6,16 @@ use Rattle.std.specs.List.{insert, remove, list_any, AllByRecursion}
 use Rattle.std.specs.List.Sorted.{IsStrictlySortedBy}
 use Rattle.std.specs.declared.cmp.Ordering.{Ordering}
 use Rattle.std.specs.declared.cmp.Ordering.TheVariants.{Less, Equal, Greater}
-use Rattle.std.specs.Ordering.{match_ordering, is_eq, eq_by_cmp, ordering_then}
+use Rattle.std.specs.Ordering.{match_ordering, is_eq, eq_by_cmp}
 use Rattle.std.specs.BTreeMap.{is_at}
-use Rattle.std.specs.Cmp.{IsTotalOrder}
 use Rattle.std.specs.Map.{keys_of}
 use Rattle.std.proofs.lemmas.Bool.{cases_Bool, false≢true}
-use Rattle.std.proofs.lemmas.Cmp.{nat_list_cmp_total, then_total, on_total, eq_by_cmp_equiv}
+use Rattle.std.proofs.lemmas.Cmp.{eq_by_cmp_equiv}
 use Rattle.std.proofs.lemmas.Map.{lookup-remove_entry}
 use Rattle.std.proofs.lemmas.Map.Keys.{IsDistinct-from_sorted}
-use Rattle.std.proofs.lemmas.Map.Text.{is_eq-slice_cmp}
 use Rattle.std.proofs.lemmas.Option.{get_or_from_slice_get}
 use Rattle.std.proofs.lemmas.Slice.Eq.{bytes_eq-Decides}
 use Rattle.cal_base.specs.Lines.ComponentTrees.{or_else}
-use Rattle.cal_base.specs.Lists.NameMap.{name_order}
 use Rattle.cal_model.specs.declared.property.PropName.{PropName}
 use Rattle.cal_model.specs.declared.property.PropSet.{PropSet}
 use Rattle.cal_model.specs.Access.Privileges.{same_name}
@@ -27,13 +24,9 @@ use Rattle.cal_model.specs.State.ServerState.{calendar_timezone, own_zone}
 use Rattle.cal_model.specs.Objects.ObjectReading.{read_zone}
 use Rattle.cal_model.specs.Properties.PropertyTable.{Property, properties, row_of, text_row, in_both, text, in_caldav}
 use Rattle.cal_model.specs.Properties.Settings.{is_kinds, texts_after, texts_after_all, texts_with_value}
-use Rattle.cal_model.proofs.State.OrderLaws.{sorted-insert, sorted-remove}
+use Rattle.cal_model.proofs.State.TextOrder.{props_total, at_same}
+pub use Rattle.cal_model.proofs.State.TextOrder.{in_order-after, in_order-after_all}
 use Rattle.collections.specs.Settings.{texts_of, place_in, is_named_at, is_zone, last_zone, zone_set}
-
--- The order of names
-
-pub props_total : IsTotalOrder prop_order
-props_total = then_total (on_total (λ (name : PropName). name.space) nat_list_cmp_total) (on_total (λ (name : PropName). name.name) nat_list_cmp_total)
 
 -- Texts are settings
 
@@ -121,22 +114,6 @@ module _ (name : PropName) where
   absent [] in_order free = refl
   absent (entry ∷ texts) in_order free = absent_by (prop_order name entry.0) entry texts refl in_order.0 (absent texts in_order.1) free
 
--- Order stays
-
-pub in_order-after : (texts : Texts) (set : PropSet) → IsStrictlySortedBy prop_order (keys_of texts) → IsStrictlySortedBy prop_order (keys_of (texts_after texts set))
-in_order-after texts set in_order = either (is_kinds (row_of set.name).setting) set.value where
-  by_value : (value : Option (List ℕ)) → IsStrictlySortedBy prop_order (keys_of (texts_with_value texts set.name value))
-  by_value None = sorted-remove props_total _ texts in_order
-  by_value (Some value) = sorted-insert props_total texts set.name value in_order
-
-  either : (test : Bool) (value : Option (List ℕ)) → IsStrictlySortedBy prop_order (keys_of (if test then texts else texts_with_value texts set.name value))
-  either true value = in_order
-  either false value = by_value value
-
-pub in_order-after_all : (sets : List PropSet) (texts : Texts) → IsStrictlySortedBy prop_order (keys_of texts) → IsStrictlySortedBy prop_order (keys_of (texts_after_all texts sets))
-in_order-after_all [] texts in_order = in_order
-in_order-after_all (set ∷ sets) texts in_order = in_order-after_all sets (texts_after texts set) (in_order-after texts set in_order)
-
 -- The one row that is the list of kinds
 
 abbrev kinds_name : PropName
@@ -188,13 +165,6 @@ unfolding properties
 kinds_row name = by_rows properties (refl, (refl, (refl, (refl, (refl, (refl, (refl, (refl, (refl, (refl, (refl, (refl, (refl, (refl, (refl, (refl, (refl, (refl, (refl, (refl, (refl, (refl, (refl, tt))))))))))))))))))))))) name
 
 -- The time zone by its name
-
-pub at_same : (a b : PropName) → is_at (prop_order a) b ≡ same_name a b
-at_same a b = both (name_order a.space b.space) (name_order a.name b.name) ∙ (ap (λ x. x && is_eq (name_order a.name b.name)) (is_eq-slice_cmp a.space b.space) ∙ ap (λ y. bytes_eq a.space b.space && y) (is_eq-slice_cmp a.name b.name)) where
-  both : (x y : Ordering) → is_eq (ordering_then x y) ≡ (is_eq x && is_eq y)
-  both Less y = refl
-  both Equal y = refl
-  both Greater y = refl
 
 same-sym : (a b : PropName) → same_name a b ≡ same_name b a
 same-sym a b = elim (cases_Bool (same_name a b)) [

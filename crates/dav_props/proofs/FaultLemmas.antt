@@ -18,30 +18,20 @@ use Rattle.cal_model.specs.declared.reply.Refusal.{Refusal}
 use Rattle.cal_model.specs.Access.Privileges.{same_name}
 use Rattle.cal_model.specs.State.PropertyTexts.{Texts, prop_order}
 use Rattle.cal_model.specs.Objects.ObjectReading.{first_there}
-use Rattle.cal_model.specs.Properties.PropertyTable.{without_value, row_of}
+use Rattle.cal_model.specs.Properties.PropertyTable.{without_value}
 use Rattle.cal_model.specs.Properties.PropertyReplies.{once, is_refused, setting_answers}
-use Rattle.cal_model.specs.Properties.Settings.{setting_fault, texts_after, texts_with_value, is_kinds, faults_of_all}
+use Rattle.cal_model.specs.Properties.Settings.{setting_fault, texts_after, faults_of_all}
 use Rattle.cal_model.specs.Refusals.ChangeRefusals.{some_fault}
 use Rattle.cal_model.specs.Serving.EventReplies.{all_set}
-use Rattle.cal_model.proofs.State.OrderLaws.{sorted-insert, sorted-remove}
+use Rattle.cal_model.proofs.State.TextOrder.{at_same, in_order-after}
 use Rattle.multistatus.specs.NameKeys.{key}
 use Rattle.dav_props.specs.declared.setting_faults.Fault.{Fault}
 use Rattle.dav_props.specs.KeptTexts.{marked_by, marks, TellsRefused, answer_in}
 use Rattle.dav_props.specs.SettingFaults.{refusal_of}
 use Rattle.dav_props.specs.SettingChecks.{texts_passed, fault_in}
-use Rattle.dav_props.proofs.SettingLemmas.{props_total, key_order, at_same}
+use Rattle.dav_props.proofs.SettingLemmas.{key_order}
 
 -- Order stays
-
-pub in_order-after : (texts : Texts) (set : PropSet) → IsStrictlySortedBy prop_order (keys_of texts) → IsStrictlySortedBy prop_order (keys_of (texts_after texts set))
-in_order-after texts set in_order = either (is_kinds (row_of set.name).setting) set.value where
-  by_value : (value : Option (List ℕ)) → IsStrictlySortedBy prop_order (keys_of (texts_with_value texts set.name value))
-  by_value None = sorted-remove props_total _ texts in_order
-  by_value (Some value) = sorted-insert props_total texts set.name value in_order
-
-  either : (test : Bool) (value : Option (List ℕ)) → IsStrictlySortedBy prop_order (keys_of (if test then texts else texts_with_value texts set.name value))
-  either true value = in_order
-  either false value = by_value value
 
 pub in_order-passed : (making : Bool) (texts : Texts) (set : PropSet) → IsStrictlySortedBy prop_order (keys_of texts) → IsStrictlySortedBy prop_order (keys_of (texts_passed making texts set))
 in_order-passed making texts set in_order = by (is_some (setting_fault making texts set)) where

@@ -1,24 +1,21 @@
 -- The names of a calendar's texts, as settings change them, and which faults settings have.
 use Rattle.std.proofs.Common.{◌≡◌, ℕ, zero, suc, ◌+◌, ◌-◌, ◌<◌, ◌≤◌, drop, get_or, arith, Bool, true, false, cond, List, [], ◌∷◌, ◌++◌, length, Option, Some, None, refl, sym, ap, ap₂, ◌∙◌, subst}
-use Rattle.std.specs.Prelude.{bytes_eq, not, ◌&&◌, ◌==◌, is_some, is_none, unwrap_or, nat_le, if◌then◌else◌}
+use Rattle.std.specs.Prelude.{not, ◌&&◌, ◌==◌, is_some, is_none, unwrap_or, nat_le, if◌then◌else◌}
 use Rattle.std.specs.List.{AllByRecursion, slice_split}
 use Rattle.std.specs.List.Sorted.{IsStrictlySortedBy}
 use Rattle.std.specs.declared.cmp.Ordering.{Ordering}
 use Rattle.std.specs.declared.cmp.Ordering.TheVariants.{Less, Equal, Greater}
 use Rattle.std.specs.Ordering.{match_ordering, is_eq, ordering_then, nat_cmp}
-use Rattle.std.specs.Cmp.{IsTotalOrder}
 use Rattle.std.specs.BTreeMap.{is_at}
 use Rattle.std.specs.Map.{keys_of}
 use Rattle.std.proofs.lemmas.Bool.{false≢true, le-leb, lt-leb}
-use Rattle.std.proofs.lemmas.Cmp.{nat_list_cmp_total, then_total, on_total}
-use Rattle.std.proofs.lemmas.Map.Text.{is_eq-slice_cmp}
 use Rattle.cal_base.specs.Lists.NameMap.{Named, name_order, value_at, with_value, without}
 use Rattle.cal_model.specs.declared.property.PropName.{PropName}
 use Rattle.cal_model.specs.declared.property.PropSet.{PropSet}
-use Rattle.cal_model.specs.Access.Privileges.{same_name}
 use Rattle.cal_model.specs.State.PropertyTexts.{Texts, prop_order, text_at, with_text, without_text, as_settings}
 use Rattle.cal_model.specs.Properties.PropertyTable.{Property, is_text, listed_row, row_of, text_row, text_names, in_both, text}
 use Rattle.cal_model.specs.Properties.Settings.{is_kinds, texts_after, texts_with_value, is_one_too_many, kinds_in}
+use Rattle.cal_model.proofs.State.TextOrder.{props_total, at_same}
 use Rattle.multistatus.specs.NameKeys.{marked, key}
 use Rattle.dav_props.specs.KeptTexts.{kept_names, names_with, names_after}
 use Rattle.dav_props.proofs.RowLemmas.{same_name-true}
@@ -34,9 +31,6 @@ row_of_text name e = text_row-by name (listed_row name) e
 
 -- The order of names is that of their keys
 
-pub props_total : IsTotalOrder prop_order
-props_total = then_total (on_total (λ (name : PropName). name.space) nat_list_cmp_total) (on_total (λ (name : PropName). name.name) nat_list_cmp_total)
-
 then_assoc : (a b c : Ordering) → ordering_then a (ordering_then b c) ≡ ordering_then (ordering_then a b) c
 then_assoc Less b c = refl
 then_assoc Equal b c = refl
@@ -51,13 +45,6 @@ key_texts (c ∷ a) (d ∷ b) x y = ap (ordering_then (nat_cmp c d)) (key_texts 
 
 pub key_order : (a b : PropName) → name_order (key a) (key b) ≡ prop_order a b
 key_order a b = key_texts a.space b.space a.name b.name
-
-pub at_same : (a b : PropName) → is_at (prop_order a) b ≡ same_name a b
-at_same a b = both (name_order a.space b.space) (name_order a.name b.name) ∙ (ap (λ x. x && is_eq (name_order a.name b.name)) (is_eq-slice_cmp a.space b.space) ∙ ap (λ y. bytes_eq a.space b.space && y) (is_eq-slice_cmp a.name b.name)) where
-  both : (x y : Ordering) → is_eq (ordering_then x y) ≡ (is_eq x && is_eq y)
-  both Less y = refl
-  both Equal y = refl
-  both Greater y = refl
 
 same_at : (a b : PropName) → prop_order a b ≡ Equal → a ≡ b
 same_at a b e = same_name-true a b (sym (at_same a b) ∙ ap is_eq e)

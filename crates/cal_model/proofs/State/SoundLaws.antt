@@ -1,15 +1,13 @@
 -- Sound changes keep states sound.
-use Rattle.std.proofs.Common.{◌≡◌, ℕ, Bool, true, false, cond, List, [], ◌∷◌, length, Option, Some, None, refl, sym, ◌∙◌, subst, arith}
-use Rattle.std.specs.Prelude.{bytes_eq, get_or, slice_set, All, if◌then◌else◌, IfSome, IsTrue}
+use Rattle.std.proofs.Common.{◌≡◌, ℕ, cond, List, [], ◌∷◌, length, Option, Some, None, refl, sym, ◌∙◌, subst, arith}
+use Rattle.std.specs.Prelude.{bytes_eq, get_or, slice_set, All, IfSome, IsTrue}
 use Rattle.std.specs.declared.cmp.Ordering.{Ordering}
 use Rattle.std.specs.declared.cmp.Ordering.TheVariants.{Less, Equal, Greater}
 use Rattle.std.specs.Ordering.{is_eq}
-use Rattle.std.specs.Cmp.{IsTotalOrder}
 use Rattle.std.specs.List.Sorted.{IsStrictlySortedBy}
 use Rattle.std.specs.Str.{is_utf8, chars}
 use lib.Utf8.{encode}
-use Rattle.std.specs.Map.{keys_of}
-use Rattle.std.proofs.lemmas.Cmp.{nat_list_cmp_total, then_total, on_total}
+use Rattle.std.proofs.lemmas.Cmp.{nat_list_cmp_total}
 use Rattle.std.proofs.lemmas.List.{length-set, length-map}
 use Rattle.std.proofs.lemmas.List.Elements.{All-set, All-nil, All-cons, All-map}
 use Rattle.std.proofs.lemmas.Map.Lookups.{exact_bytes}
@@ -18,17 +16,16 @@ use Rattle.std.proofs.lemmas.List.Quantifiers.{position-Some}
 use Rattle.std.proofs.lemmas.Option.{slice_get-get_or}
 use Rattle.cal_base.specs.Lists.NameMap.{Named, value_at, with_value, name_order}
 use Rattle.cal_model.proofs.Words.AllLemmas.{All-slice_get}
-use Rattle.cal_model.specs.declared.property.PropName.{PropName}
 use Rattle.cal_model.specs.declared.property.PropSet.{PropSet}
 use Rattle.cal_model.specs.declared.privilege.Grant.{Grant}
 use Rattle.cal_model.specs.Paths.TargetPaths.{is_resource_name}
-use Rattle.cal_model.specs.State.PropertyTexts.{Texts, prop_order}
 use Rattle.cal_model.specs.State.ServerState.{Directory, Calendar, Home, ServerState, user_number, home_at, with_home, with_calendar, charged, opening_state, first_home, first_calendar}
-use Rattle.cal_model.specs.Properties.Settings.{texts_after, texts_after_all, texts_with_value, set_on, made_by}
+use Rattle.cal_model.specs.Properties.Settings.{set_on, made_by}
 use Rattle.cal_model.specs.State.Changes.{Change, put, delete_object, delete_calendar, make, patch, acl, effect, with_octets, without_octets, with_grants, without_calendar, with_new_calendar}
 use Rattle.cal_model.specs.Refusals.Preconditions.{IsServable}
 use Rattle.cal_model.specs.State.SoundStates.{AreToUsers, AreNamed, IsSoundCalendar, IsSoundHome, IsSound, IsSoundChange}
 use Rattle.cal_model.proofs.State.OrderLaws.{all_keys-insert, all_keys-remove, sorted-insert, sorted-remove}
+use Rattle.cal_model.proofs.State.TextOrder.{in_order-after_all}
 use Rattle.cal_model.specs.Serving.ServingLaws.{StatesStaySound}
 
 -- a home that is changed
@@ -110,25 +107,10 @@ with_grants-sound directory grants users calendar sound = record {
 }
 
 -- properties
-prop_order-total : IsTotalOrder prop_order
-prop_order-total = then_total (on_total (λ (name : PropName). name.space) nat_list_cmp_total) (on_total (λ (name : PropName). name.name) nat_list_cmp_total)
-
-with_value-in_order : (texts : Texts) (name : PropName) (value : Option (List ℕ)) → IsStrictlySortedBy prop_order (keys_of texts) → IsStrictlySortedBy prop_order (keys_of (texts_with_value texts name value))
-with_value-in_order texts name None sound = sorted-remove prop_order-total _ texts sound
-with_value-in_order texts name (Some value) sound = sorted-insert prop_order-total texts name value sound
-
-either-in_order : (test : Bool) (a b : Texts) → IsStrictlySortedBy prop_order (keys_of a) → IsStrictlySortedBy prop_order (keys_of b) → IsStrictlySortedBy prop_order (keys_of (if test then a else b))
-either-in_order true a b first second = first
-either-in_order false a b first second = second
-
-texts-in_order : (sets : List PropSet) (texts : Texts) → IsStrictlySortedBy prop_order (keys_of texts) → IsStrictlySortedBy prop_order (keys_of (texts_after_all texts sets))
-texts-in_order [] texts sound = sound
-texts-in_order (set ∷ sets) texts sound = texts-in_order sets (texts_after texts set) (either-in_order _ texts _ sound (with_value-in_order texts set.name set.value sound))
-
 set_on-sound : (directory : Directory) (sets : List PropSet) (calendar : Calendar) → IsSoundCalendar directory calendar → IsSoundCalendar directory (set_on sets calendar)
 set_on-sound directory sets calendar sound = record {
   grants = sound.grants;
-  texts_in_order = texts-in_order sets calendar.texts sound.texts_in_order;
+  texts_in_order = in_order-after_all sets calendar.texts sound.texts_in_order;
   objects_named = sound.objects_named;
   objects_in_order = sound.objects_in_order;
   servable = sound.servable;

@@ -3,7 +3,8 @@ use Rattle.cal_model.specs.Properties.Settings.{faults_of_all, setting_fault, te
 use Rattle.dav_props.specs.SettingChecks.{fault_in}
 use Rattle.dav_props.specs.KeptTexts.{names_after}
 use Rattle.dav_props.proofs.SettingLemmas.{kept_after}
-use Rattle.dav_props.proofs.FaultLemmas.{sorted_none, in_order-after, no_refusal, fault_passed, sets_behind}
+use Rattle.cal_model.proofs.State.TextOrder.{in_order-after}
+use Rattle.dav_props.proofs.FaultLemmas.{sorted_none, no_refusal, fault_passed, sets_behind}
 use Rattle.dav_props.proofs.setting_checks.first_fault_in.Goals as goal
 
 pub loop-set-init : goal.loop-set-init
