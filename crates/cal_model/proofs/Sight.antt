@@ -3,3 +3,4 @@ pub mod LookingAlikeLaws
 pub mod ViewLaws
 pub mod HiddenLaws
 pub mod SceneLaws
+pub mod CalendarSights

@@ -24,7 +24,8 @@ use Rattle.cal_model.proofs.State.NameWalkLaws.{home-sound}
 use Rattle.dav_props.specs.Subjects.{calendar_sight}
 use Rattle.object_walk.specs.WalkedObjects.{objects_at}
 use Rattle.dav_props.specs.Finding.{IsUpTo, asking, calendar_text, calendars_of, members_text, object_text}
-use Rattle.dav_props.proofs.SeenLemmas.{calendar_by, no_calendar, some_calendar, sight_there, calendar_seen, sight_is, some_held, unseen_of}
+use Rattle.cal_model.proofs.Sight.CalendarSights.{calendar_by, calendar_known, no_calendar, sight_there, some_calendar, some_held}
+use Rattle.dav_props.proofs.SeenLemmas.{sight_is, unseen_of}
 
 -- Up to a limit
 
@@ -121,21 +122,21 @@ module _ (directory : Directory) (state : ServerState) (who : ℕ) (props : Prop
   abbrev calendar_members : List ℕ → List ℕ → Option Sight → List Resource
   calendar_members user within sight = flat_map (λ (s : Sight). map (in_calendar user within s) (objects_seen s)) (option_to_list sight)
 
-  calendar_members_are : (user within : List ℕ) → members_text directory state who props (CalendarPath user within) ≡ flat_map response_of (calendar_members user within (calendar_by directory state who (user_number directory user) within))
+  calendar_members_are : (user within : List ℕ) → members_text directory state who props (CalendarPath user within) ≡ flat_map response_of (calendar_members user within (calendar_by sight_of directory state who (user_number directory user) within))
   unfolding scene_at
   calendar_members_are user within = refl
 
   pub no_members_of_no_user : (user within : List ℕ) → None ≡ user_number directory user → members_text directory state who props (CalendarPath user within) ≡ []
   no_members_of_no_user user within e =
-      calendar_members_are user within ∙ ap (λ number. flat_map response_of (calendar_members user within (calendar_by directory state who number within))) (sym e)
+      calendar_members_are user within ∙ ap (λ number. flat_map response_of (calendar_members user within (calendar_by sight_of directory state who number within))) (sym e)
 
   pub no_members_of_none : (user within : List ℕ) (owner : ℕ) → IsSound directory state → Some owner ≡ user_number directory user → None ≡ data_at state owner within
       → members_text directory state who props (CalendarPath user within) ≡ []
   no_members_of_none user within owner sound known e =
       calendar_members_are user within
-      ∙ ap (λ number. flat_map response_of (calendar_members user within (calendar_by directory state who number within))) (sym known)
+      ∙ ap (λ number. flat_map response_of (calendar_members user within (calendar_by sight_of directory state who number within))) (sym known)
       ∙ ap (λ sight. flat_map response_of (calendar_members user within sight))
-      (calendar_seen directory state who owner within sound ∙ ap (λ found. option_map (sight_of directory owner who) (option_filter (holds_some directory owner who) found)) (no_calendar directory state who owner within e))
+      (calendar_known sight_of directory state who owner within sound ∙ ap (λ found. option_map (sight_of directory owner who) (option_filter (holds_some directory owner who) found)) (no_calendar state owner within e))
 
   unread : (user within : List ℕ) (c : Calendar) (held : ℕ) (shown : Bool) → has_all held read ≡ false
       → flat_map response_of (calendar_members user within (cond shown (Some (sight_with held c)) None)) ≡ []
@@ -145,11 +146,11 @@ module _ (directory : Directory) (state : ServerState) (who : ℕ) (props : Prop
   pub no_members_unread : (user within : List ℕ) (owner : ℕ) (kept : CalendarData) (held : ℕ) → IsSound directory state → Some owner ≡ user_number directory user → Some kept ≡ data_at state owner within
       → held ≡ privileges_held (groups_of directory who) kept.acl.grants owner who → has_all held read ≡ false → members_text directory state who props (CalendarPath user within) ≡ []
   no_members_unread user within owner kept held sound known e is none =
-      let there = some_calendar directory state who owner within kept e in
+      let there = some_calendar state owner within kept e in
       let same : held ≡ held_on directory owner who there.0 = is ∙ ap (λ (k : CalendarData). privileges_held (groups_of directory who) k.acl.grants owner who) there.2 in
       calendar_members_are user within
-      ∙ ap (λ number. flat_map response_of (calendar_members user within (calendar_by directory state who number within))) (sym known)
-      ∙ ap (λ sight. flat_map response_of (calendar_members user within sight)) (sight_there directory state who owner within there.0 sound there.1)
+      ∙ ap (λ number. flat_map response_of (calendar_members user within (calendar_by sight_of directory state who number within))) (sym known)
+      ∙ ap (λ sight. flat_map response_of (calendar_members user within sight)) (sight_there sight_of directory state who owner within there.0 sound there.1)
       ∙ unread user within there.0 (held_on directory owner who there.0) (holds_some directory owner who there.0) (ap (λ h. has_all h read) (sym same) ∙ none)
 
   read_members : (user within : List ℕ) (c : Calendar) (held : ℕ) (sight : Sight) → has_all held read ≡ true → sight ≡ sight_with held c
@@ -165,16 +166,16 @@ module _ (directory : Directory) (state : ServerState) (who : ℕ) (props : Prop
       → held ≡ privileges_held (groups_of directory who) kept.acl.grants owner who → has_all held read ≡ true
       → (sight : Sight) × (sight.held ≡ held) × (flat_map (object_text directory who props user within sight) (objects_at state owner within) ≡ members_text directory state who props (CalendarPath user within))
   members_of_calendar user within owner kept held sound known e is all =
-      let there = some_calendar directory state who owner within kept e in
+      let there = some_calendar state owner within kept e in
       let same : held ≡ held_on directory owner who there.0 = is ∙ ap (λ (k : CalendarData). privileges_held (groups_of directory who) k.acl.grants owner who) there.2 in
       let sight = sight_of directory owner who there.0 in
-      let shown : holds_some directory owner who there.0 ≡ true = ap (λ h. not (h == 0)) (sym same) ∙ some_held directory state who held all in (
+      let shown : holds_some directory owner who there.0 ≡ true = ap (λ h. not (h == 0)) (sym same) ∙ some_held held all in (
         sight,
         sym same,
         ap (λ (found : Option Calendar). flat_map (object_text directory who props user within sight) (flat_map (λ (c : Calendar). c.objects) (option_to_list found))) there.1
             ∙ sym (calendar_members_are user within
-            ∙ ap (λ number. flat_map response_of (calendar_members user within (calendar_by directory state who number within))) (sym known)
-            ∙ ap (λ s. flat_map response_of (calendar_members user within s)) (sight_there directory state who owner within there.0 sound there.1 ∙ ap (λ b. cond b (Some sight) None) shown)
+            ∙ ap (λ number. flat_map response_of (calendar_members user within (calendar_by sight_of directory state who number within))) (sym known)
+            ∙ ap (λ s. flat_map response_of (calendar_members user within s)) (sight_there sight_of directory state who owner within there.0 sound there.1 ∙ ap (λ b. cond b (Some sight) None) shown)
             ∙ read_members user within there.0 (held_on directory owner who there.0) sight (ap (λ h. has_all h read) (sym same) ∙ all) refl),
       )
 

@@ -1,22 +1,20 @@
 -- What a store's look-ups give of a calendar and of an object is what is seen of them at a path.
-use Rattle.std.proofs.Common.{◌≡◌, ℕ, Bool, true, false, not, ◌||◌, cond, ◌==◌, List, Option, Some, None, refl, sym, ap, subst, ◌∙◌, arith}
+use Rattle.std.proofs.Common.{◌≡◌, ℕ, Bool, true, false, not, cond, ◌==◌, List, Option, Some, None, refl, sym, ap, subst, ◌∙◌}
 use Rattle.std.specs.Prelude.{option_map, option_and_then}
 use Rattle.std.specs.Borrow.{Bor}
-use Rattle.std.proofs.lemmas.Bool.Decides.{nat_tests}
 use Rattle.std.proofs.lemmas.Map.Entries.{option_filter}
-use Rattle.cal_base.specs.Lists.NameMap.{Named, value_at}
+use Rattle.cal_base.specs.Lists.NameMap.{value_at}
 use Rattle.cal_model.specs.declared.path.Path.{Path}
 use Rattle.cal_model.specs.declared.path.Path.TheVariants.{Object as ObjectPath}
 use Rattle.cal_model.specs.declared.store.CalendarData.{CalendarData}
-use Rattle.cal_model.specs.Words.Lists.{is_empty}
 use Rattle.cal_model.specs.Access.Privileges.{privileges_held, has_all, read}
-use Rattle.cal_model.specs.State.ServerState.{Directory, Calendar, Home as UserHome, ServerState, groups_of, home_at, calendar_at, octets_at}
-use Rattle.cal_model.specs.State.StoredData.{data_of, data_at}
-use Rattle.cal_model.specs.State.SoundStates.{AreToUsers, HaveGroups, IsSound}
-use Rattle.cal_model.specs.Sight.Views.{Sight, Contents, held_on, contents_of, only_where, home_by}
+use Rattle.cal_model.specs.State.ServerState.{Directory, Calendar, ServerState, groups_of, calendar_at, octets_at}
+use Rattle.cal_model.specs.State.StoredData.{data_at}
+use Rattle.cal_model.specs.State.SoundStates.{IsSound}
+use Rattle.cal_model.specs.Sight.Views.{Sight, Contents, held_on, contents_of, only_where}
 use Rattle.cal_model.specs.Sight.Scenes.{at_both, octets_seen, object_in, calendar_in}
-use Rattle.cal_model.proofs.Sight.SceneLaws.{holds_some, home_in-view, calendar_in-scene}
-use Rattle.cal_model.proofs.State.NameWalkLaws.{calendar-sound, home-sound, have_groups}
+use Rattle.cal_model.proofs.Sight.SceneLaws.{holds_some}
+use Rattle.cal_model.proofs.Sight.CalendarSights.{calendar_known, no_calendar, not_zero, sight_there, some_calendar}
 use Rattle.request_checks.specs.declared.looks.Look.{Look}
 use Rattle.request_checks.specs.declared.looks.Look.TheVariants.{Own, Whole}
 use Rattle.request_checks.specs.Sightings.{eyes_of, calendar_seen, held_of, held_on_sight, held_or_nothing, shows_objects, IsSoundAt}
@@ -26,64 +24,13 @@ held-eyes : (look : Look) (directory : Directory) (owner who : ℕ) (c : Calenda
 held-eyes Own directory owner who c = refl
 held-eyes Whole directory owner who c = refl
 
--- a store's data are those of the calendar
-data_is : (state : ServerState) (owner : ℕ) (name : List ℕ) → data_at state owner name ≡ option_map (data_of owner) (calendar_at state owner name)
-data_is state owner name = by (home_at state owner) where
-  by : (found : Option UserHome) → option_and_then (λ (h : UserHome). option_map (data_of owner) (value_at h.calendars name)) found ≡ option_map (data_of owner) (option_and_then (λ (h : UserHome). value_at h.calendars name) found)
-  by None = refl
-  by (Some home) = refl
-
-no_calendar : (state : ServerState) (owner : ℕ) (name : List ℕ) → None ≡ data_at state owner name → calendar_at state owner name ≡ None
-no_calendar state owner name e = by (calendar_at state owner name) (e ∙ data_is state owner name) where
-  by : (found : Option Calendar) → None ≡ option_map (data_of owner) found → found ≡ None
-  by None e = refl
-  by (Some c) e = absurd cc
-
-some_calendar : (state : ServerState) (owner : ℕ) (name : List ℕ) (kept : CalendarData) → Some kept ≡ data_at state owner name
-    → (c : Calendar) × (calendar_at state owner name ≡ Some c) × (kept ≡ data_of owner c)
-some_calendar state owner name kept e = by (calendar_at state owner name) (e ∙ data_is state owner name) where
-  by : (found : Option Calendar) → Some kept ≡ option_map (data_of owner) found → (c : Calendar) × (found ≡ Some c) × (kept ≡ data_of owner c)
-  by None e = absurd cc
-  by (Some c) e = let same : kept ≡ data_of owner c = cc in (c, refl, same)
-
--- the grants of a calendar that is looked up name groups that there are
-pub grants_of : (directory : Directory) (state : ServerState) (owner : ℕ) (name : List ℕ) (kept : CalendarData) → IsSound directory state → Some kept ≡ data_at state owner name
-    → HaveGroups directory kept.acl.grants
-grants_of directory state owner name kept sound e =
-    let found = some_calendar state owner name kept e in
-    have_groups directory kept.acl.grants (subst (λ (k : CalendarData). AreToUsers directory k.acl.grants) (sym found.2) (calendar-sound directory state owner name found.0 sound found.1).grants)
-
 module _ (look : Look) (directory : Directory) (state : ServerState) (who : ℕ) where
   abbrev looked : ℕ → List ℕ → Option Sight
   looked owner name = calendar_seen look directory state who (Some owner) (Some name)
 
-  -- the calendar that is seen is that of the state, where some privilege is held
-  calendar_known : (owner : ℕ) (name : List ℕ) → IsSound directory state
-      → looked owner name ≡ option_map (eyes_of look directory owner who) (option_filter (holds_some directory owner who) (calendar_at state owner name))
-  calendar_known owner name sound = by (home_at state owner) refl where
-    by : (found : Option UserHome) → home_at state owner ≡ found → looked owner name ≡ option_map (eyes_of look directory owner who) (option_filter (holds_some directory owner who) (calendar_at state owner name))
-    by None e =
-        ap (λ o. at_both (option_and_then (λ (calendars : Named Sight). cond ((owner == who) || not (is_empty calendars)) (Some calendars) None) o) (Some name))
-        (home_in-view (eyes_of look) directory state who owner ∙ ap (option_map (λ (h : UserHome). home_by (eyes_of look) directory who (owner, h))) e)
-        ∙ sym (ap (λ (o : Option UserHome). option_map (eyes_of look directory owner who) (option_filter (holds_some directory owner who) (option_and_then (λ (h : UserHome). value_at h.calendars name) o))) e)
-    by (Some home) e = calendar_in-scene (eyes_of look) directory state who owner home name e (home-sound directory state owner home sound e).in_order
-
   nothing_known : (owner : ℕ) (name : List ℕ) → IsSound directory state → calendar_at state owner name ≡ None → looked owner name ≡ None
   nothing_known owner name sound none =
-      calendar_known owner name sound ∙ ap (λ found. option_map (eyes_of look directory owner who) (option_filter (holds_some directory owner who) found)) none
-
-  -- a calendar that is there, as it is seen
-  sight_there : (owner : ℕ) (name : List ℕ) (c : Calendar) → IsSound directory state → calendar_at state owner name ≡ Some c
-      → looked owner name ≡ cond (holds_some directory owner who c) (Some (eyes_of look directory owner who c)) None
-  sight_there owner name c sound there =
-      calendar_known owner name sound ∙ ap (λ found. option_map (eyes_of look directory owner who) (option_filter (holds_some directory owner who) found)) there
-      ∙ by (holds_some directory owner who c) where
-        by : (test : Bool) → option_map (eyes_of look directory owner who) (cond test (Some c) None) ≡ cond test (Some (eyes_of look directory owner who c)) None
-        by true = refl
-        by false = refl
-
-  not_zero : (n : ℕ) → (n ≡ 0 → ⊥) → not (n == 0) ≡ true
-  not_zero n some = let test : (n == 0) ≡ false = grind (arith, nat_tests) in ap not test
+      calendar_known (eyes_of look) directory state who owner name sound ∙ ap (λ found. option_map (eyes_of look directory owner who) (option_filter (holds_some directory owner who) found)) none
 
   -- What is looked up
 
@@ -96,7 +43,7 @@ module _ (look : Look) (directory : Directory) (state : ServerState) (who : ℕ)
       let found = some_calendar state owner name kept e in
       let same : held ≡ held_on directory owner who found.0 = is ∙ ap (λ (k : CalendarData). privileges_held (groups_of directory who) k.acl.grants owner who) found.2 in
       let test : holds_some directory owner who found.0 ≡ false = ap (λ h. not (h == 0)) (sym same ∙ none) in
-      sight_there owner name found.0 sound found.1 ∙ ap (λ b. cond b (Some (eyes_of look directory owner who found.0)) None) test
+      sight_there (eyes_of look) directory state who owner name found.0 sound found.1 ∙ ap (λ b. cond b (Some (eyes_of look directory owner who found.0)) None) test
 
   -- a calendar is seen on which this is held
   pub visible : (owner : ℕ) (name : List ℕ) (kept : CalendarData) (held : ℕ) → IsSound directory state → Some kept ≡ data_at state owner name
@@ -106,7 +53,7 @@ module _ (look : Look) (directory : Directory) (state : ServerState) (who : ℕ)
       let same : held ≡ held_on directory owner who found.0 = is ∙ ap (λ (k : CalendarData). privileges_held (groups_of directory who) k.acl.grants owner who) found.2 in
       let test : holds_some directory owner who found.0 ≡ true = ap (λ h. not (h == 0)) (sym same) ∙ not_zero held some in
       let seen : looked owner name ≡ Some (eyes_of look directory owner who found.0) =
-      sight_there owner name found.0 sound found.1 ∙ ap (λ b. cond b (Some (eyes_of look directory owner who found.0)) None) test in
+      sight_there (eyes_of look) directory state who owner name found.0 sound found.1 ∙ ap (λ b. cond b (Some (eyes_of look directory owner who found.0)) None) test in
       ap Some (same ∙ sym (held-eyes look directory owner who found.0)) ∙ sym (ap held_on_sight seen)
 
   -- Objects
@@ -142,9 +89,9 @@ module _ (look : Look) (directory : Directory) (state : ServerState) (who : ℕ)
         ap (λ sight. at_both (octets_seen sight) (Some name)) (nothing_known owner within sound e)
         ∙ sym (same_none (shows_objects look held) (octets_at state owner within name) (octets_there owner within name None e))
     by (Some c) e =
-        ap (λ sight. at_both (octets_seen sight) (Some name)) (sight_there owner within c sound e)
+        ap (λ sight. at_both (octets_seen sight) (Some name)) (sight_there (eyes_of look) directory state who owner within c sound e)
         ∙ object_of_sight look owner c name (holds_some directory owner who c) refl
-        ∙ ap (λ sight. cond (shows_objects look (held_or_nothing (held_on_sight sight))) (value_at c.objects name) None) (sym (sight_there owner within c sound e))
+        ∙ ap (λ sight. cond (shows_objects look (held_or_nothing (held_on_sight sight))) (value_at c.objects name) None) (sym (sight_there (eyes_of look) directory state who owner within c sound e))
         ∙ ap (λ h. cond (shows_objects look h) (value_at c.objects name) None) (sym is)
         ∙ ap (λ o. cond (shows_objects look held) o None) (sym (octets_there owner within name (Some c) e))
 

@@ -18,7 +18,7 @@ use Rattle.cal_model.specs.Sight.Views.{Sight, seen_by}
 use Rattle.cal_model.specs.State.ServerState.{Directory, ServerState, calendar_at}
 use Rattle.cal_model.specs.State.StoredData.{data_at}
 use Rattle.cal_model.proofs.History.ReplayLaws.{user_name-number}
-use Rattle.dav_props.proofs.SeenLemmas.{some_calendar}
+use Rattle.cal_model.proofs.Sight.CalendarSights.{some_calendar}
 use Rattle.dav_reports.specs.CalendarObjects.{entries_cost, objects_concerned}
 use Rattle.dav_reports.specs.PieceRows.{Held}
 use Rattle.dav_reports.specs.ReportOutcomes.{calendar_scene, privilege_needed}
@@ -82,7 +82,7 @@ calendar-there directory state shown seen path user name home report is kept at 
   by (Some p) told here =
       let kept_there : data_at state home name ≡ Some p.1.now =
       subst (λ (place : Option ℕ × Path). IsDataAt state place.0 (calendar_in place.1) p.1.now) (λ i. (owner i, at i)) here in
-      subst IsSome (sym (some_calendar directory state 0 home name p.1.now (sym kept_there)).1) refl
+      subst IsSome (sym (some_calendar state home name p.1.now (sym kept_there)).1) refl
 
 -- what the report costs that is asked for there
 pub cost-run : (held : Held) (origins : Origins) (directory : Directory) (state : ServerState) (found : Option ℕ) (path : Path) (asked : Content) (home : ℕ) (user name : List ℕ) (report : ReportRequest)

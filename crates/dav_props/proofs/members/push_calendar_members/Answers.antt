@@ -8,7 +8,7 @@ use Rattle.cal_model.specs.State.StoredData.{data_at}
 use Rattle.object_walk.specs.WalkedObjects.{objects_at}
 use Rattle.dav_props.specs.Finding.{members_text, object_text}
 use Rattle.dav_props.proofs.MemberLemmas.{members_of_calendar, no_members_of_no_user, no_members_of_none, no_members_unread, nothing_more, up_to_as}
-use Rattle.dav_props.proofs.SeenLemmas.{groups_known}
+use Rattle.cal_model.proofs.Sight.CalendarSights.{groups_known}
 use Rattle.dav_props.proofs.members.push_calendar_members.Goals as goal
 
 pub returns-in_default : goal.returns-in_default
@@ -36,7 +36,7 @@ returns-in_default-calendar g c =
 pub held-held-requires-clause-groups : goal.held-held-requires-clause-groups
 held-held-requires-clause-groups g c =
     let state = g.V.View.state c.args.seen.now.view.now in
-    groups_known (g.V.View.directory c.args.seen.now.view.now) state c.args.seen.now.who c.in-Some.owner c.args.calendar.now c.in-Some-calendar.kept.now c.calendar.ensures.sound
+    groups_known (g.V.View.directory c.args.seen.now.view.now) state c.in-Some.owner c.args.calendar.now c.in-Some-calendar.kept.now c.calendar.ensures.sound
     (c.in-Some-calendar.ensures.«data» ∙ ap (data_at state c.in-Some.owner) c.as_slice-2.ensures)
 
 pub returns-then-not-has_all : goal.returns-then-not-has_all

@@ -4,7 +4,8 @@ use Rattle.cal_model.specs.State.StoredData.{data_at}
 use Rattle.cal_model.specs.declared.path.Path.TheVariants.{Calendar as CalendarPath}
 use Rattle.dav_props.specs.declared.subjects.Subject.TheVariants as subject
 use Rattle.dav_props.specs.Subjects.{IsSeenAs}
-use Rattle.dav_props.proofs.SeenLemmas.{no_user, not_there, hidden, found, groups_known}
+use Rattle.cal_model.proofs.Sight.CalendarSights.{groups_known}
+use Rattle.dav_props.proofs.SeenLemmas.{no_user, not_there, hidden, found}
 use Rattle.dav_props.proofs.subjects.calendar_at.Goals as goal
 
 pub returns-in_err-owner : goal.returns-in_err-owner
@@ -23,7 +24,7 @@ returns-in_err-calendar g c =
 pub held-held-requires-clause-groups : goal.held-held-requires-clause-groups
 held-held-requires-clause-groups g c =
     let state = g.V.View.state c.args.seen.now.view.now in
-    groups_known (g.V.View.directory c.args.seen.now.view.now) state c.args.seen.now.who c.in_ok-owner.owner c.args.name.now c.in_ok-calendar.calendar.now c.calendar.ensures.sound
+    groups_known (g.V.View.directory c.args.seen.now.view.now) state c.in_ok-owner.owner c.args.name.now c.in_ok-calendar.calendar.now c.calendar.ensures.sound
     (c.in_ok-calendar.ensures.«data» ∙ ap (data_at state c.in_ok-owner.owner) c.as_slice-2.ensures)
 
 pub returns-then-held-eq0 : goal.returns-then-held-eq0

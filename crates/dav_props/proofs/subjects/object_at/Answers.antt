@@ -5,7 +5,8 @@ use Rattle.cal_model.specs.declared.path.Path.TheVariants.{Object as ObjectPath}
 use Rattle.cal_model.specs.declared.stored.Stored.{Stored}
 use Rattle.dav_props.specs.declared.subjects.Subject.TheVariants as subject
 use Rattle.dav_props.specs.Subjects.{IsSeenAs}
-use Rattle.dav_props.proofs.SeenLemmas.{no_user_of_object, not_there_of_object, unread_object, no_object, found_object, groups_known}
+use Rattle.cal_model.proofs.Sight.CalendarSights.{groups_known}
+use Rattle.dav_props.proofs.SeenLemmas.{no_user_of_object, not_there_of_object, unread_object, no_object, found_object}
 use Rattle.dav_props.proofs.subjects.object_at.Goals as goal
 
 pub returns-in_err-owner : goal.returns-in_err-owner
@@ -25,7 +26,7 @@ returns-in_err-data g c =
 pub held-held-requires-clause-groups : goal.held-held-requires-clause-groups
 held-held-requires-clause-groups g c =
     let state = g.V.View.state c.args.seen.now.view.now in
-    groups_known (g.V.View.directory c.args.seen.now.view.now) state c.args.seen.now.who c.in_ok-owner.owner c.args.calendar.now c.in_ok-data.data.now c.calendar.ensures.sound
+    groups_known (g.V.View.directory c.args.seen.now.view.now) state c.in_ok-owner.owner c.args.calendar.now c.in_ok-data.data.now c.calendar.ensures.sound
     (c.in_ok-data.ensures.«data» ∙ ap (data_at state c.in_ok-owner.owner) c.as_slice-2.ensures)
 
 pub returns-then-not-has_all : goal.returns-then-not-has_all
