@@ -88,11 +88,16 @@ fn ask(alloc: Global, wire: &WireRequest, users: &Users) -> Asked {
     }
 }
 
+/// Whether this is told of what is asked for.
+fn is_that(asked: &Asked, wanted: Told) -> bool {
+    let found = told(asked);
+    found.0 == wanted.0 && found.1 == wanted.1
+}
+
 /// Whether this is told of a request.
 fn is_told_of(alloc: Global, users: &Users, wire: &WireRequest, wanted: Told) -> bool {
     let asked = ask(alloc, wire, users);
-    let found = told(&asked);
-    found.0 == wanted.0 && found.1 == wanted.1
+    is_that(&asked, wanted)
 }
 
 /// Whether that of a row is told of its request.

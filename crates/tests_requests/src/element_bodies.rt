@@ -3,6 +3,7 @@
 use crate::element_details::{CALENDAR_DATA, ONE_FILTER, THREE_GRANTS, VALUES};
 use crate::element_words::is_told;
 use cal_model::Method;
+use std::alloc::Global;
 
 /// A body without the declarations of the prefixes, and what is told of it.
 pub type Row = (&'static [u8], &'static [u8]);
@@ -181,12 +182,20 @@ const BODIES: &[(&str, Method, bool, &[Row])] = &[
     ("three grants", Method::Acl, true, THREE_GRANTS),
 ];
 
-#[test]
-fn bodies_are_told(rt: HostRuntime) {
+/// What the first bodies ask for of which something else is told, or nothing.
+fn first_wrong(alloc: Global) -> &'static str {
     for (name, method, to_the_last_value, rows) in BODIES {
         for (bare, words) in *rows {
-            let so = is_told(rt.alloc(), *method, bare, words, *to_the_last_value);
-            assert!(rt; so, "{name}");
+            if !is_told(alloc, *method, bare, words, *to_the_last_value) {
+                return *name;
+            }
         }
     }
+    ""
+}
+
+#[test]
+fn bodies_are_told(rt: HostRuntime) {
+    let wrong = first_wrong(rt.alloc());
+    assert!(rt; wrong.is_empty(), "{wrong}");
 }

@@ -31,7 +31,14 @@ fn content_in(alloc: Global, method: Method, root: &Element) -> Result<Content, 
     }
 }
 
-/// Whether these words tell what the root of a body asks for, and if that is looked at, to the last value.
+/// Whether these words tell what is asked for, and if that is looked at, to the last value.
+fn is_told_of_content(content: &Content, words: &[u8], to_the_last_value: bool) -> bool {
+    let mut wanted = Wanted::new(words);
+    put_content(&mut wanted, content);
+    wanted.is_whole() && (!to_the_last_value || is_that_content(content))
+}
+
+/// The same of what a method takes from the root of a body.
 fn is_told_of_root(
     alloc: Global,
     method: Method,
@@ -40,11 +47,7 @@ fn is_told_of_root(
     to_the_last_value: bool,
 ) -> bool {
     match content_in(alloc, method, root) {
-        Ok(content) => {
-            let mut wanted = Wanted::new(words);
-            put_content(&mut wanted, &content);
-            wanted.is_whole() && (!to_the_last_value || is_that_content(&content))
-        }
+        Ok(content) => is_told_of_content(&content, words, to_the_last_value),
         Err(NoMemory) => false,
     }
 }

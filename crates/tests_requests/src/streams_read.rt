@@ -220,15 +220,23 @@ fn gives(
     Ok(is_read_so(alloc, stream.as_slice(), want.as_slice(), places))
 }
 
-#[test]
-fn streams_are_read_in_any_pieces(rt: HostRuntime) {
+/// What the first streams are that give something else, or nothing.
+fn first_wrong(alloc: Global) -> &'static str {
     for (name, front, rows, places) in STREAMS {
         for (stream, want) in *rows {
             let stream = [Part(*front, 1), Part(*stream, 1)];
-            let so = gives(rt.alloc(), &stream, &[Part(*want, 1)], *places);
-            assert!(rt; so == Ok(true), "{name}");
+            if gives(alloc, &stream, &[Part(*want, 1)], *places) != Ok(true) {
+                return *name;
+            }
         }
     }
+    ""
+}
+
+#[test]
+fn streams_are_read_in_any_pieces(rt: HostRuntime) {
+    let wrong = first_wrong(rt.alloc());
+    assert!(rt; wrong.is_empty(), "{wrong}");
 }
 
 const CHUNKED: Part<'static> = Part(b"PUT /a HTTP/1.1\r\nTransfer-Encoding: chunked\r\n\r\n", 1);
@@ -258,7 +266,7 @@ const EMPTY_PUT: Part<'static> = Part(b"PUT /a 0 - - - - - - <>\nidle", 1);
 
 const BAD_CHUNK: Part<'static> = Part(b"BadChunk", 1);
 
-const LIMITS: &[Limit] = &[
+const HEAD_LIMITS: &[Limit] = &[
     // 19 octets, 16,361 and 4
     Limit {
         name: "a head of 16,384 octets",
@@ -300,6 +308,9 @@ const LIMITS: &[Limit] = &[
         stream: &[START, Part(b"a:b\r\n", 101), Part(b"\r\n", 1)],
         gives: &[LONG_HEAD],
     },
+];
+
+const BODY_LIMITS: &[Limit] = &[
     Limit {
         name: "a chunk line of 256 octets",
         stream: &[CHUNKED, Part(b"0;", 1), Part(b"e", 252), HEAD_END],
@@ -333,31 +344,52 @@ const LIMITS: &[Limit] = &[
 ];
 
 #[test]
-fn streams_have_their_limits(rt: HostRuntime) {
-    for limit in LIMITS {
+fn heads_have_their_limits(rt: HostRuntime) {
+    for limit in HEAD_LIMITS {
         let so = gives(rt.alloc(), limit.stream, limit.gives, 10);
         assert!(rt; so == Ok(true), "{}", limit.name);
     }
 }
 
+#[test]
+fn bodies_have_their_limits(rt: HostRuntime) {
+    for limit in BODY_LIMITS {
+        let so = gives(rt.alloc(), limit.stream, limit.gives, 10);
+        assert!(rt; so == Ok(true), "{}", limit.name);
+    }
+}
+
+/// How many octets the body of the next request has, if one is next.
+fn next_body(alloc: Global, wire: &mut Wire) -> Option<usize> {
+    match wire.next(alloc) {
+        Next::Request(request) => Some(request.body.len()),
+        _ => None,
+    }
+}
+
 /// How many requests a stream gives that comes in two pieces, and how many octets their bodies have; none
 /// where there is no memory.
-fn counted(alloc: Global, pieces: [&[u8]; 2]) -> (usize, usize) {
-    let mut wire = Wire::new(alloc);
+fn counted(alloc: Global, wire: &mut Wire, pieces: [&[u8]; 2]) -> (usize, usize) {
     let mut requests: usize = 0;
     let mut octets: usize = 0;
     let mut fed = true;
     for piece in pieces {
         fed = wire.feed(alloc, piece).is_ok() && fed;
         for _ in 0..100_000 {
-            let Next::Request(request) = wire.next(alloc) else {
+            let Some(count) = next_body(alloc, wire) else {
                 break;
             };
             requests = requests.saturating_add(1);
-            octets = octets.saturating_add(request.body.len());
+            octets = octets.saturating_add(count);
         }
     }
     if fed { (requests, octets) } else { (0, 0) }
+}
+
+/// The same of a new wire.
+fn counted_anew(alloc: Global, pieces: [&[u8]; 2]) -> (usize, usize) {
+    let mut wire = Wire::new(alloc);
+    counted(alloc, &mut wire, pieces)
 }
 
 /// Whether a stream gives so many requests and octets, wherever it is cut.
@@ -375,7 +407,8 @@ fn is_counted_so(
         } else {
             stream.len()
         };
-        same = counted(alloc, [&stream[..first], &stream[first..]]) == want && same;
+        let got = counted_anew(alloc, [&stream[..first], &stream[first..]]);
+        same = same && got == want;
     }
     Ok(same)
 }
@@ -404,18 +437,22 @@ fn large_bodies_and_many_requests_are_read(rt: HostRuntime) {
     }
 }
 
-/// A fault is given again, whatever follows: each piece, of which the first has a bad head, is answered by
-/// that fault alone.
-#[test]
-fn faults_stay(rt: HostRuntime) {
-    let mut wire = Wire::new(rt.alloc());
+/// Whether each piece, of which the first has a bad head, is answered by that fault alone.
+fn is_faulty(alloc: Global, wire: &mut Wire) -> bool {
     let mut wanted = Wanted::new(b"");
     let mut same = true;
     for piece in [b"x\r\n\r\n".as_slice(), b"GET / HTTP/1.1\r\n\r\n", b""] {
-        let end = read_on(rt.alloc(), &mut wire, piece, &mut wanted);
+        let end = read_on(alloc, wire, piece, &mut wanted);
         same = same && end == b"BadHead".as_slice() && !wire.idle();
     }
-    assert!(rt; same && wanted.is_whole());
+    same && wanted.is_whole()
+}
+
+/// A fault is given again, whatever follows.
+#[test]
+fn faults_stay(rt: HostRuntime) {
+    let mut wire = Wire::new(rt.alloc());
+    assert!(rt; is_faulty(rt.alloc(), &mut wire));
 }
 
 /// The moment of the examples of RFC 9110, 5.6.7.
