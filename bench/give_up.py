@@ -108,7 +108,7 @@ BY_HAND = [
     ("a worker at a desk never claims", "expansion_workers/src/worker.rt", "work_on", "return Worked { claimed: 0, published: 0, stale: 0, refused: 0 };"),
     ("a worker gives each claim up", "expansion_workers/src/worker.rt", "take_turn", "if let Some(claim) = take_claim(rt, lock, pass) {\n            give_up(rt, lock, pass, claim);\n            return Turn::Refused;\n        }\n        return Turn::Idle;"),
     ("a worker expands while it holds the turn", "expansion_workers/src/worker.rt", "take_turn", HELD),
-    ("no work is done for load", "caldav_server/src/load_sessions.rt", "run_duty", "return Outcome::Failed;"),
+    ("no work is done for load", "caldav_server/src/load_sessions.rt", "run_role", "return Outcome::Failed;"),
     *[("load ends with status %d" % status, "caldav_server/src/load.rt", "run_load", "return ScriptEnd { status: %d, place: 0 };" % status) for status in (5, 7)],
     *[("serve ends with status %d" % status, "caldav_server/src/serve.rt", "run_serve", "return without_place(%d);" % status) for status in (4, 7)],
     ("a connection that was accepted is let go", "caldav_server/src/sessions.rt", "serve_next", "let _ = door.accept(rt);\n        return;"),

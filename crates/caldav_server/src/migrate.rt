@@ -17,7 +17,7 @@ use privileges::Users;
 use std::alloc::Global;
 
 /// Of which users a file is.
-#[derive(Clone, Copy, PartialEq, Eq, Debug)]
+#[derive(Clone, Copy)]
 pub(crate) enum Side {
     Old,
     New,

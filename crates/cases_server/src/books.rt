@@ -1,13 +1,13 @@
 //! Walks through books, so that what a script does not show can be compared: which piece is claimed,
 //! what becomes of it, and how many entries there are.
-ghost use Rattle.std.specs.Prelude.{◌≡◌, ◌<◌, IfOk};
+ghost use Rattle.std.specs.Prelude.{◌≡◌, ◌<◌};
 ghost use Rattle.cases_server.specs.Slots.{IsSlotIn};
 
-use crate::slot::Slot;
+use crate::slot::{Slot, drop_slot};
 use crate::texts::parts;
-use crate::users::{THREE, shared_users};
+use crate::users::{THREE, book_of};
 use crate::walk::take_step;
-use cal_base::{Arc, NoMemory, Steps};
+use cal_base::{NoMemory, Steps};
 use cal_book::Book;
 use http_wire::Wire;
 use privileges::Users;
@@ -22,18 +22,19 @@ fn take_steps<L: Ledger>(
     users: &Users,
     book: &mut Book,
     wire: &mut Wire,
+    slot: &mut Slot,
     letters: &[u8],
     blank: Blank,
 ) -> io::Result<()>
     requires users { book.old.users ≡ users.now }
+    requires slot { IsSlotIn book.old.work.journal slot.old }
     requires name { L.name ≡ blank.name }
     requires parts { L.parts ≡ blank.parts }
     requires some { 0 < blank.parts }
 {
     let mut steps = Steps::<L>::open(blank);
-    let mut slot = Slot::Empty;
     'walking: for letter in letters {
-        take_step(rt, users, book, wire, &mut slot, *letter, &mut steps)?;
+        take_step(rt, users, book, wire, slot, *letter, &mut steps)?;
     }
     Ok(())
 }
@@ -45,39 +46,34 @@ fn wire(alloc: Global, octets: &[u8]) -> Result<Wire, NoMemory> {
     Ok(wire)
 }
 
-/// A book at its start, with its users.
-fn book(alloc: Global) -> Result<(Arc<Users>, Book), NoMemory>
-    ensures { IfOk result (λ made. made.1.users ≡ made.0) }
+/// Prints what comes of the steps of a walk at a book, whose requests come in these octets.
+fn print_steps(
+    rt: &HostRuntime,
+    users: &Users,
+    book: &mut Book,
+    letters: &[u8],
+    octets: &[u8],
+) -> io::Result<()>
+    requires users { book.old.users ≡ users.now }
 {
-    let users = shared_users(alloc, THREE)?;
-    let book = Book::start(alloc, Arc::try_clone(&users)?)?;
-    Ok((users, book))
-}
-
-/// Prints what comes of the steps of a walk, whose requests come in these octets.
-fn print_walk(rt: &HostRuntime, letters: &[u8], octets: &[u8]) -> io::Result<()> {
-    let Ok(mut wire) = wire(rt.alloc(), octets) else {
-        return println!(rt; "out of memory");
-    };
-    let Ok((users, mut book)) = book(rt.alloc()) else {
-        return println!(rt; "out of memory");
-    };
-    take_steps::<Brand>(rt, &users, &mut book, &mut wire, letters, Blank::new(1))
-}
-
-/// Prints what a case gives.
-fn print_case(rt: &HostRuntime, text: &[u8]) -> io::Result<()> {
-    let (title, text) = parts(text, b'\n');
-    let (letters, octets) = parts(text, b'\n');
-    println!(rt; "# {}", str::from_utf8(title).unwrap_or(""))?;
-    print_walk(rt, letters, octets)
-}
-
-/// Prints for each case, a line `#TITLE`, a line of steps and the octets of a connection behind it, its
-/// title and a line for what came of each step, with the body of a reply behind it.
-pub fn print_books(rt: &HostRuntime, cases: &[u8]) -> io::Result<()> {
-    for text in cases.split(|octet| *octet == b'#').skip(1) {
-        print_case(rt, text)?;
+    match wire(rt.alloc(), octets) {
+        Ok(mut wire) => {
+            let mut slot = Slot::Empty;
+            let blank = Blank::new(1);
+            let taken = take_steps::<Brand>(rt, users, book, &mut wire, &mut slot, letters, blank);
+            drop_slot(slot);
+            taken
+        }
+        Err(NoMemory) => println!(rt; "out of memory"),
     }
-    Ok(())
+}
+
+/// Prints what a case gives, a line of steps and the octets of a connection behind it: a line for what came of
+/// each step, with the body of a reply behind it.
+pub fn print_book(rt: &HostRuntime, text: &[u8]) -> io::Result<()> {
+    let (letters, octets) = parts(text, b'\n');
+    match book_of(rt.alloc(), THREE) {
+        Ok((users, mut book)) => print_steps(rt, &users, &mut book, letters, octets),
+        Err(NoMemory) => println!(rt; "out of memory"),
+    }
 }

@@ -1,21 +1,30 @@
 //! Two sessions at one kept book, in two threads, over a disk that breaks at one of its calls.
-ghost use Rattle.std.specs.Prelude.{◌≡◌};
+ghost use Rattle.std.specs.Prelude.{◌≡◌, false, Some};
 ghost use Rattle.std.specs.List.{AllByRecursion};
 
-use crate::kept_runs::{Found, disk_with, found_in, load};
-use crate::passes::Server;
-use crate::texts::parts;
+use crate::desks::ready;
+use crate::kept_runs::{Loading, disk_with, drop_loading, load};
+use crate::passes::{Server, split_off, taken};
 use crate::threads::serve_both;
 use cal_base::{Arc, NoMemory};
 use cal_book::Book;
 use cal_keeper::MemoryDisk;
-use cal_session::{Kept, Loaded, load_kept};
+use cal_session::Kept;
 use privileges::Users;
 use std::alloc::Global;
-use std::io;
 use std::sync::Wait;
 use std::thread::Threads;
-use turn_lock::{Held, TurnLock};
+use turn_lock::{Pass, TurnLock};
+
+/// What two sessions are run at.
+#[derive(Drop)]
+pub struct Sessions<'a> {
+    /// The file, and how many entries it has before.
+    pub file: &'a [u8],
+    pub before: u64,
+    /// The octets of the first connection and of the second.
+    pub octets: (&'a [u8], &'a [u8]),
+}
 
 /// What became of two sessions: how many requests each was answered, and the disk that is left.
 #[derive(Drop)]
@@ -26,63 +35,99 @@ struct Race {
 }
 
 /// What two sessions were answered, and what their file has of it.
-#[derive(Clone, Copy, PartialEq, Eq)]
-struct Outcome {
+#[derive(Drop)]
+pub struct Outcome {
+    /// How many calls of the disk there were.
+    pub calls: u64,
     /// How many requests were answered.
-    answered: usize,
+    pub answered: usize,
     /// How many entries the file has behind those before.
-    kept: u64,
+    pub kept: u64,
     /// Whether these are what each session was answered, and nothing else but the last of them.
-    is_right: bool,
+    pub is_right: bool,
 }
 
-/// Two sessions at a kept book.
+/// Two sessions at a kept book, each with a pass.
+fn race_of<R: Threads + Wait + Sync>(
+    rt: &R,
+    server: &Server<'_, Kept<MemoryDisk>>,
+    first: Pass<Kept<MemoryDisk>>,
+    second: Pass<Kept<MemoryDisk>>,
+    octets: (&[u8], &[u8]),
+) -> Race
+    requires first { (first.lock ≡ server.now.lock.now) × (first.holds_turn ≡ false) × (first.base ≡ Some server.now.users.now) }
+    requires second { (second.lock ≡ server.now.lock.now) × (second.holds_turn ≡ false) × (second.base ≡ Some server.now.users.now) }
+{
+    let ((left, first), (right, second)) = serve_both(rt, server, first, second, octets);
+    let kept = taken(rt, server, first, second);
+    Race {
+        first: left.replies,
+        second: right.replies,
+        disk: kept.into_disk(),
+    }
+}
+
+/// What two sessions come to under a lock, of which the first pass is given.
+fn race_under<R: Threads + Wait + Sync>(
+    rt: &R,
+    users: &Arc<Users>,
+    server: &Server<'_, Kept<MemoryDisk>>,
+    first: Pass<Kept<MemoryDisk>>,
+    sessions: &Sessions<'_>,
+) -> Result<Outcome, NoMemory>
+    requires first { (first.lock ≡ server.now.lock.now) × (first.holds_turn ≡ false) × (first.base ≡ Some server.now.users.now) }
+{
+    let mut first = first;
+    match split_off(rt, server, &mut first) {
+        Ok(second) => {
+            let race = race_of(rt, server, first, second, sessions.octets);
+            outcome_of(server.alloc, users, sessions.before, &race)
+        }
+        Err(NoMemory) => Err(NoMemory),
+    }
+}
+
+/// What two sessions come to at a kept book.
 fn race_at<R: Threads + Wait + Sync>(
     rt: &R,
     alloc: Global,
-    users: &Users,
+    users: &Arc<Users>,
     kept: Kept<MemoryDisk>,
-    octets: (&[u8], &[u8]),
-) -> Result<Race, NoMemory>
+    sessions: &Sessions<'_>,
+) -> Result<Outcome, NoMemory>
     requires users { kept.book.users ≡ users.now }
     requires first { AllByRecursion (λ entry. entry.session ≡ 0) kept.book.work.journal }
 {
-    let Ok((lock, mut first)) = TurnLock::new(alloc, kept) else {
-        return Err(NoMemory);
-    };
-    let server = Server {
-        alloc,
-        lock: &lock,
-        users,
-    };
-    let second = lock.split(rt, &mut first)?;
-    let ((left, mut first), (right, second)) = serve_both(rt, &server, first, second, octets);
-    lock.join(&mut first, second);
-    let Held { value } = lock.take(rt, &mut first);
-    Ok(Race {
-        first: left.replies,
-        second: right.replies,
-        disk: value.into_disk(),
-    })
+    match TurnLock::new(alloc, kept) {
+        Ok((lock, first)) => {
+            let server = Server {
+                alloc,
+                lock: &lock,
+                users,
+            };
+            race_under(rt, users, &server, first, sessions)
+        }
+        Err(_) => Err(NoMemory),
+    }
 }
 
-/// The same at a file, of whose disk's calls one fails; none where it fails while the file is loaded.
-fn race_over<R: Threads + Wait + Sync>(
+/// What two sessions come to at a file, of whose disk's calls one fails; none where it fails while the file is
+/// loaded.
+pub fn race_over<R: Threads + Wait + Sync>(
     rt: &R,
     alloc: Global,
     users: &Arc<Users>,
-    file: &[u8],
-    octets: (&[u8], &[u8]),
+    sessions: &Sessions<'_>,
     failing: u64,
-) -> Result<Option<Race>, NoMemory> {
-    let disk = disk_with(alloc, file, failing)?;
+) -> Result<Option<Outcome>, NoMemory> {
     let shared = Arc::try_clone(users)?;
-    match load_kept(alloc, shared, disk) {
-        Loaded::Ready(kept) => match race_at(rt, alloc, users, kept, octets) {
-            Ok(race) => Ok(Some(race)),
+    let disk = disk_with(alloc, sessions.file, failing)?;
+    match ready(alloc, shared, disk) {
+        Ok(kept) => match race_at(rt, alloc, users, kept, sessions) {
+            Ok(outcome) => Ok(Some(outcome)),
             Err(NoMemory) => Err(NoMemory),
         },
-        _ => Ok(None),
+        Err(_) => Ok(None),
     }
 }
 
@@ -110,6 +155,20 @@ fn is_right(book: &Book, before: u64, race: &Race) -> bool {
         && entries_by(book, before, last, 1) <= race.second
 }
 
+/// What two sessions came to, by what their file is loaded as.
+fn outcome_in(loading: &Loading, before: u64, race: &Race) -> Outcome {
+    let (entries, right) = match loading {
+        Ok(kept) => (kept.book().entries(), is_right(kept.book(), before, race)),
+        Err(_) => (before, false),
+    };
+    Outcome {
+        calls: race.disk.calls(),
+        answered: race.first.wrapping_add(race.second),
+        kept: entries.saturating_sub(before),
+        is_right: right,
+    }
+}
+
 /// What two sessions came to at a file that had so many entries before.
 fn outcome_of(
     alloc: Global,
@@ -117,129 +176,12 @@ fn outcome_of(
     before: u64,
     race: &Race,
 ) -> Result<Outcome, NoMemory> {
-    let answered = race.first.wrapping_add(race.second);
-    let Loaded::Ready(kept) = load(alloc, users, race.disk.octets())? else {
-        return Ok(Outcome {
-            answered,
-            kept: 0,
-            is_right: false,
-        });
-    };
-    Ok(Outcome {
-        answered,
-        kept: kept.book().entries().saturating_sub(before),
-        is_right: is_right(kept.book(), before, race),
-    })
-}
-
-/// How many entries a file has.
-fn entries_in(alloc: Global, users: &Arc<Users>, file: &[u8]) -> Result<u64, NoMemory> {
-    match found_in(alloc, users, file)? {
-        Found::Entries(count) => Ok(count),
-        _ => Err(NoMemory),
-    }
-}
-
-/// How many entries a file has, what two sessions at it come to where no call fails, and how many calls of
-/// the disk there are then.
-fn unbroken<R: Threads + Wait + Sync>(
-    rt: &R,
-    alloc: Global,
-    users: &Arc<Users>,
-    file: &[u8],
-    octets: (&[u8], &[u8]),
-) -> Result<(u64, Outcome, u64), NoMemory> {
-    let before = entries_in(alloc, users, file)?;
-    match race_over(rt, alloc, users, file, octets, u64::MAX)? {
-        Some(race) => match outcome_of(alloc, users, before, &race) {
-            Ok(outcome) => Ok((before, outcome, race.disk.calls())),
-            Err(NoMemory) => Err(NoMemory),
-        },
-        None => Err(NoMemory),
-    }
-}
-
-/// What they come to where a call fails; none where it fails while the file is loaded.
-fn broken_at<R: Threads + Wait + Sync>(
-    rt: &R,
-    alloc: Global,
-    users: &Arc<Users>,
-    file: &[u8],
-    octets: (&[u8], &[u8]),
-    before: u64,
-    call: u64,
-) -> Result<Option<Outcome>, NoMemory> {
-    match race_over(rt, alloc, users, file, octets, call)? {
-        Some(race) => match outcome_of(alloc, users, before, &race) {
-            Ok(outcome) => Ok(Some(outcome)),
-            Err(NoMemory) => Err(NoMemory),
-        },
-        None => Ok(None),
-    }
-}
-
-/// Prints what two sessions came to.
-fn print_outcome<R: Print>(rt: &R, outcome: Outcome) -> io::Result<()> {
-    print!(rt;
-        "{} answered, {} in the file",
-        outcome.answered, outcome.kept
-    )?;
-    if outcome.is_right {
-        println!(rt; "")
-    } else {
-        println!(rt; ", and others than these")
-    }
-}
-
-/// Prints what comes where each call fails in turn, a line for each that differs from the one before.
-fn print_broken<R: Threads + Wait + Sync + Print>(
-    rt: &R,
-    alloc: Global,
-    users: &Arc<Users>,
-    file: &[u8],
-    octets: (&[u8], &[u8]),
-    before: u64,
-    calls: u64,
-) -> io::Result<()> {
-    let mut last = None;
-    for call in 0..calls {
-        let Ok(next) = broken_at(rt, alloc, users, file, octets, before, call) else {
-            return println!(rt; "out of memory");
-        };
-        if next != last {
-            print_next(rt, next)?;
+    match load(alloc, users, race.disk.octets()) {
+        Ok(loading) => {
+            let outcome = outcome_in(&loading, before, race);
+            drop_loading(loading);
+            Ok(outcome)
         }
-        last = next;
-    }
-    Ok(())
-}
-
-/// Prints what came where a call failed, if there were sessions.
-fn print_next<R: Print>(rt: &R, outcome: Option<Outcome>) -> io::Result<()> {
-    match outcome {
-        Some(outcome) => {
-            print!(rt; "a call fails: ")?;
-            print_outcome(rt, outcome)
-        }
-        None => Ok(()),
-    }
-}
-
-/// Prints what comes of two sessions at a file: how many requests they are answered, and how many entries
-/// more the file has; and the same where each call of the disk fails in turn.
-pub fn print_sessions_of<R: Threads + Wait + Sync + Print>(
-    rt: &R,
-    alloc: Global,
-    users: &Arc<Users>,
-    file: &[u8],
-    text: &[u8],
-) -> io::Result<()> {
-    let octets = parts(text, b'|');
-    match unbroken(rt, alloc, users, file, octets) {
-        Ok((before, outcome, calls)) => {
-            print_outcome(rt, outcome)?;
-            print_broken(rt, alloc, users, file, octets, before, calls)
-        }
-        Err(NoMemory) => println!(rt; "out of memory"),
+        Err(NoMemory) => Err(NoMemory),
     }
 }

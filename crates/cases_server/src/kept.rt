@@ -2,14 +2,13 @@
 //! and what is answered and kept where a call of the disk fails.
 
 use crate::claims::print_entries;
-use crate::kept_runs::{End, Found, Run, disk_with, found_in, load, run_over};
+use crate::desks::{End, Unready};
+use crate::kept_runs::{Found, Run, found_in, load, run_over};
 use crate::runs::replies;
 use crate::script_case::number;
 use crate::texts::parts;
 use crate::users::{TWO, shared_users};
 use cal_base::{Arc, NoMemory, Octets};
-use cal_keeper::MemoryDisk;
-use cal_session::Loaded;
 use privileges::Users;
 use std::alloc::Global;
 use std::io;
@@ -18,24 +17,13 @@ use std::io;
 const CALLS: u64 = 200;
 
 /// How a run ended, by a word.
-fn end_word(end: End) -> &'static str {
+fn end_word(end: &End) -> &'static str {
     match end {
         End::Done(_) => "done",
         End::CutShort => "cut short",
         End::Broken => "broken",
-        _ => "not loaded",
+        End::Unready(_) => "not loaded",
     }
-}
-
-/// Runs frames at a new book, of whose disk's calls the one with that number fails.
-fn run_new(
-    alloc: Global,
-    users: &Arc<Users>,
-    frames: &[u8],
-    failing: u64,
-) -> Result<Run, NoMemory> {
-    let disk = disk_with(alloc, &[], failing)?;
-    run_over(alloc, users, disk, frames)
 }
 
 /// Octets up to one place, and behind them those from another on.
@@ -45,34 +33,57 @@ fn spliced(alloc: Global, octets: &[u8], end: usize, begin: usize) -> Result<Oct
     Ok(file)
 }
 
-/// Prints what was loaded.
-fn print_loaded(rt: &HostRuntime, loaded: &Loaded<MemoryDisk>) -> io::Result<()> {
-    match loaded {
-        Loaded::Ready(kept) => print_entries(rt, kept.book()),
-        Loaded::Refused(_, place) => println!(rt; "refused at {place}"),
-        Loaded::Mismatch(_, place, kept, made) => {
+/// Prints why a book is not ready.
+fn print_unready(rt: &HostRuntime, why: &Unready) -> io::Result<()> {
+    match why {
+        Unready::Refused(place) => println!(rt; "refused at {place}"),
+        Unready::Mismatch(place, kept, made) => {
             println!(rt; "at {place} status {kept} is kept, and {made} is made")
         }
-        Loaded::Failed(_) => println!(rt; "a call failed"),
-        Loaded::NoMemory(_) => println!(rt; "out of memory"),
+        Unready::Failed => println!(rt; "a call failed"),
+        Unready::NoMemory => println!(rt; "out of memory"),
     }
 }
 
 /// Prints how frames ended at a new book, how many replies were written, how many octets its file has,
 /// and what is expanded next.
 fn print_run(rt: &HostRuntime, run: &Run) -> io::Result<()> {
-    let end = end_word(run.end);
-    let replies = replies(run.written.as_slice());
+    let end = end_word(&run.end);
+    let replies = replies(run.output.written());
     let octets = run.disk.octets().len();
     print!(rt; "{end}: {replies} replies, {octets} octets; ")?;
     match run.next {
-        Some(origin) => println!(rt; "object {origin} is expanded next"),
+        Some((origin, _)) => println!(rt; "object {origin} is expanded next"),
         None => println!(rt; "nothing is to be expanded"),
     }
 }
 
-/// Prints what becomes of frames at a new book, and what is loaded of its file up to one place and from
-/// another on.
+/// Prints what a file with these octets is loaded as.
+fn print_file(rt: &HostRuntime, users: &Arc<Users>, octets: &[u8]) -> io::Result<()> {
+    match load(rt.alloc(), users, octets) {
+        Ok(Ok(kept)) => print_entries(rt, kept.book()),
+        Ok(Err((why, _))) => print_unready(rt, &why),
+        Err(NoMemory) => println!(rt; "out of memory"),
+    }
+}
+
+/// Prints what became of frames at a new book, and what is loaded of its file up to one place and from another
+/// on.
+fn print_parts(
+    rt: &HostRuntime,
+    users: &Arc<Users>,
+    run: &Run,
+    end: usize,
+    begin: usize,
+) -> io::Result<()> {
+    print_run(rt, run)?;
+    match spliced(rt.alloc(), run.disk.octets(), end, begin) {
+        Ok(file) => print_file(rt, users, file.as_slice()),
+        Err(NoMemory) => println!(rt; "out of memory"),
+    }
+}
+
+/// The same, where frames are run at a new book.
 fn print_spliced(
     rt: &HostRuntime,
     users: &Arc<Users>,
@@ -80,35 +91,35 @@ fn print_spliced(
     end: usize,
     begin: usize,
 ) -> io::Result<()> {
-    let Ok(run) = run_new(rt.alloc(), users, frames, u64::MAX) else {
-        return println!(rt; "out of memory");
-    };
-    print_run(rt, &run)?;
-    let Ok(file) = spliced(rt.alloc(), run.disk.octets(), end, begin) else {
-        return println!(rt; "out of memory");
-    };
-    match load(rt.alloc(), users, file.as_slice()) {
-        Ok(loaded) => print_loaded(rt, &loaded),
+    match run_over(rt.alloc(), users, &[], u64::MAX, frames) {
+        Ok(run) => print_parts(rt, users, &run, end, begin),
         Err(NoMemory) => println!(rt; "out of memory"),
     }
 }
 
-/// How many more entries are in the file than replies were written, where the call of that number fails; where
-/// it fails while the book is loaded, none are owed.
+/// How many more entries are in the file of a run than replies were written; where a call failed while the book
+/// was loaded, none are owed.
+fn surplus_of(alloc: Global, users: &Arc<Users>, run: &Run) -> Result<Option<u64>, NoMemory> {
+    if matches!(run.end, End::Unready(Unready::Failed)) {
+        return Ok(Some(0));
+    }
+    let replies = replies(run.output.written()) as u64;
+    match found_in(alloc, users, run.disk.octets())? {
+        Found::Entries(entries) => Ok(entries.checked_sub(replies)),
+        _ => Ok(None),
+    }
+}
+
+/// The same of frames at a new book, where the call of that number fails.
 fn surplus(
     alloc: Global,
     users: &Arc<Users>,
     frames: &[u8],
     call: u64,
 ) -> Result<Option<u64>, NoMemory> {
-    let run = run_new(alloc, users, frames, call)?;
-    if run.end == End::Failed {
-        return Ok(Some(0));
-    }
-    let replies = replies(run.written.as_slice()) as u64;
-    match found_in(alloc, users, run.disk.octets())? {
-        Found::Entries(entries) => Ok(entries.checked_sub(replies)),
-        _ => Ok(None),
+    match run_over(alloc, users, &[], call, frames) {
+        Ok(run) => surplus_of(alloc, users, &run),
+        Err(NoMemory) => Err(NoMemory),
     }
 }
 
@@ -128,12 +139,10 @@ fn print_failing(rt: &HostRuntime, users: &Arc<Users>, frames: &[u8]) -> io::Res
     println!(rt; "of {CALLS} calls {same} leave what was answered, {more} one change more")
 }
 
-/// Prints what a case gives.
+/// Prints what a case of these users gives.
 fn print_case(rt: &HostRuntime, users: &Arc<Users>, text: &[u8]) -> io::Result<()> {
-    let (title, text) = parts(text, b'\n');
     let (line, frames) = parts(text, b'\n');
     let (end, begin) = parts(line, b' ');
-    println!(rt; "# {}", str::from_utf8(title).unwrap_or(""))?;
     if end == b"fails".as_slice() {
         print_failing(rt, users, frames)
     } else {
@@ -147,20 +156,17 @@ fn print_case(rt: &HostRuntime, users: &Arc<Users>, text: &[u8]) -> io::Result<(
     }
 }
 
-/// Prints for each case, a line `#TITLE`, a line of two numbers or the word `fails`, and the frames of a script,
-/// its title and what comes of the frames at a new book of alice and bob whose file was not there.
+/// Prints what a case gives, a line of two numbers or the word `fails`, and the frames of a script: what comes
+/// of the frames at a new book of alice and bob whose file was not there.
 ///
 /// Two numbers: how the frames ended, how many replies were written, how many octets the file has and the entry
 /// of the object that is expanded next; and
 /// behind that what is loaded of a file that has those octets up to the first number, and behind them those
 /// from the second on: its entries, or why it is not. `fails`: each of the first 200 calls of the disk fails in
 /// turn, and counted is what is loaded of the file that is left.
-pub fn print_kept(rt: &HostRuntime, cases: &[u8]) -> io::Result<()> {
-    let Ok(users) = shared_users(rt.alloc(), TWO) else {
-        return println!(rt; "no users");
-    };
-    for text in cases.split(|octet| *octet == b'#').skip(1) {
-        print_case(rt, &users, text)?;
+pub fn print_kept(rt: &HostRuntime, text: &[u8]) -> io::Result<()> {
+    match shared_users(rt.alloc(), TWO) {
+        Ok(users) => print_case(rt, &users, text),
+        Err(NoMemory) => println!(rt; "no users"),
     }
-    Ok(())
 }

@@ -1,46 +1,28 @@
 //! Runs at a book that is kept in the file of a disk in memory, and what a file is loaded as.
 ghost use Rattle.std.specs.Prelude.{◌≡◌};
 
-use crate::claims::source_of;
+use crate::desks::{End, Unready, framed, next_claim, ready, source_of};
 use cal_base::{Arc, List, MemorySink, MemorySource, NoMemory, Octets};
-use cal_book::Desk;
-use cal_keeper::{DiskFault, MemoryDisk};
-use cal_script::{FrameEnd, FramesOn, frames_on};
-use cal_session::{Kept, Loaded, load_kept};
+use cal_keeper::MemoryDisk;
+use cal_session::Kept;
 use privileges::Users;
 use std::alloc::Global;
-
-/// How a run at a kept book ended.
-#[derive(Clone, Copy, PartialEq, Eq)]
-pub enum End {
-    /// The frames were read to their end, which is at this place.
-    Done(u64),
-    /// They were not.
-    CutShort,
-    /// A call of the disk failed in a request.
-    Broken,
-    /// One failed while the file was loaded.
-    Failed,
-    /// The file is refused at this place.
-    Refused(u64),
-    NoMemory,
-}
 
 /// A run at a kept book.
 #[derive(Drop)]
 pub struct Run {
     /// How it ended.
     pub end: End,
-    /// What was written.
-    pub written: Octets,
-    /// The number of the entry whose object is expanded next, if there is one.
-    pub next: Option<u64>,
+    /// The output with what was written.
+    pub output: MemorySink,
+    /// The next claim, if there is one: the number of the entry that made its object, and its window.
+    pub next: Option<(u64, i32)>,
     /// The disk that is left.
     pub disk: MemoryDisk,
 }
 
 /// What a file is loaded as.
-#[derive(Clone, Copy, PartialEq, Eq)]
+#[derive(Drop)]
 pub enum Found {
     /// A book with so many entries.
     Entries(u64),
@@ -49,28 +31,14 @@ pub enum Found {
     Nothing,
 }
 
+/// A kept book; or why it is not ready, and the disk.
+pub type Loading = Result<Kept<MemoryDisk>, (Unready, MemoryDisk)>;
+
 /// A disk whose file has these octets. The call with that number fails.
 pub fn disk_with(alloc: Global, octets: &[u8], failing: u64) -> Result<MemoryDisk, NoMemory> {
     let octets = Octets::of(alloc, octets)?;
     let failing = List::of(alloc, &[failing])?;
     Ok(MemoryDisk::new(alloc, octets, failing))
-}
-
-/// How frames ended.
-fn end_of(end: FramesOn<DiskFault>) -> End {
-    match end {
-        FramesOn::End(FrameEnd::Done { place }) => End::Done(place),
-        FramesOn::End(_) => End::CutShort,
-        FramesOn::Broken(_) => End::Broken,
-    }
-}
-
-/// The number of the entry whose object is expanded next, if there is one.
-fn next_object(kept: &mut Kept<MemoryDisk>) -> Option<u64> {
-    match kept.claim() {
-        Ok(Some(claim)) => Some(claim.origin),
-        _ => None,
-    }
 }
 
 /// Runs frames at a kept book.
@@ -80,58 +48,89 @@ fn run_at(
     kept: Kept<MemoryDisk>,
     input: &mut MemorySource,
     output: &mut MemorySink,
-) -> (End, Option<u64>, MemoryDisk)
+) -> (End, Option<(u64, i32)>, MemoryDisk)
     requires { kept.book.users ≡ users.now }
 {
     let mut kept = kept;
-    let end = end_of(frames_on(alloc, &mut kept, users, input, output));
-    let next = next_object(&mut kept);
+    let end = framed(alloc, &mut kept, users, input, output);
+    let next = next_claim(&mut kept);
     (end, next, kept.into_disk())
 }
 
-/// Runs frames at the file of a disk, as the command `script` does behind its users file.
-pub fn run_over(
+/// Runs the frames of an input at a file with these octets. The call of the disk with that number fails.
+fn run_from(
     alloc: Global,
     users: &Arc<Users>,
-    disk: MemoryDisk,
-    frames: &[u8],
+    octets: &[u8],
+    failing: u64,
+    input: &mut MemorySource,
 ) -> Result<Run, NoMemory> {
-    let mut input = source_of(alloc, frames)?;
-    let mut output = MemorySink::new(alloc, List::new(alloc));
     let shared = Arc::try_clone(users)?;
-    let (end, next, disk) = match load_kept(alloc, shared, disk) {
-        Loaded::Ready(kept) => run_at(alloc, users, kept, &mut input, &mut output),
-        Loaded::Refused(disk, place) => (End::Refused(place), None, disk),
-        Loaded::Mismatch(disk, place, _, _) => (End::Refused(place), None, disk),
-        Loaded::Failed(disk) => (End::Failed, None, disk),
-        Loaded::NoMemory(disk) => (End::NoMemory, None, disk),
+    let disk = disk_with(alloc, octets, failing)?;
+    let mut output = MemorySink::new(alloc, List::new(alloc));
+    let (end, next, disk) = match ready(alloc, shared, disk) {
+        Ok(kept) => run_at(alloc, users, kept, input, &mut output),
+        Err((why, disk)) => (End::Unready(why), None, disk),
     };
-    let written = Octets::of(alloc, output.written())?;
     Ok(Run {
         end,
-        written,
+        output,
         next,
         disk,
     })
 }
 
-/// Loads the book of a file with these octets.
-pub fn load(
+/// Runs frames at a file with these octets, as the command `script` does behind its users file. The call of
+/// the disk with that number fails.
+pub fn run_over(
     alloc: Global,
     users: &Arc<Users>,
     octets: &[u8],
-) -> Result<Loaded<MemoryDisk>, NoMemory> {
-    let disk = disk_with(alloc, octets, u64::MAX)?;
-    let shared = Arc::try_clone(users)?;
-    Ok(load_kept(alloc, shared, disk))
+    failing: u64,
+    frames: &[u8],
+) -> Result<Run, NoMemory> {
+    let mut input = source_of(alloc, frames)?;
+    run_from(alloc, users, octets, failing, &mut input)
 }
 
-/// What such a file is loaded as.
-pub fn found_in(alloc: Global, users: &Arc<Users>, octets: &[u8]) -> Result<Found, NoMemory> {
-    match load(alloc, users, octets)? {
-        Loaded::Ready(kept) => Ok(Found::Entries(kept.book().entries())),
-        Loaded::Refused(_, place) => Ok(Found::Refused(place)),
-        Loaded::Mismatch(_, place, _, _) => Ok(Found::Refused(place)),
-        _ => Ok(Found::Nothing),
+/// Loads the book of a file with these octets.
+pub fn load(alloc: Global, users: &Arc<Users>, octets: &[u8]) -> Result<Loading, NoMemory> {
+    let shared = Arc::try_clone(users)?;
+    let disk = disk_with(alloc, octets, u64::MAX)?;
+    Ok(ready(alloc, shared, disk))
+}
+
+/// Lets go what was loaded.
+pub fn drop_loading(_loading: Loading) {}
+
+/// What a file is loaded as.
+fn found_as(loading: &Loading) -> Found {
+    match loading {
+        Ok(kept) => Found::Entries(kept.book().entries()),
+        Err((Unready::Refused(place), _)) => Found::Refused(*place),
+        Err((Unready::Mismatch(place, _, _), _)) => Found::Refused(*place),
+        Err(_) => Found::Nothing,
     }
+}
+
+/// What a file with these octets is loaded as.
+pub fn found_in(alloc: Global, users: &Arc<Users>, octets: &[u8]) -> Result<Found, NoMemory> {
+    match load(alloc, users, octets) {
+        Ok(loading) => {
+            let found = found_as(&loading);
+            drop_loading(loading);
+            Ok(found)
+        }
+        Err(NoMemory) => Err(NoMemory),
+    }
+}
+
+/// What a file with these octets is loaded as, in words.
+pub fn found_words(alloc: Global, users: &Arc<Users>, octets: &[u8]) -> Result<String, NoMemory> {
+    let words = match found_in(alloc, users, octets)? {
+        Found::Entries(count) => format!(in alloc; "{count} entries"),
+        Found::Refused(place) => format!(in alloc; "refused at {place}"),
+        Found::Nothing => String::from_str(alloc, "nothing"),
+    };
+    Ok(words?)
 }

@@ -17,6 +17,7 @@
 
 mod books;
 mod claims;
+mod desks;
 mod files;
 mod journal_threads;
 mod journals;
@@ -26,6 +27,7 @@ mod passes;
 mod props;
 mod props_texts;
 mod runs;
+mod scenes;
 mod script_case;
 mod scripts;
 mod sessions;
@@ -35,18 +37,37 @@ mod threads;
 mod users;
 mod walk;
 
-use books::print_books;
+use books::print_book;
 use cal_base::{StdSource, read_up_to};
 use claims::print_claims;
 use journals::print_journals;
 use kept::print_kept;
 use props::print_props;
-use scripts::print_scripts;
+use scripts::print_script;
 use sessions::print_sessions;
 use std::io;
 use std::sync::Wait;
 use std::thread::Threads;
 use texts::parts;
+
+/// Prints the title of a case of books, kept books or scripts, and what comes of it.
+fn print_case(rt: &HostRuntime, kind: &str, case: &[u8]) -> io::Result<()> {
+    let (title, text) = parts(case, b'\n');
+    println!(rt; "# {}", str::from_utf8(title).unwrap_or(""))?;
+    match kind {
+        "books" => print_book(rt, text),
+        "kept" => print_kept(rt, text),
+        _ => print_script(rt, text),
+    }
+}
+
+/// Prints the titles of such cases, each with what comes of it.
+fn print_cases(rt: &HostRuntime, kind: &str, cases: &[u8]) -> io::Result<()> {
+    for case in cases.split(|octet| *octet == b'#').skip(1) {
+        print_case(rt, kind, case)?;
+    }
+    Ok(())
+}
 
 /// Prints the kind of a part, and what comes of it. Sessions run in threads.
 fn print_part<R: Threads + Wait + Sync + Print>(
@@ -59,10 +80,8 @@ fn print_part<R: Threads + Wait + Sync + Print>(
     println!(rt; "@{kind}")?;
     match kind {
         "props" => print_props(rt, cases),
-        "books" => print_books(rt, cases),
+        "books" | "kept" | "scripts" => print_cases(rt, kind, cases),
         "claims" => print_claims(rt, cases),
-        "kept" => print_kept(rt, cases),
-        "scripts" => print_scripts(rt, cases),
         "journals" => print_journals(threads, rt.alloc(), cases),
         "sessions" => print_sessions(threads, rt.alloc(), cases),
         _ => println!(rt; "no such part"),

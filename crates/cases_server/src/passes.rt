@@ -1,17 +1,18 @@
 //! What a session sees that another pass put, and what a worker does.
 
-ghost use Rattle.std.specs.Prelude.{◌≡◌, false, Some};
+ghost use Rattle.std.specs.Prelude.{◌≡◌, false, Some, IfOk};
 
-use crate::runs::{ALL, MOMENT, link_of, service};
-use cal_base::{FixedClock, NoMemory, Octets, OpenGate};
-use cal_book::Desk;
+use crate::runs::{ALL, MOMENT, link_of};
+use crate::texts::print_octets;
+use cal_base::{FixedClock, MemoryLink, NoMemory, OpenGate};
+use cal_book::{Book, Desk};
 use cal_session::{Ended, OnEnd, serve_on};
-use expansion_workers::{Worked, work};
+use expansion_workers::work;
 use privileges::Users;
 use std::alloc::Global;
 use std::io;
 use std::sync::Wait;
-use turn_lock::{Pass, TurnLock};
+use turn_lock::{Held, Pass, TurnLock};
 
 /// A PUT of a meeting from 09:00 to 10:00 on 10 March 2025.
 pub const PUT: &[u8] =
@@ -37,13 +38,13 @@ fn first_status(ended: &Ended) -> u16 {
     }
 }
 
-/// Serves a connection of one request, and gives the status of its reply and what was written.
+/// Serves a connection of one request, and gives the status of its reply and the link with what was written.
 pub fn asked<B: Desk, R: Wait>(
     rt: &R,
     server: &Server<'_, B>,
     pass: &mut Pass<B>,
     octets: &[u8],
-) -> Result<(u16, Octets), NoMemory>
+) -> Result<(u16, MemoryLink), NoMemory>
     requires same { pass.old.lock ≡ server.now.lock.now }
     requires free { pass.old.holds_turn ≡ false }
     requires users { pass.old.base ≡ Some server.now.users.now }
@@ -65,8 +66,7 @@ pub fn asked<B: Desk, R: Wait>(
         OnEnd::Ended(ended) => first_status(&ended),
         OnEnd::Broken(..) => 0,
     };
-    let written = Octets::of(alloc, link.written())?;
-    Ok((status, written))
+    Ok((status, link))
 }
 
 /// Serves a connection of one request, and gives the status of its reply.
@@ -87,93 +87,105 @@ pub fn answer<B: Desk, R: Wait>(
     }
 }
 
-/// What a session sees of what another pass put before.
-#[derive(Drop)]
-struct Split {
-    /// The status of the PUT.
-    put: u16,
-    /// How many entries the pass had seen before it asked.
-    before: u64,
-    /// The status of what it asked, and the reply.
-    status: u16,
-    reply: Octets,
-    /// How many entries it had seen then, and after the join.
-    then: u64,
-    joined: u64,
+/// Splits a second pass off the first.
+pub fn split_off<B: Desk + Drop, R: Wait>(
+    rt: &R,
+    server: &Server<'_, B>,
+    first: &mut Pass<B>,
+) -> Result<Pass<B>, NoMemory>
+    requires first { (first.old.lock ≡ server.now.lock.now) × (first.old.holds_turn ≡ false) × (first.old.base ≡ Some server.now.users.now) }
+    ensures first { IfOk result (λ _. (first.new.lock ≡ server.now.lock.now) × (first.new.holds_turn ≡ false) × (first.new.base ≡ Some server.now.users.now)) }
+    ensures second { IfOk result (λ second. (second.lock ≡ server.now.lock.now) × (second.holds_turn ≡ false) × (second.base ≡ Some server.now.users.now)) }
+{
+    match server.lock.split(rt, first) {
+        Ok(second) => Ok(second),
+        Err(NoMemory) => Err(NoMemory),
+    }
 }
 
-/// A pass is split, the new one puts the meeting, and the old one asks for it.
-fn put_by_another<R: Wait>(rt: &R, alloc: Global) -> Result<Split, NoMemory> {
-    let (service, mut first, users) = service(alloc)?;
-    let server = Server {
-        alloc,
-        lock: service.lock(),
-        users: &users,
-    };
-    let mut second = service.lock().split(rt, &mut first)?;
-    let put = answer(rt, &server, &mut second, PUT);
-    let before = first.seen_len();
-    let (status, reply) = asked(rt, &server, &mut first, REPORT)?;
-    let then = first.seen_len();
-    service.lock().join(&mut first, second);
-    Ok(Split {
-        put,
-        before,
-        status,
-        reply,
-        then,
-        joined: first.seen_len(),
-    })
+/// Joins two passes, and gives how many entries they have seen.
+pub fn joined<B: Desk + Drop>(server: &Server<'_, B>, first: Pass<B>, second: Pass<B>) -> u64
+    requires first { (first.lock ≡ server.now.lock.now) × (first.holds_turn ≡ false) }
+    requires second { (second.lock ≡ server.now.lock.now) × (second.holds_turn ≡ false) }
+{
+    let mut first = first;
+    server.lock.join(&mut first, second);
+    first.seen_len()
 }
 
-/// Prints a line and the reply.
-fn print_seen<R: Print>(rt: &R, seen: &Split) -> io::Result<()> {
+/// Joins two passes, and takes the desk from its lock.
+pub fn taken<B: Desk + Drop, R: Wait>(
+    rt: &R,
+    server: &Server<'_, B>,
+    first: Pass<B>,
+    second: Pass<B>,
+) -> B
+    requires first { (first.lock ≡ server.now.lock.now) × (first.holds_turn ≡ false) }
+    requires second { (second.lock ≡ server.now.lock.now) × (second.holds_turn ≡ false) }
+{
+    let mut first = first;
+    server.lock.join(&mut first, second);
+    let Held { value } = server.lock.take(rt, &mut first);
+    value
+}
+
+/// Prints the statuses of two sessions, how many entries the pass of the second had seen before it asked, then
+/// and after the join, and its reply.
+fn print_seen<R: Print>(
+    rt: &R,
+    statuses: (u16, u16),
+    counts: (u64, u64, u64),
+    reply: &[u8],
+) -> io::Result<()> {
     println!(rt;
         "put by another pass: {}; entries seen {}; asked: {}; then {}; joined {}",
-        seen.put, seen.before, seen.status, seen.then, seen.joined
+        statuses.0, counts.0, statuses.1, counts.1, counts.2
     )?;
-    match str::from_utf8(seen.reply.as_slice()) {
-        Ok(text) => println!(rt; "{text}"),
-        Err(_) => println!(rt; "no text"),
-    }
+    print_octets(rt, reply)
 }
 
-/// Prints it.
-pub fn print_split<R: Wait + Print>(rt: &R, alloc: Global) -> io::Result<()> {
-    match put_by_another(rt, alloc) {
-        Ok(seen) => print_seen(rt, &seen),
+/// Prints what a session sees of a meeting that another pass put: the second pass puts it, and the first asks
+/// for it.
+pub fn print_split<R: Wait + Print>(
+    rt: &R,
+    server: &Server<'_, Book>,
+    first: Pass<Book>,
+    second: Pass<Book>,
+) -> io::Result<()>
+    requires first { (first.lock ≡ server.now.lock.now) × (first.holds_turn ≡ false) × (first.base ≡ Some server.now.users.now) }
+    requires second { (second.lock ≡ server.now.lock.now) × (second.holds_turn ≡ false) × (second.base ≡ Some server.now.users.now) }
+{
+    let mut first = first;
+    let mut second = second;
+    let put = answer(rt, server, &mut second, PUT);
+    let before = first.seen_len();
+    let reply = asked(rt, server, &mut first, REPORT);
+    let then = first.seen_len();
+    let counts = (before, then, joined(server, first, second));
+    match reply {
+        Ok((status, link)) => print_seen(rt, (put, status), counts, link.written()),
         Err(NoMemory) => println!(rt; "out of memory"),
     }
 }
 
-/// What a worker does in so many turns about the meeting.
-fn work_alone<R: Wait>(rt: &R, alloc: Global, turns: u32) -> Result<Worked, NoMemory> {
-    let (service, mut pass, users) = service(alloc)?;
-    let server = Server {
-        alloc,
-        lock: service.lock(),
-        users: &users,
-    };
-    answer(rt, &server, &mut pass, PUT);
-    Ok(work(
-        rt,
-        alloc,
-        service.lock(),
-        &mut pass,
-        &OpenGate::new(),
-        turns,
-    ))
-}
-
-/// Prints it.
-pub fn print_work<R: Wait + Print>(rt: &R, alloc: Global) -> io::Result<()> {
-    match work_alone(rt, alloc, 20) {
-        Ok(worked) => {
-            println!(rt;
-                "of 20 turns of a worker: {} claimed, {} published, {} stale, {} refused",
-                worked.claimed, worked.published, worked.stale, worked.refused
-            )
-        }
-        Err(NoMemory) => println!(rt; "out of memory"),
-    }
+/// Prints what a worker does in 20 turns about a meeting that another pass put.
+pub fn print_work<R: Wait + Print>(
+    rt: &R,
+    server: &Server<'_, Book>,
+    first: Pass<Book>,
+    second: Pass<Book>,
+) -> io::Result<()>
+    requires first { (first.lock ≡ server.now.lock.now) × (first.holds_turn ≡ false) × (first.base ≡ Some server.now.users.now) }
+    requires second { (second.lock ≡ server.now.lock.now) × (second.holds_turn ≡ false) × (second.base ≡ Some server.now.users.now) }
+{
+    let mut first = first;
+    let mut second = second;
+    answer(rt, server, &mut second, PUT);
+    let gate = OpenGate::new();
+    let worked = work(rt, server.alloc, server.lock, &mut first, &gate, 20);
+    let _entries = joined(server, first, second);
+    println!(rt;
+        "of 20 turns of a worker: {} claimed, {} published, {} stale, {} refused",
+        worked.claimed, worked.published, worked.stale, worked.refused
+    )
 }

@@ -11,7 +11,7 @@ use crate::texts::{parts, print_octets};
 use crate::users::{TWO, shared_users};
 use cal_base::{NoMemory, Octets};
 use cal_book::BookView;
-use cal_model::{Path, PropAnswers, PropName, Props, Reply, Seen};
+use cal_model::{Path, PropAnswers, PropName, PropSet, Props, Reply, Seen};
 use collections::Store;
 use dav_props::{DavAnswers, PatchCheck, check_make, check_patch, find};
 use dav_write::read_path;
@@ -43,14 +43,49 @@ fn answer_in(alloc: Global, store: &Store, case: &[u8]) -> Result<Answer, NoMemo
 {
     let (form, words) = parts(case, b' ');
     if form == b"find".as_slice() {
-        found(alloc, store, words)
+        let (who, words) = parts(words, b' ');
+        let (depth, words) = parts(words, b' ');
+        let (path, words) = parts(words, b' ');
+        shown(alloc, store, who, path, Some(depth), words)
     } else if form == b"ask".as_slice() {
-        asked(alloc, store, words)
-    } else if form == b"patch".as_slice() {
-        patched(alloc, store, words)
-    } else if form == b"make".as_slice() {
-        let sets = sets_of(alloc, words)?;
+        let (who, words) = parts(words, b' ');
+        let (path, words) = parts(words, b' ');
+        shown(alloc, store, who, path, None, words)
+    } else {
+        settled(alloc, store, form, words)
+    }
+}
+
+/// What a user is shown at a path: the reply to a PROPFIND of a depth, or one property where there is no depth.
+fn shown(
+    alloc: Global,
+    store: &Store,
+    who: &[u8],
+    path: &[u8],
+    depth: Option<&[u8]>,
+    words: &[u8],
+) -> Result<Answer, NoMemory>
+    requires no_objects { AreLive [] (origins_of store.now) }
+{
+    let Some(who) = store.users().find(who) else {
+        return Ok(Answer::Unknown);
+    };
+    let Some(path) = read_path(alloc, path)? else {
+        return Ok(Answer::Unknown);
+    };
+    match depth {
+        Some(depth) => found(alloc, store, who, &path, depth, words),
+        None => asked(alloc, store, who, &path, words),
+    }
+}
+
+/// What becomes of settings, in a new calendar or in alice's.
+fn settled(alloc: Global, store: &Store, form: &[u8], words: &[u8]) -> Result<Answer, NoMemory> {
+    let sets = sets_of(alloc, words)?;
+    if form == b"make".as_slice() {
         checked(check_make(alloc, sets.as_slice()))
+    } else if form == b"patch".as_slice() {
+        patched(alloc, store, sets.as_slice())
     } else {
         Ok(Answer::Unknown)
     }
@@ -75,35 +110,14 @@ fn checked(check: PatchCheck) -> Result<Answer, NoMemory> {
 }
 
 /// Settings of alice's calendar.
-fn patched(alloc: Global, store: &Store, words: &[u8]) -> Result<Answer, NoMemory> {
-    let Some(data) = store.calendar(0, b"calendar") else {
-        return Ok(Answer::Unknown);
-    };
-    let path = Path::Calendar(
-        Octets::of(alloc, b"alice")?,
-        Octets::of(alloc, b"calendar")?,
-    );
-    let sets = sets_of(alloc, words)?;
-    checked(check_patch(alloc, &path, sets.as_slice(), data))
-}
-
-/// A PROPFIND.
-fn found(alloc: Global, store: &Store, words: &[u8]) -> Result<Answer, NoMemory>
-    requires no_objects { AreLive [] (origins_of store.now) }
-{
-    let (who, words) = parts(words, b' ');
-    let (depth, words) = parts(words, b' ');
-    let (path, words) = parts(words, b' ');
-    let Some(who) = store.users().find(who) else {
-        return Ok(Answer::Unknown);
-    };
-    let Some(path) = read_path(alloc, path)? else {
-        return Ok(Answer::Unknown);
-    };
-    let props = props_of(alloc, words)?;
-    let deep = depth == b"1".as_slice();
-    let reply = found_at(alloc, store, who, &path, &props, deep)?;
-    Ok(told("found", reply))
+fn patched(alloc: Global, store: &Store, sets: &[PropSet]) -> Result<Answer, NoMemory> {
+    let home = Octets::of(alloc, b"alice")?;
+    let calendar = Octets::of(alloc, b"calendar")?;
+    let path = Path::Calendar(home, calendar);
+    match store.calendar(0, b"calendar") {
+        Some(data) => checked(check_patch(alloc, &path, sets, data)),
+        None => Ok(Answer::Unknown),
+    }
 }
 
 /// A store at its start, as those look at it who answer requests.
@@ -115,74 +129,80 @@ fn opening_view(store: &Store) -> BookView<'_>
     BookView::new(store)
 }
 
-/// The reply to a PROPFIND of a user.
-fn found_at(
+/// A PROPFIND of a user.
+fn found(
     alloc: Global,
     store: &Store,
     who: u32,
     path: &Path,
-    props: &Props,
-    deep: bool,
-) -> Result<Reply, NoMemory>
+    depth: &[u8],
+    words: &[u8],
+) -> Result<Answer, NoMemory>
     requires no_objects { AreLive [] (origins_of store.now) }
     requires user { who < length store.now.users.people }
 {
+    let props = props_of(alloc, words)?;
+    let deep = depth == b"1".as_slice();
     let view = opening_view(store);
     let seen = Seen { view: &view, who };
-    let reply = find(alloc, &seen, path, props, deep);
+    let reply = find(alloc, &seen, path, &props, deep);
     let Seen {
         view: _view,
         who: _who,
     } = seen;
-    reply
-}
-
-/// One property.
-fn asked(alloc: Global, store: &Store, words: &[u8]) -> Result<Answer, NoMemory>
-    requires no_objects { AreLive [] (origins_of store.now) }
-{
-    let (who, words) = parts(words, b' ');
-    let (path, words) = parts(words, b' ');
-    let Some(who) = store.users().find(who) else {
-        return Ok(Answer::Unknown);
-    };
-    let Some(path) = read_path(alloc, path)? else {
-        return Ok(Answer::Unknown);
-    };
-    let name = name_of(alloc, words)?;
-    if is_calendar_data(&name) {
-        return Ok(Answer::Unknown);
+    match reply {
+        Ok(reply) => Ok(told("found", reply)),
+        Err(NoMemory) => Err(NoMemory),
     }
-    let mut text = Octets::new(alloc);
-    let status = answered_at(alloc, store, who, &path, &name, &mut text)?;
-    Ok(Answer::Told {
-        word: "answered",
-        status,
-        text,
-    })
 }
 
-/// Appends the element of a property as a user sees it, and gives its status.
-fn answered_at(
+/// One property as a user sees it.
+fn asked(
+    alloc: Global,
+    store: &Store,
+    who: u32,
+    path: &Path,
+    word: &[u8],
+) -> Result<Answer, NoMemory>
+    requires no_objects { AreLive [] (origins_of store.now) }
+    requires user { who < length store.now.users.people }
+{
+    let name = name_of(alloc, word)?;
+    if is_calendar_data(&name) {
+        Ok(Answer::Unknown)
+    } else {
+        answered(alloc, store, who, path, &name)
+    }
+}
+
+/// The same of a name that is not of reports alone.
+fn answered(
     alloc: Global,
     store: &Store,
     who: u32,
     path: &Path,
     name: &PropName,
-    out: &mut Octets,
-) -> Result<u16, NoMemory>
+) -> Result<Answer, NoMemory>
     requires no_objects { AreLive [] (origins_of store.now) }
     requires user { who < length store.now.users.people }
     requires not_data { same_name name.now calendar_data ≡ false }
 {
     let view = opening_view(store);
     let seen = Seen { view: &view, who };
-    let status = DavAnswers.answer(alloc, &seen, path, name, out);
+    let mut text = Octets::new(alloc);
+    let status = DavAnswers.answer(alloc, &seen, path, name, &mut text);
     let Seen {
         view: _view,
         who: _who,
     } = seen;
-    status
+    match status {
+        Ok(status) => Ok(Answer::Told {
+            word: "answered",
+            status,
+            text,
+        }),
+        Err(NoMemory) => Err(NoMemory),
+    }
 }
 
 /// Whether a name is that of the property which reports alone have.

@@ -1,6 +1,6 @@
 //! What the words of a case of properties say.
 
-use crate::texts::parts;
+use crate::texts::{parts, put_many};
 use cal_base::{List, NoMemory, Octets};
 use cal_model::{PropName, PropSet, Props};
 use std::alloc::Global;
@@ -11,10 +11,9 @@ fn letters(alloc: Global, number: &[u8]) -> Result<Octets, NoMemory> {
         Ok(number) => number.parse::<u32>().unwrap_or(0),
         Err(_) => 0,
     };
-    match Vec::from_elem(alloc, b'x', count as usize) {
-        Ok(letters) => Ok(Octets::from_vec(letters)),
-        Err(_) => Err(NoMemory),
-    }
+    let mut letters = Octets::new(alloc);
+    put_many(&mut letters, b'x', u64::from(count))?;
+    Ok(letters)
 }
 
 /// The octets of a word: `*` and a number stand for so many letters, `!` for what is no text, and `~`

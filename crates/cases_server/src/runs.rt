@@ -1,5 +1,5 @@
 //! Sessions over links in memory.
-ghost use Rattle.std.specs.Prelude.{◌≡◌, ◌≤◌, ◌^◌, false, Some, IfOk};
+ghost use Rattle.std.specs.Prelude.{◌≡◌, ◌<◌, ◌≤◌, ◌^◌, false, length, Some, IfOk};
 
 use crate::users::{ALICE, shared_users};
 use cal_base::{Arc, FixedClock, List, MemoryLink, NoMemory, Octets};
@@ -16,7 +16,8 @@ pub const MOMENT: i64 = 1_741_600_000;
 /// As many octets as a link can give.
 pub const ALL: u64 = 1 << 62;
 
-/// What became of a session.
+/// What became of a session: its end, how many entries there are, how many replies were written, and how many
+/// of them say that the connection closes.
 #[derive(Drop)]
 pub struct Run {
     pub ended: Ended,
@@ -60,24 +61,23 @@ pub fn serve<R: Wait>(rt: &R, alloc: Global, link: &mut MemoryLink) -> Result<Ru
         ended,
         entries: pass.seen_len(),
         replies: replies(link.written()),
-        closes: closes(link.written()),
+        closes: count(link.written(), b"\r\nConnection: close\r\n"),
     })
+}
+
+/// How many times a text stands in some octets.
+fn count(octets: &[u8], text: &[u8]) -> usize
+    requires { 0 < length text.now }
+{
+    octets
+        .windows(text.len())
+        .filter(|window| *window == text)
+        .count()
 }
 
 /// How many replies some octets have.
 pub fn replies(octets: &[u8]) -> usize {
-    octets
-        .windows(8)
-        .filter(|window| *window == b"\r\nDate: ".as_slice())
-        .count()
-}
-
-/// How many of them say that the connection closes.
-fn closes(octets: &[u8]) -> usize {
-    octets
-        .windows(21)
-        .filter(|window| *window == b"\r\nConnection: close\r\n".as_slice())
-        .count()
+    count(octets, b"\r\nDate: ")
 }
 
 /// How a session ended, by a word.

@@ -2,15 +2,8 @@
 
 use crate::texts::parts;
 
-/// A case.
-pub enum Case<'a> {
-    Script(Script<'a>),
-    /// The line is none of a case.
-    Unknown,
-}
-
 /// What a script is run on.
-#[derive(Clone, Copy)]
+#[derive(Drop)]
 pub struct Script<'a> {
     /// Whether the text is to come octet by octet, with frames of a worker between.
     pub in_octets: bool,
@@ -35,28 +28,24 @@ pub fn number(word: &[u8]) -> u64 {
     }
 }
 
-/// A script's case, from the words behind its form.
-fn make_script<'a>(in_octets: bool, words: &'a [u8], text: &'a [u8]) -> Script<'a> {
+/// The case that a text spells, behind its title, if it is one.
+pub fn read_case(text: &[u8]) -> Option<Script<'_>> {
+    let (line, text) = parts(text, b'\n');
+    let (form, words) = parts(line, b' ');
     let (read, words) = parts(words, b' ');
     let (write, words) = parts(words, b' ');
-    Script {
+    let in_octets = if form == b"frames".as_slice() {
+        false
+    } else if form == b"octets".as_slice() {
+        true
+    } else {
+        return None;
+    };
+    Some(Script {
         in_octets,
         failing_read: number(read),
         failing_write: number(write),
         words: str::from_utf8(words).unwrap_or(""),
         text,
-    }
-}
-
-/// The case that a text spells, behind its title.
-pub fn read_case(text: &[u8]) -> Case<'_> {
-    let (line, text) = parts(text, b'\n');
-    let (form, words) = parts(line, b' ');
-    if form == b"frames".as_slice() {
-        Case::Script(make_script(false, words, text))
-    } else if form == b"octets".as_slice() {
-        Case::Script(make_script(true, words, text))
-    } else {
-        Case::Unknown
-    }
+    })
 }

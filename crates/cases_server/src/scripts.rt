@@ -1,8 +1,8 @@
 //! Scripts over words, files, an input and an output in memory.
 
 use crate::files::files;
-use crate::script_case::{Case, Script, number, read_case};
-use crate::texts::parts;
+use crate::script_case::{Script, number, read_case};
+use crate::texts::put_many;
 use cal_base::{List, MemorySink, MemorySource, NoMemory, Octets, Word};
 use cal_script::{ScriptEnd, run_script};
 use std::alloc::Global;
@@ -40,14 +40,6 @@ fn octet_frames(alloc: Global, text: &[u8]) -> Result<Octets, NoMemory> {
     Ok(input)
 }
 
-/// Puts so many spaces behind others.
-fn put_spaces(out: &mut Octets, count: u64) -> Result<(), NoMemory> {
-    for _ in 0..count {
-        out.push(b' ')?;
-    }
-    Ok(())
-}
-
 /// A text, with spaces for each number between two tildes.
 fn filled(alloc: Global, text: &[u8]) -> Result<Octets, NoMemory> {
     let mut out = Octets::new(alloc);
@@ -55,14 +47,14 @@ fn filled(alloc: Global, text: &[u8]) -> Result<Octets, NoMemory> {
         if place % 2 == 0 {
             out.extend_from_slice(part)?;
         } else {
-            put_spaces(&mut out, number(part).min(MOST_SPACES))?;
+            put_many(&mut out, b' ', number(part).min(MOST_SPACES))?;
         }
     }
     Ok(out)
 }
 
 /// The input of a case.
-fn source(alloc: Global, script: Script<'_>) -> Result<MemorySource, NoMemory> {
+fn source(alloc: Global, script: &Script<'_>) -> Result<MemorySource, NoMemory> {
     let input = if script.in_octets {
         octet_frames(alloc, script.text)?
     } else {
@@ -73,23 +65,11 @@ fn source(alloc: Global, script: Script<'_>) -> Result<MemorySource, NoMemory> {
 }
 
 /// Runs a case.
-fn run(alloc: Global, script: Script<'_>, sink: &mut MemorySink) -> Result<ScriptEnd, NoMemory> {
+fn run(alloc: Global, script: &Script<'_>, sink: &mut MemorySink) -> Result<ScriptEnd, NoMemory> {
+    let mut source = source(alloc, script)?;
     let words = words(alloc, script.words)?;
     let mut files = files(alloc)?;
-    let mut source = source(alloc, script)?;
     Ok(run_script(alloc, &words, &mut files, &mut source, sink))
-}
-
-/// Prints how a script ended, and what it wrote.
-fn print_script(rt: &HostRuntime, script: Script<'_>) -> io::Result<()> {
-    let Ok(failing) = List::of(rt.alloc(), &[script.failing_write]) else {
-        return println!(rt; "out of memory");
-    };
-    let mut sink = MemorySink::new(rt.alloc(), failing);
-    match run(rt.alloc(), script, &mut sink) {
-        Ok(end) => print_end(rt, end, sink.written()),
-        Err(NoMemory) => println!(rt; "out of memory"),
-    }
 }
 
 /// Prints an end and an output.
@@ -101,27 +81,29 @@ fn print_end(rt: &HostRuntime, end: ScriptEnd, written: &[u8]) -> io::Result<()>
     }
 }
 
-/// Prints what a case gives.
-fn print_case(rt: &HostRuntime, text: &[u8]) -> io::Result<()> {
-    let (title, text) = parts(text, b'\n');
-    println!(rt; "# {}", str::from_utf8(title).unwrap_or(""))?;
-    match read_case(text) {
-        Case::Script(script) => print_script(rt, script),
-        Case::Unknown => println!(rt; "no case"),
+/// Prints how a script ended, and what it wrote.
+fn print_run(rt: &HostRuntime, script: &Script<'_>) -> io::Result<()> {
+    let Ok(failing) = List::of(rt.alloc(), &[script.failing_write]) else {
+        return println!(rt; "out of memory");
+    };
+    let mut sink = MemorySink::new(rt.alloc(), failing);
+    match run(rt.alloc(), script, &mut sink) {
+        Ok(end) => print_end(rt, end, sink.written()),
+        Err(NoMemory) => println!(rt; "out of memory"),
     }
 }
 
-/// Prints for each case, a line `#TITLE`, a line `FORM READ WRITE WORD..` and what belongs to it
-/// behind, its title, the status and the place of its end, and the output.
+/// Prints what a case gives, a line `FORM READ WRITE WORD..` and what belongs to it behind: the status and the
+/// place of its end, and the output.
 ///
 /// Behind the form `frames` stands the input of a script; behind `octets` stand octets, which the
 /// input brings one a frame, with frames of a worker behind each. READ and WRITE number the read of
 /// the input and the write of the output that fail, counted from 0; `-` stands for none. In the text
 /// of an input a number between two tildes stands for so many spaces. The files are `users`, `bad` with
 /// a bad second line, `limit` with as many octets as a users file may have, and `long` with one more.
-pub fn print_scripts(rt: &HostRuntime, cases: &[u8]) -> io::Result<()> {
-    for text in cases.split(|octet| *octet == b'#').skip(1) {
-        print_case(rt, text)?;
+pub fn print_script(rt: &HostRuntime, text: &[u8]) -> io::Result<()> {
+    match read_case(text) {
+        Some(script) => print_run(rt, &script),
+        None => println!(rt; "no case"),
     }
-    Ok(())
 }

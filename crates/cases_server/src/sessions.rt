@@ -1,10 +1,9 @@
 //! Sessions over links in memory, and what became of them.
 ghost use Rattle.std.specs.Prelude.{◌≤◌, ◌^◌};
 
-use crate::passes::{print_split, print_work};
 use crate::runs::{ALL, Run, link_of, serve, word_of};
+use crate::scenes::print_scenes;
 use crate::texts::parts;
-use crate::threads::{print_gate, print_race};
 use cal_base::{NoMemory, Octets};
 use cal_session::How;
 use std::alloc::Global;
@@ -129,13 +128,13 @@ fn print_session<R: Print + Wait>(
 /// Prints what became of a session.
 fn print_run<R: Print>(rt: &R, run: &Run) -> io::Result<()> {
     print!(rt;
-        "{}; {} entries; {} replies, {} close;",
+        "{}; {} entries; {} replies, {} close; {} answered",
         word_of(run.ended.how),
         run.entries,
         run.replies,
-        run.closes
+        run.closes,
+        run.ended.turns.len()
     )?;
-    print!(rt; " {} answered", run.ended.turns.len())?;
     for turn in run.ended.turns.iter().take(FIRST) {
         print!(rt; ", {} at {}", turn.status, turn.at)?;
     }
@@ -162,8 +161,5 @@ pub fn print_sessions<R: Threads + Wait + Sync + Print>(
     for case in cases.split(|octet| *octet == b'#').skip(1) {
         print_case(rt, alloc, case)?;
     }
-    print_split(rt, alloc)?;
-    print_work(rt, alloc)?;
-    print_race(rt, alloc)?;
-    print_gate(rt, alloc)
+    print_scenes(rt, alloc)
 }

@@ -3,12 +3,11 @@
 
 ghost use Rattle.std.specs.Prelude.{◌≡◌, false, Some};
 
-use crate::passes::{PUT, REPORT, Server, answer, asked};
-use crate::runs::{replies, service};
+use crate::passes::{PUT, REPORT, Server, answer, asked, joined};
+use crate::runs::replies;
 use cal_base::{Gate, NoMemory};
-use cal_book::Desk;
+use cal_book::{Book, Desk};
 use expansion_workers::{Worked, work_on};
-use std::alloc::Global;
 use std::sync::Wait;
 use std::sync::atomic::{AtomicU64, Ordering};
 use std::thread::{Threads, join};
@@ -65,8 +64,8 @@ fn serve_by<B: Desk + Drop, R: Wait>(
 {
     let mut pass = pass;
     match asked(rt, server, &mut pass, octets) {
-        Ok((status, written)) => {
-            let replies = replies(written.as_slice());
+        Ok((status, link)) => {
+            let replies = replies(link.written());
             (Answered { status, replies }, pass)
         }
         Err(NoMemory) => {
@@ -103,37 +102,24 @@ pub fn serve_both<B: Desk + Send + Drop, R: Threads + Wait + Sync>(
     )
 }
 
-/// Of two sessions that change one object by one tag the lesser status and the greater, and how many entries there are behind them.
-fn race<R: Threads + Wait + Sync>(rt: &R, alloc: Global) -> Result<(u16, u16, u64), NoMemory> {
-    let (service, mut first, users) = service(alloc)?;
-    let server = Server {
-        alloc,
-        lock: service.lock(),
-        users: &users,
-    };
-    answer(rt, &server, &mut first, PUT);
-    let second = service.lock().split(rt, &mut first)?;
-    let ((left, mut first), (right, second)) = serve_both(
-        rt,
-        &server,
-        first,
-        second,
-        (CHANGE, CHANGE),
-    );
-    service.lock().join(&mut first, second);
+/// Prints of two sessions that change one object by one tag the lesser status and the greater, and how many
+/// entries there are behind them.
+pub fn print_race<R: Threads + Wait + Sync + Print>(
+    rt: &R,
+    server: &Server<'_, Book>,
+    first: Pass<Book>,
+    second: Pass<Book>,
+) -> io::Result<()>
+    requires first { (first.lock ≡ server.now.lock.now) × (first.holds_turn ≡ false) × (first.base ≡ Some server.now.users.now) }
+    requires second { (second.lock ≡ server.now.lock.now) × (second.holds_turn ≡ false) × (second.base ≡ Some server.now.users.now) }
+{
+    let mut first = first;
+    answer(rt, server, &mut first, PUT);
+    let ((left, first), (right, second)) = serve_both(rt, server, first, second, (CHANGE, CHANGE));
+    let entries = joined(server, first, second);
     let lesser = left.status.min(right.status);
     let greater = left.status.max(right.status);
-    Ok((lesser, greater, first.seen_len()))
-}
-
-/// Prints it.
-pub fn print_race<R: Threads + Wait + Sync + Print>(rt: &R, alloc: Global) -> io::Result<()> {
-    match race(rt, alloc) {
-        Ok((lesser, greater, entries)) => {
-            println!(rt; "of two that race: {lesser}, {greater}; {entries} entries")
-        }
-        Err(NoMemory) => println!(rt; "out of memory"),
-    }
+    println!(rt; "of two that race: {lesser}, {greater}; {entries} entries")
 }
 
 /// Works one turn behind a gate, and gives the pass back.
@@ -194,37 +180,27 @@ fn answer_beside<B: Desk + Send + Drop, R: Threads + Wait + Sync>(
     )
 }
 
-/// What becomes of a worker while whose expansion is held a query is answered, and the status of that.
-fn answer_beside_work<R: Threads + Wait + Sync>(
+/// Prints the status of a query that is answered while the expansion of a worker is held, and what becomes of
+/// that worker.
+pub fn print_gate<R: Threads + Wait + Sync + Print>(
     rt: &R,
-    alloc: Global,
-) -> Result<(Worked, u16), NoMemory> {
-    let (service, mut first, users) = service(alloc)?;
-    let server = Server {
-        alloc,
-        lock: service.lock(),
-        users: &users,
-    };
-    answer(rt, &server, &mut first, PUT);
-    let second = service.lock().split(rt, &mut first)?;
+    server: &Server<'_, Book>,
+    first: Pass<Book>,
+    second: Pass<Book>,
+) -> io::Result<()>
+    requires first { (first.lock ≡ server.now.lock.now) × (first.holds_turn ≡ false) × (first.base ≡ Some server.now.users.now) }
+    requires second { (second.lock ≡ server.now.lock.now) × (second.holds_turn ≡ false) × (second.base ≡ Some server.now.users.now) }
+{
+    let mut first = first;
+    answer(rt, server, &mut first, PUT);
     let gate = ShutGate {
         is_held: AtomicU64::new(0),
         is_open: AtomicU64::new(0),
     };
-    let ((worked, mut first), (status, second)) = answer_beside(rt, &server, first, second, &gate);
-    service.lock().join(&mut first, second);
-    Ok((worked, status))
-}
-
-/// Prints it.
-pub fn print_gate<R: Threads + Wait + Sync + Print>(rt: &R, alloc: Global) -> io::Result<()> {
-    match answer_beside_work(rt, alloc) {
-        Ok((worked, status)) => {
-            println!(rt;
-                "answered while an expansion is held: {status}; then {} published, {} stale, {} refused",
-                worked.published, worked.stale, worked.refused
-            )
-        }
-        Err(NoMemory) => println!(rt; "out of memory"),
-    }
+    let ((worked, first), (status, second)) = answer_beside(rt, server, first, second, &gate);
+    let _entries = joined(server, first, second);
+    println!(rt;
+        "answered while an expansion is held: {status}; then {} published, {} stale, {} refused",
+        worked.published, worked.stale, worked.refused
+    )
 }

@@ -1,6 +1,8 @@
 //! The users of the cases, each with the password `abc`.
+ghost use Rattle.std.specs.Prelude.{◌≡◌, IfOk};
 
 use cal_base::{Arc, NoMemory};
+use cal_book::Book;
 use privileges::{Users, read_users};
 use std::alloc::Global;
 
@@ -25,4 +27,13 @@ pub fn shared_users(alloc: Global, file: &[u8]) -> Result<Arc<Users>, NoMemory> 
         Ok(users) => Arc::new(alloc, users),
         Err(_) => Err(NoMemory),
     }
+}
+
+/// The users of a file, and a book of them at its start.
+pub fn book_of(alloc: Global, file: &[u8]) -> Result<(Arc<Users>, Book), NoMemory>
+    ensures { IfOk result (λ made. made.1.users ≡ made.0) }
+{
+    let users = shared_users(alloc, file)?;
+    let book = Book::start(alloc, Arc::try_clone(&users)?)?;
+    Ok((users, book))
 }

@@ -4,7 +4,7 @@ ghost use Rattle.cal_model.specs.History.Journal.{Entry};
 ghost use Rattle.cal_model.specs.Streams.WireLimits.{body_limit};
 ghost use Rattle.cases_server.specs.Slots.{IsSlotIn};
 
-use crate::slot::Slot;
+use crate::slot::{Slot, drop_slot};
 use cal_base::Steps;
 use cal_book::{Book, Publish, expand};
 use cal_model::{Event, Reply};
@@ -128,7 +128,7 @@ fn claim(rt: &HostRuntime, book: &mut Book, slot: &mut Slot) -> io::Result<()>
     match book.claim() {
         Ok(Some(claim)) => {
             let (origin, window) = (claim.origin, claim.window);
-            *slot = Slot::Claimed(claim);
+            drop_slot(mem::replace(slot, Slot::Claimed(claim)));
             println!(rt; "claimed {origin} in window {window}")
         }
         Ok(None) => println!(rt; "nothing is open"),
@@ -140,16 +140,19 @@ fn claim(rt: &HostRuntime, book: &mut Book, slot: &mut Slot) -> io::Result<()>
 fn expand_slot<L: Ledger>(rt: &HostRuntime, slot: &mut Slot, steps: &mut Steps<L>) -> io::Result<()>
     ensures { (journal : List Entry) → IsSlotIn journal slot.old → IsSlotIn journal slot.new }
 {
-    let Slot::Claimed(claim) = mem::replace(slot, Slot::Empty) else {
-        return println!(rt; "no claim");
-    };
-    match expand(rt.alloc(), claim, steps) {
-        Ok(expanded) => {
-            let count = expanded.rows.len();
-            *slot = Slot::Expanded(expanded);
-            println!(rt; "{count} rows")
+    match mem::replace(slot, Slot::Empty) {
+        Slot::Claimed(claim) => match expand(rt.alloc(), claim, steps) {
+            Ok(expanded) => {
+                let count = expanded.rows.len();
+                drop_slot(mem::replace(slot, Slot::Expanded(expanded)));
+                println!(rt; "{count} rows")
+            }
+            Err(_) => println!(rt; "out of memory"),
+        },
+        other => {
+            drop_slot(other);
+            println!(rt; "no claim")
         }
-        Err(_) => println!(rt; "out of memory"),
     }
 }
 
@@ -164,14 +167,17 @@ fn publish<L: Ledger>(
     ensures users { book.new.users ≡ book.old.users }
     ensures slot { IsSlotIn book.new.work.journal slot.new }
 {
-    let Slot::Expanded(expanded) = mem::replace(slot, Slot::Empty) else {
-        return println!(rt; "no rows");
-    };
-    match book.publish(expanded, steps) {
-        Publish::Published => println!(rt; "published"),
-        Publish::Stale { now: Some(now) } => println!(rt; "stale, now {now}"),
-        Publish::Stale { now: None } => println!(rt; "stale, gone"),
-        Publish::NoMemory => println!(rt; "out of memory"),
+    match mem::replace(slot, Slot::Empty) {
+        Slot::Expanded(expanded) => match book.publish(expanded, steps) {
+            Publish::Published => println!(rt; "published"),
+            Publish::Stale { now: Some(now) } => println!(rt; "stale, now {now}"),
+            Publish::Stale { now: None } => println!(rt; "stale, gone"),
+            Publish::NoMemory => println!(rt; "out of memory"),
+        },
+        other => {
+            drop_slot(other);
+            println!(rt; "no rows")
+        }
     }
 }
 

@@ -1,6 +1,8 @@
 //! Doors and connections in other threads, over any door.
 
-use cal_base::{Door, Link, List, MemoryDoor, MemoryLink, NoMemory, Octets, send_all};
+use crate::outside::link;
+use crate::wanted::with;
+use cal_base::{Door, List, MemoryDoor, NoMemory, send_all};
 use std::alloc::{AllocError, Global};
 use std::sync::Wait;
 use std::test::Fail;
@@ -33,7 +35,7 @@ fn greeted_by_each<D: Door, R: Threads + Wait + Sync>(
 fn greeted_apart<D: Door, R: Threads + Wait + Sync>(
     rt: &R,
     alloc: Global,
-    door: &mut D,
+    mut door: D,
     most: u64,
 ) -> Result<Vec<bool>, AllocError> {
     let mut links = Vec::new(alloc);
@@ -51,28 +53,28 @@ fn greeted_apart<D: Door, R: Threads + Wait + Sync>(
 
 /// A door of two links, of which the second takes nothing.
 fn door(alloc: Global) -> Result<MemoryDoor, NoMemory> {
-    let mut links = List::new(alloc);
-    for failing in [9, 0] {
-        let failing = List::of(alloc, &[failing])?;
-        links.push(MemoryLink::new(alloc, Octets::new(alloc), failing, 0))?;
-    }
+    let links = with(List::new(alloc), link(alloc, b"", 9))?;
+    let links = with(links, link(alloc, b"", 0))?;
     Ok(MemoryDoor::new(links, 0, List::new(alloc)))
+}
+
+fn two_doors(alloc: Global) -> Result<List<MemoryDoor>, NoMemory> {
+    let doors = with(List::new(alloc), door(alloc))?;
+    with(doors, door(alloc))
 }
 
 #[test]
 fn doors_serve_in_threads(rt: HostRuntime) -> Result<(), Fail> {
-    let mut doors = Vec::new(rt.alloc());
-    doors.push(door(rt.alloc())?)?;
-    doors.push(door(rt.alloc())?)?;
-    let counts = greeted_by_each(&rt, doors)?;
+    let doors = two_doors(rt.alloc())?;
+    let counts = greeted_by_each(&rt, doors.into_vec())?;
     assert!(rt; counts.as_slice() == [1, 1].as_slice());
     Ok(())
 }
 
 #[test]
 fn links_are_served_in_threads(rt: HostRuntime) -> Result<(), Fail> {
-    let mut door = door(rt.alloc())?;
-    let greeted = greeted_apart(&rt, rt.alloc(), &mut door, 3)?;
+    let door = door(rt.alloc())?;
+    let greeted = greeted_apart(&rt, rt.alloc(), door, 3)?;
     assert!(rt; greeted.as_slice() == [true, false].as_slice());
     Ok(())
 }

@@ -22,8 +22,6 @@ mod objects;
 #[cfg(test)]
 mod outside;
 #[cfg(test)]
-mod stacks;
-#[cfg(test)]
 mod streams;
 #[cfg(test)]
 mod tcp;
@@ -31,5 +29,7 @@ mod tcp;
 mod turns;
 #[cfg(test)]
 mod values;
+#[cfg(test)]
+mod wanted;
 #[cfg(test)]
 mod xml_bodies;

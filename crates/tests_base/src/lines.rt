@@ -2,35 +2,44 @@
 ghost use Rattle.std.specs.Prelude.{All};
 ghost use Rattle.cal_base.specs.Lines.LineGrammar.{IsReadLine};
 
+use crate::wanted::{Wanted, is_text};
 use cal_base::{Line, List, NoMemory, Octets};
 use ical_lines::{LineFault, split_lines, write_line};
 use std::alloc::Global;
-use std::test::Fail;
 
-/// Lines as texts, one each: `NAME [PARAM <value> <value>] = value`.
-fn shown(alloc: Global, lines: &List<Line>) -> Result<Octets, NoMemory> {
-    let mut out = Octets::new(alloc);
-    for line in lines.as_slice() {
-        show_line(line, &mut out)?;
+/// Shows a line as `NAME [PARAM <value> <value>] = value`.
+fn show(line: &Line, wanted: &mut Wanted<'_>) {
+    wanted.put(line.name.as_slice());
+    for param in line.params.as_slice() {
+        wanted.put(b" [");
+        wanted.put(param.name.as_slice());
+        for value in param.values.as_slice() {
+            wanted.put(b" <");
+            wanted.put(value.as_slice());
+            wanted.put(b">");
+        }
+        wanted.put(b"]");
     }
-    Ok(out)
+    wanted.put(b" = ");
+    wanted.put(line.value.as_slice());
+    wanted.put(b"\n");
 }
 
-fn show_line(line: &Line, out: &mut Octets) -> Result<(), NoMemory> {
-    out.extend_from_slice(line.name.as_slice())?;
-    for param in line.params.as_slice() {
-        out.extend_from_slice(b" [")?;
-        out.extend_from_slice(param.name.as_slice())?;
-        for value in param.values.as_slice() {
-            out.extend_from_slice(b" <")?;
-            out.extend_from_slice(value.as_slice())?;
-            out.extend_from_slice(b">")?;
-        }
-        out.extend_from_slice(b"]")?;
+/// Whether the lines are shown so, one each.
+fn are_shown(lines: &List<Line>, text: &[u8]) -> bool {
+    let mut wanted = Wanted::new(text);
+    for line in lines.as_slice() {
+        show(line, &mut wanted);
     }
-    out.extend_from_slice(b" = ")?;
-    out.extend_from_slice(line.value.as_slice())?;
-    out.extend_from_slice(b"\n")
+    wanted.is_whole()
+}
+
+/// Whether a text is read as lines that are shown so.
+fn reads_as(alloc: Global, octets: &[u8], text: &[u8]) -> bool {
+    match split_lines(alloc, octets) {
+        Ok(lines) => are_shown(&lines, text),
+        Err(_) => false,
+    }
 }
 
 /// Each line written.
@@ -44,20 +53,6 @@ fn written(alloc: Global, lines: &List<Line>) -> Result<Octets, NoMemory>
     Ok(out)
 }
 
-/// Whether the lines are shown so.
-fn are_shown(alloc: Global, lines: &List<Line>, text: &[u8]) -> Result<bool, NoMemory> {
-    let seen = shown(alloc, lines)?;
-    Ok(seen.as_slice() == text)
-}
-
-/// Whether a text is read as lines that are shown so.
-fn reads_as(alloc: Global, octets: &[u8], text: &[u8]) -> Result<bool, NoMemory> {
-    match split_lines(alloc, octets) {
-        Ok(lines) => are_shown(alloc, &lines, text),
-        Err(_) => Ok(false),
-    }
-}
-
 /// Whether a text is read as these lines.
 fn reads_again(alloc: Global, octets: &[u8], lines: &List<Line>) -> bool {
     match split_lines(alloc, octets) {
@@ -67,18 +62,17 @@ fn reads_again(alloc: Global, octets: &[u8], lines: &List<Line>) -> bool {
 }
 
 /// Whether the lines are written so, and what is written is read as these lines again.
-fn are_written(alloc: Global, lines: &List<Line>, text: &[u8]) -> Result<bool, NoMemory>
+fn are_written(alloc: Global, lines: &List<Line>, text: &[u8]) -> bool
     requires { All IsReadLine lines.now }
 {
-    let out = written(alloc, lines)?;
-    Ok(out.as_slice() == text && reads_again(alloc, out.as_slice(), lines))
+    is_text(written(alloc, lines), text) && reads_again(alloc, text, lines)
 }
 
 /// Whether the lines of a text are written so.
-fn writes_as(alloc: Global, octets: &[u8], text: &[u8]) -> Result<bool, NoMemory> {
+fn writes_as(alloc: Global, octets: &[u8], text: &[u8]) -> bool {
     match split_lines(alloc, octets) {
         Ok(lines) => are_written(alloc, &lines, text),
-        Err(_) => Ok(false),
+        Err(_) => false,
     }
 }
 
@@ -90,83 +84,87 @@ fn has_fault(alloc: Global, octets: &[u8], place: u64) -> bool {
     }
 }
 
+/// Texts, and how their lines are shown.
+const READ: &[(&str, &str)] = &[
+    // RFC 5545, 3.1
+    (
+        "DESCRIPTION:This is a lo\r\n ng description\r\n  that exists on a long line.",
+        "DESCRIPTION = This is a long description that exists on a long line.\n",
+    ),
+    // 3.1.1 and 3.1.2
+    (
+        "ATTENDEE;RSVP=TRUE;ROLE=REQ-PARTICIPANT:mailto:\r\n jsmith@example.com\r\nRDATE;VALUE=DATE:19970304,19970504,19970704,19970904\r\n",
+        "ATTENDEE [RSVP <TRUE>] [ROLE <REQ-PARTICIPANT>] = mailto:jsmith@example.com\nRDATE [VALUE <DATE>] = 19970304,19970504,19970704,19970904\n",
+    ),
+    // 3.2.1 and 3.2.11
+    (
+        "DESCRIPTION;ALTREP=\"CID:part3.msg.970415T083000@example.com\":\r\n Project XYZ Review Meeting\r\nATTENDEE;MEMBER=\"mailto:projectA@example.com\",\"mailto:pr\r\n ojectB@example.com\":mailto:janedoe@example.com\r\n",
+        "DESCRIPTION [ALTREP <CID:part3.msg.970415T083000@example.com>] = Project XYZ Review Meeting\nATTENDEE [MEMBER <mailto:projectA@example.com> <mailto:projectB@example.com>] = mailto:janedoe@example.com\n",
+    ),
+    // a fold at TAB, ends without CR, empty lines, names in lower case, and no end
+    (
+        "begin:VEVENT\nSUMMARY:Stand\n\t-up\n\n\r\nDTSTART;tzid=X:20260101T090000\nend:VEVENT",
+        "BEGIN = VEVENT\nSUMMARY = Stand-up\nDTSTART [TZID <X>] = 20260101T090000\nEND = VEVENT\n",
+    ),
+    ("", ""),
+];
+
+/// Texts, and where the first fault of each stands.
+const FAULTS: &[(&[u8], u64)] = &[
+    (b"A:b\r\n c\rd\r\n", 5),
+    (b"A:b\r", 0),
+    (b"A:b\nC:\x0b", 4),
+    (b"A:b\nC:\xff", 4),
+    (b"A:\xc3\r\n \xa4\r\n", 0),
+    (b"A:b\nC:\xef\xbf\xbe", 4),
+    (b"A:b\nC:\xef\xbf\xbf", 4),
+    (b"A:b\r\nxx\r\n \ry\r\n", 5),
+    (b"A;B=\"x:y\n", 0),
+    (b"A:b\nC;D:e\n", 4),
+    (b"X:y\n\n b\n", 4),
+    (b" A:b\n", 0),
+];
+
+/// Lines, and how they are written.
+const WRITTEN: &[(&str, &str)] = &[
+    ("A:b", "A:b\r\n"),
+    (
+        "A:3456789012345678901234567890123456789012345678901234567890123456789012345",
+        "A:3456789012345678901234567890123456789012345678901234567890123456789012345\r\n",
+    ),
+    (
+        "A:34567890123456789012345678901234567890123456789012345678901234567890123456",
+        "A:3456789012345678901234567890123456789012345678901234567890123456789012345\r\n 6\r\n",
+    ),
+    // a character of two octets that would begin at octet 75
+    (
+        "A:345678901234567890123456789012345678901234567890123456789012345678901234é",
+        "A:345678901234567890123456789012345678901234567890123456789012345678901234\r\n é\r\n",
+    ),
+    // the second fold stands behind 74 octets and the SPACE
+    (
+        "A:345678901234567890123456789012345678901234567890123456789012345678901234512345678901234567890123456789012345678901234567890123456789012345678901234X",
+        "A:3456789012345678901234567890123456789012345678901234567890123456789012345\r\n 12345678901234567890123456789012345678901234567890123456789012345678901234\r\n X\r\n",
+    ),
+];
+
 #[test]
-fn reads_the_examples_of_the_standard(rt: HostRuntime) -> Result<(), Fail> {
-    let table = [
-        // RFC 5545, 3.1
-        (
-            "DESCRIPTION:This is a lo\r\n ng description\r\n  that exists on a long line.",
-            "DESCRIPTION = This is a long description that exists on a long line.\n",
-        ),
-        // 3.1.1 and 3.1.2
-        (
-            "ATTENDEE;RSVP=TRUE;ROLE=REQ-PARTICIPANT:mailto:\r\n jsmith@example.com\r\nRDATE;VALUE=DATE:19970304,19970504,19970704,19970904\r\n",
-            "ATTENDEE [RSVP <TRUE>] [ROLE <REQ-PARTICIPANT>] = mailto:jsmith@example.com\nRDATE [VALUE <DATE>] = 19970304,19970504,19970704,19970904\n",
-        ),
-        // 3.2.1 and 3.2.11
-        (
-            "DESCRIPTION;ALTREP=\"CID:part3.msg.970415T083000@example.com\":\r\n Project XYZ Review Meeting\r\nATTENDEE;MEMBER=\"mailto:projectA@example.com\",\"mailto:pr\r\n ojectB@example.com\":mailto:janedoe@example.com\r\n",
-            "DESCRIPTION [ALTREP <CID:part3.msg.970415T083000@example.com>] = Project XYZ Review Meeting\nATTENDEE [MEMBER <mailto:projectA@example.com> <mailto:projectB@example.com>] = mailto:janedoe@example.com\n",
-        ),
-        // a fold at TAB, ends without CR, empty lines, names in lower case, and no end
-        (
-            "begin:VEVENT\nSUMMARY:Stand\n\t-up\n\n\r\nDTSTART;tzid=X:20260101T090000\nend:VEVENT",
-            "BEGIN = VEVENT\nSUMMARY = Stand-up\nDTSTART [TZID <X>] = 20260101T090000\nEND = VEVENT\n",
-        ),
-        ("", ""),
-    ];
-    for (text, lines) in table {
-        assert!(rt; reads_as(rt.alloc(), text.as_bytes(), lines.as_bytes())?);
+fn reads_the_examples_of_the_standard(rt: HostRuntime) {
+    for (text, lines) in READ {
+        assert!(rt; reads_as(rt.alloc(), text.as_bytes(), lines.as_bytes()));
     }
-    Ok(())
 }
 
 #[test]
 fn says_where_the_first_fault_stands(rt: HostRuntime) {
-    let table: [(&[u8], u64); 12] = [
-        (b"A:b\r\n c\rd\r\n", 5),
-        (b"A:b\r", 0),
-        (b"A:b\nC:\x0b", 4),
-        (b"A:b\nC:\xff", 4),
-        (b"A:\xc3\r\n \xa4\r\n", 0),
-        (b"A:b\nC:\xef\xbf\xbe", 4),
-        (b"A:b\nC:\xef\xbf\xbf", 4),
-        (b"A:b\r\nxx\r\n \ry\r\n", 5),
-        (b"A;B=\"x:y\n", 0),
-        (b"A:b\nC;D:e\n", 4),
-        (b"X:y\n\n b\n", 4),
-        (b" A:b\n", 0),
-    ];
-    for (octets, place) in table {
-        assert!(rt; has_fault(rt.alloc(), octets, place));
+    for (octets, place) in FAULTS {
+        assert!(rt; has_fault(rt.alloc(), octets, *place));
     }
 }
 
 #[test]
-fn folds_at_75_octets(rt: HostRuntime) -> Result<(), Fail> {
-    let table = [
-        ("A:b", "A:b\r\n"),
-        (
-            "A:3456789012345678901234567890123456789012345678901234567890123456789012345",
-            "A:3456789012345678901234567890123456789012345678901234567890123456789012345\r\n",
-        ),
-        (
-            "A:34567890123456789012345678901234567890123456789012345678901234567890123456",
-            "A:3456789012345678901234567890123456789012345678901234567890123456789012345\r\n 6\r\n",
-        ),
-        // a character of two octets that would begin at octet 75
-        (
-            "A:345678901234567890123456789012345678901234567890123456789012345678901234é",
-            "A:345678901234567890123456789012345678901234567890123456789012345678901234\r\n é\r\n",
-        ),
-        // the second fold stands behind 74 octets and the SPACE
-        (
-            "A:345678901234567890123456789012345678901234567890123456789012345678901234512345678901234567890123456789012345678901234567890123456789012345678901234X",
-            "A:3456789012345678901234567890123456789012345678901234567890123456789012345\r\n 12345678901234567890123456789012345678901234567890123456789012345678901234\r\n X\r\n",
-        ),
-    ];
-    for (raw, text) in table {
-        assert!(rt; writes_as(rt.alloc(), raw.as_bytes(), text.as_bytes())?);
+fn folds_at_75_octets(rt: HostRuntime) {
+    for (raw, text) in WRITTEN {
+        assert!(rt; writes_as(rt.alloc(), raw.as_bytes(), text.as_bytes()));
     }
-    Ok(())
 }

@@ -7,7 +7,6 @@ use std::io;
 use std::io::Write;
 use std::net::{Net, TcpListener, TcpStream};
 use std::sync::atomic::{AtomicU64, Ordering};
-use std::test::Fail;
 use std::time::Duration;
 
 /// A clock that stands at a second.
@@ -27,7 +26,6 @@ impl std::rt::Clock for StandingClock<'_> {
 }
 
 /// A call at a second, what it answers, and how many seconds a read might wait then.
-#[derive(Drop)]
 enum Call {
     Read(u64, Result<usize, Failed>, u64),
     Write(u64, Result<usize, Failed>),
@@ -39,114 +37,103 @@ fn answers(
     twin: &TcpStream,
     second: &AtomicU64,
     call: &Call,
-) -> io::Result<bool> {
+) -> bool {
     match call {
         Call::Read(at, wanted, waits) => {
             second.store(*at, Ordering::SeqCst);
             let got = link.read(&mut [0u8; 1]);
-            Ok(got == *wanted && twin.read_timeout()? == Some(Duration::from_secs(*waits)))
+            got == *wanted && twin.read_timeout().ok() == Some(Some(Duration::from_secs(*waits)))
         }
         Call::Write(at, wanted) => {
             second.store(*at, Ordering::SeqCst);
-            Ok(link.write(b"reply") == *wanted)
+            link.write(b"reply") == *wanted
         }
     }
 }
 
-/// Whether calls one after another answer so.
-fn all_answer(
-    link: &mut TcpLink<StandingClock<'_>>,
-    twin: &TcpStream,
-    second: &AtomicU64,
-    calls: &[Call],
-) -> io::Result<bool> {
+/// Whether calls of a connection that is made at second 1000 answer so, as a second handle of it shows.
+fn all_answer(stream: TcpStream, twin: &TcpStream, calls: &[Call]) -> bool {
+    let second = AtomicU64::new(1000);
+    let clock = StandingClock { second: &second };
+    let mut link = TcpLink::new(&clock, stream);
+    let mut same = true;
     for call in calls {
-        if !answers(link, twin, second, call)? {
-            return Ok(false);
-        }
+        same = same && answers(&mut link, twin, &second, call);
     }
-    Ok(true)
+    same
 }
 
-/// Sends ten octets at once, and gives a second handle of the other side.
-fn twin_behind_octets(client: &mut TcpStream, stream: &TcpStream) -> io::Result<TcpStream> {
-    client.write_all(b"0123456789")?;
-    stream.try_clone()
-}
-
-/// Whether calls of a connection that is made at second 1000 answer so. Ten octets come at once.
+/// Whether calls of a new connection answer so. Ten octets come at once.
 fn calls_answer<R: Net<Listener = TcpListener, Stream = TcpStream>>(
     rt: &R,
     calls: &[Call],
 ) -> io::Result<bool> {
     let (mut client, stream) = connection(rt)?;
-    let twin = twin_behind_octets(&mut client, &stream)?;
-    let second = AtomicU64::new(1000);
-    let clock = StandingClock { second: &second };
-    let mut link = TcpLink::new(&clock, stream);
-    all_answer(&mut link, &twin, &second, calls)
+    let sent = client.write_all(b"0123456789").is_ok();
+    match stream.try_clone() {
+        Ok(twin) => {
+            let same = all_answer(stream, &twin, calls);
+            Ok(sent && same)
+        }
+        Err(error) => Err(error),
+    }
 }
 
 /// A read may wait ten seconds, or what is left of thirty from the first octet on.
-#[test]
-fn a_request_is_read_for_thirty_seconds(rt: HostRuntime) -> Result<(), Fail> {
-    let calls = [
-        Call::Read(1005, Ok(1), 10),
-        Call::Read(1025, Ok(1), 10),
-        Call::Read(1026, Ok(1), 9),
-        Call::Read(1034, Ok(1), 1),
-        Call::Read(1035, Err(Failed), 1),
-        Call::Read(9999, Err(Failed), 1),
-    ];
-    assert!(rt; calls_answer(&rt, &calls)?);
-    Ok(())
-}
+const THIRTY_SECONDS: &[Call] = &[
+    Call::Read(1005, Ok(1), 10),
+    Call::Read(1025, Ok(1), 10),
+    Call::Read(1026, Ok(1), 9),
+    Call::Read(1034, Ok(1), 1),
+    Call::Read(1035, Err(Failed), 1),
+    Call::Read(9999, Err(Failed), 1),
+];
 
 /// The time at work counts for neither: the write at 1300 is made.
-#[test]
-fn a_reply_is_written_for_two_minutes(rt: HostRuntime) -> Result<(), Fail> {
-    let calls = [
-        Call::Read(1001, Ok(1), 10),
-        Call::Write(1300, Ok(5)),
-        Call::Write(1419, Ok(5)),
-        Call::Write(1421, Err(Failed)),
-        Call::Read(1422, Ok(1), 2),
-        Call::Write(1423, Ok(5)),
-        Call::Write(1543, Ok(5)),
-    ];
-    assert!(rt; calls_answer(&rt, &calls)?);
-    Ok(())
-}
+const TWO_MINUTES: &[Call] = &[
+    Call::Read(1001, Ok(1), 10),
+    Call::Write(1300, Ok(5)),
+    Call::Write(1419, Ok(5)),
+    Call::Write(1421, Err(Failed)),
+    Call::Read(1422, Ok(1), 2),
+    Call::Write(1423, Ok(5)),
+    Call::Write(1543, Ok(5)),
+];
 
 /// Behind a reply the first octet may be waited for two seconds, and those behind it ten.
-#[test]
-fn an_idle_connection_is_read_for_two_seconds(rt: HostRuntime) -> Result<(), Fail> {
-    let calls = [
-        Call::Read(1001, Ok(1), 10),
-        Call::Write(1002, Ok(5)),
-        Call::Read(1100, Ok(1), 2),
-        Call::Read(1101, Ok(1), 10),
-        Call::Read(1125, Ok(1), 5),
-        Call::Write(1126, Ok(5)),
-        Call::Read(1127, Ok(1), 2),
-    ];
-    assert!(rt; calls_answer(&rt, &calls)?);
-    Ok(())
-}
+const TWO_SECONDS: &[Call] = &[
+    Call::Read(1001, Ok(1), 10),
+    Call::Write(1002, Ok(5)),
+    Call::Read(1100, Ok(1), 2),
+    Call::Read(1101, Ok(1), 10),
+    Call::Read(1125, Ok(1), 5),
+    Call::Write(1126, Ok(5)),
+    Call::Read(1127, Ok(1), 2),
+];
 
 /// A request that began before is read on and answered; none begins later.
+const TEN_MINUTES: &[Call] = &[
+    Call::Read(1001, Ok(1), 10),
+    Call::Write(1002, Ok(5)),
+    Call::Read(1599, Ok(1), 1),
+    Call::Read(1605, Ok(1), 10),
+    Call::Write(1620, Ok(5)),
+    Call::Read(1621, Err(Failed), 10),
+];
+
+const IDLE: &[Call] = &[Call::Read(1600, Err(Failed), 10)];
+
+const CONNECTIONS: &[(&str, &[Call])] = &[
+    ("a request is read for thirty seconds", THIRTY_SECONDS),
+    ("a reply is written for two minutes", TWO_MINUTES),
+    ("an idle connection is read for two seconds", TWO_SECONDS),
+    ("no request begins after ten minutes", TEN_MINUTES),
+    ("none begins then where none began before", IDLE),
+];
+
 #[test]
-fn no_request_begins_after_ten_minutes(rt: HostRuntime) -> Result<(), Fail> {
-    let calls = [
-        Call::Read(1001, Ok(1), 10),
-        Call::Write(1002, Ok(5)),
-        Call::Read(1599, Ok(1), 1),
-        Call::Read(1605, Ok(1), 10),
-        Call::Write(1620, Ok(5)),
-        Call::Read(1621, Err(Failed), 10),
-    ];
-    assert!(rt; calls_answer(&rt, &calls)?);
-    let idle = [Call::Read(1600, Err(Failed), 10)];
-    assert!(rt; calls_answer(&rt, &idle)?);
-    Ok(())
+fn connections_have_their_times(rt: HostRuntime) {
+    for (name, calls) in CONNECTIONS {
+        assert!(rt; calls_answer(&rt, calls).ok() == Some(true), "{name}");
+    }
 }

@@ -7,7 +7,7 @@ use cal_moment::{
 };
 
 /// Dates of the years 1 to 9999, their days since 1970, and their days of the week.
-const DATES: [(i32, u8, u8, i32, u8); 12] = [
+const DATES: &[(i32, u8, u8, i32, u8)] = &[
     (1, 1, 1, -719_162, 0),
     (1600, 2, 29, -135_081, 1),
     (1900, 2, 28, -25_509, 2),
@@ -23,7 +23,7 @@ const DATES: [(i32, u8, u8, i32, u8); 12] = [
 ];
 
 /// Numbers that are no date of these years.
-const NO_DATES: [(i32, u8, u8); 8] = [
+const NO_DATES: &[(i32, u8, u8)] = &[
     (0, 12, 31),
     (10_000, 1, 1),
     (1900, 2, 29),
@@ -35,7 +35,7 @@ const NO_DATES: [(i32, u8, u8); 8] = [
 ];
 
 /// The months, and the days of each in a common year.
-const MONTHS: [(u8, u8); 12] = [
+const MONTHS: &[(u8, u8)] = &[
     (1, 31),
     (2, 28),
     (3, 31),
@@ -60,20 +60,6 @@ fn is_counted(year: i32, month: u8, day: u8, number: i32, week: u8) -> bool {
     }
 }
 
-#[test]
-fn counts_days(rt: HostRuntime) {
-    for (year, month, day, number, week) in DATES {
-        assert!(rt; is_counted(year, month, day, number, week));
-    }
-}
-
-#[test]
-fn refuses_dates(rt: HostRuntime) {
-    for (year, month, day) in NO_DATES {
-        assert!(rt; day_of(year, month, day) == None);
-    }
-}
-
 /// Whether the days of a month have the numbers from this one on.
 fn counts_month(year: i32, month: u8, days: u8, first: i32) -> bool {
     let mut number = first;
@@ -91,8 +77,8 @@ fn counts_month(year: i32, month: u8, days: u8, first: i32) -> bool {
 fn counts_year(year: i32, first: i32, february: u8) -> bool {
     let mut number = first;
     for (month, days) in MONTHS {
-        let days = if month == 2 { february } else { days };
-        if !counts_month(year, month, days, number) {
+        let days = if *month == 2 { february } else { *days };
+        if !counts_month(year, *month, days, number) {
             return false;
         }
         number = number.saturating_add(days as i32);
@@ -101,12 +87,18 @@ fn counts_year(year: i32, first: i32, february: u8) -> bool {
 }
 
 #[test]
-fn counts_years(rt: HostRuntime) {
+fn days_are_counted(rt: HostRuntime) {
+    for (year, month, day, number, week) in DATES {
+        assert!(rt; is_counted(*year, *month, *day, *number, *week), "a date");
+    }
+    for (year, month, day) in NO_DATES {
+        assert!(rt; day_of(*year, *month, *day) == None, "no date");
+    }
     assert!(rt; counts_year(2023, 19_358, 28) && counts_year(2024, 19_723, 29));
 }
 
 /// Texts of a date and a time, with the day, the second and whether it is of UTC.
-const DATE_TIMES: [(&str, i32, u32, bool); 5] = [
+const DATE_TIMES: &[(&str, i32, u32, bool)] = &[
     ("19980118T230000", 10_244, 82_800, false),
     ("19980119T070000Z", 10_245, 25_200, true),
     ("19970630T235960Z", 10_042, 86_399, true),
@@ -115,7 +107,7 @@ const DATE_TIMES: [(&str, i32, u32, bool); 5] = [
 ];
 
 /// Texts of lengths, with their days and seconds.
-const LENGTHS: [(&str, i64, i64); 8] = [
+const LENGTHS: &[(&str, i64, i64)] = &[
     ("P15DT5H0M20S", 15, 18_020),
     ("P7W", 49, 0),
     ("-PT15M", 0, -900),
@@ -127,7 +119,7 @@ const LENGTHS: [(&str, i64, i64); 8] = [
 ];
 
 /// Texts of offsets, with their seconds.
-const OFFSETS: [(&str, i32); 6] = [
+const OFFSETS: &[(&str, i32)] = &[
     ("-0500", -18_000),
     ("+0100", 3600),
     ("-0000", 0),
@@ -137,29 +129,29 @@ const OFFSETS: [(&str, i32); 6] = [
 ];
 
 #[test]
-fn reads_dates_and_times(rt: HostRuntime) {
+fn texts_are_read(rt: HostRuntime) {
     assert!(rt; read_date(b"19970714") == Ok(Day(10_056)));
     for (text, day, second, utc) in DATE_TIMES {
-        assert!(rt; read_date_time(text.as_bytes()) == Ok((Local { day, second }, utc)));
+        let local = Local {
+            day: *day,
+            second: *second,
+        };
+        assert!(rt; read_date_time(text.as_bytes()) == Ok((local, *utc)));
     }
-}
-
-#[test]
-fn reads_lengths(rt: HostRuntime) {
     for (text, days, seconds) in LENGTHS {
-        assert!(rt; read_length(text.as_bytes()) == Ok(Length { days, seconds }));
+        let length = Length {
+            days: *days,
+            seconds: *seconds,
+        };
+        assert!(rt; read_length(text.as_bytes()) == Ok(length));
     }
-}
-
-#[test]
-fn reads_offsets(rt: HostRuntime) {
     for (text, seconds) in OFFSETS {
-        assert!(rt; read_offset(text.as_bytes()) == Ok(seconds));
+        assert!(rt; read_offset(text.as_bytes()) == Ok(*seconds));
     }
 }
 
 /// Texts that are no date, with their places.
-const BAD_DATES: [(&str, u64); 12] = [
+const BAD_DATES: &[(&str, u64)] = &[
     ("", 0),
     ("2025031", 7),
     ("20250230", 6),
@@ -175,7 +167,7 @@ const BAD_DATES: [(&str, u64); 12] = [
 ];
 
 /// Texts that are no date and time, with their places.
-const BAD_DATE_TIMES: [(&str, u64); 9] = [
+const BAD_DATE_TIMES: &[(&str, u64)] = &[
     ("19980119", 8),
     ("19980119t230000", 8),
     ("19980119T240000", 10),
@@ -188,7 +180,7 @@ const BAD_DATE_TIMES: [(&str, u64); 9] = [
 ];
 
 /// Texts that are no length, with their places.
-const BAD_LENGTHS: [(&str, u64); 16] = [
+const BAD_LENGTHS: &[(&str, u64)] = &[
     ("", 0),
     ("-", 1),
     ("P", 1),
@@ -208,7 +200,7 @@ const BAD_LENGTHS: [(&str, u64); 16] = [
 ];
 
 /// Texts that are no offset, with their places.
-const BAD_OFFSETS: [(&str, u64); 9] = [
+const BAD_OFFSETS: &[(&str, u64)] = &[
     ("0500", 0),
     ("+24", 2),
     ("+3000", 1),
@@ -220,50 +212,61 @@ const BAD_OFFSETS: [(&str, u64); 9] = [
     ("+05:30", 3),
 ];
 
-#[test]
-fn refuses_texts_of_dates(rt: HostRuntime) {
-    for (text, place) in BAD_DATES {
-        assert!(rt; read_date(text.as_bytes()) == Err(Bad { place }));
+/// What a text is to be.
+enum Kind {
+    Date,
+    DateTime,
+    Length,
+    Offset,
+}
+
+/// Texts that are none of a kind, with their places.
+const BAD: &[(&str, Kind, &[(&str, u64)])] = &[
+    ("dates", Kind::Date, BAD_DATES),
+    ("dates and times", Kind::DateTime, BAD_DATE_TIMES),
+    ("lengths", Kind::Length, BAD_LENGTHS),
+    ("offsets", Kind::Offset, BAD_OFFSETS),
+];
+
+/// Whether a text is none of a kind, and is refused at this place.
+fn is_refused(kind: &Kind, text: &[u8], place: u64) -> bool {
+    let bad = Bad { place };
+    match kind {
+        Kind::Date => read_date(text) == Err(bad),
+        Kind::DateTime => read_date_time(text) == Err(bad),
+        Kind::Length => read_length(text) == Err(bad),
+        Kind::Offset => read_offset(text) == Err(bad),
     }
 }
 
 #[test]
-fn refuses_texts_of_times(rt: HostRuntime) {
-    for (text, place) in BAD_DATE_TIMES {
-        assert!(rt; read_date_time(text.as_bytes()) == Err(Bad { place }));
-    }
-}
-
-#[test]
-fn refuses_lengths(rt: HostRuntime) {
-    for (text, place) in BAD_LENGTHS {
-        assert!(rt; read_length(text.as_bytes()) == Err(Bad { place }));
-    }
-}
-
-#[test]
-fn refuses_offsets(rt: HostRuntime) {
-    for (text, place) in BAD_OFFSETS {
-        assert!(rt; read_offset(text.as_bytes()) == Err(Bad { place }));
+fn texts_are_refused(rt: HostRuntime) {
+    for (name, kind, texts) in BAD {
+        for (text, place) in *texts {
+            assert!(rt; is_refused(kind, text.as_bytes(), *place), "{name}");
+        }
     }
 }
 
 /// 1 hour, 1 minute and 1 second after midnight of 3 February of the year 1.
-#[test]
-fn writes_dates_and_times(rt: HostRuntime) {
+fn writes_dates_and_times() -> bool {
     let day = Day(-719_129);
     let local = Local {
         day: day.0,
         second: 3661,
     };
-    assert!(rt; day_of(1, 2, 3) == Some(day));
-    assert!(rt; write_date(day) == *b"00010203");
-    assert!(rt; write_local(local) == *b"00010203T010101");
+    let is_date = day_of(1, 2, 3) == Some(day) && write_date(day) == *b"00010203";
+    is_date && write_local(local) == *b"00010203T010101"
+}
+
+fn writes_moments() -> bool {
+    write_utc(Utc(885_193_200)) == *b"19980119T070000Z"
+        && write_utc(Utc(-62_135_596_800)) == *b"00010101T000000Z"
+        && write_utc(Utc(253_402_300_799)) == *b"99991231T235959Z"
 }
 
 #[test]
-fn writes_moments(rt: HostRuntime) {
-    assert!(rt; write_utc(Utc(885_193_200)) == *b"19980119T070000Z");
-    assert!(rt; write_utc(Utc(-62_135_596_800)) == *b"00010101T000000Z");
-    assert!(rt; write_utc(Utc(253_402_300_799)) == *b"99991231T235959Z");
+fn texts_are_written(rt: HostRuntime) {
+    assert!(rt; writes_dates_and_times());
+    assert!(rt; writes_moments());
 }

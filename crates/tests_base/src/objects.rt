@@ -2,11 +2,11 @@
 ghost use Rattle.std.specs.Prelude.{IfOk};
 ghost use Rattle.cal_base.specs.Lines.LineGrammar.{IsBuilt};
 
-use cal_base::{NoMemory, Node};
+use crate::wanted::is_text;
+use cal_base::Node;
 use ical_lines::split_lines;
 use ical_objects::{TreeFault, build, print};
 use std::alloc::Global;
-use std::test::Fail;
 
 /// The tree of a short text.
 fn read(alloc: Global, text: &[u8]) -> Result<Node, TreeFault>
@@ -38,12 +38,12 @@ fn is_the_calendar(node: &Node) -> bool {
         && uid.raw.as_slice() == b"UID:2".as_slice()
 }
 
-/// Whether it is printed so.
-fn prints_as(alloc: Global, node: &Node, text: &[u8]) -> Result<bool, NoMemory>
-    requires { IsBuilt node.now }
-{
-    let octets = print(alloc, node)?;
-    Ok(octets.as_slice() == text)
+/// Whether a text is read as that calendar, which is printed with lines before components.
+fn is_read_and_printed(alloc: Global, text: &[u8]) -> bool {
+    match read(alloc, text) {
+        Ok(node) => is_the_calendar(&node) && is_text(print(alloc, &node), PRINTED),
+        Err(_) => false,
+    }
 }
 
 /// Whether a text is refused for this fault.
@@ -54,49 +54,38 @@ fn has_fault(alloc: Global, text: &[u8], fault: TreeFault) -> bool {
     }
 }
 
+/// What is printed is printed as it is.
 #[test]
-fn builds_the_components(rt: HostRuntime) -> Result<(), Fail> {
-    let node = read(rt.alloc(), CALENDAR)?;
-    assert!(rt; is_the_calendar(&node));
-    Ok(())
+fn components_are_built_and_printed(rt: HostRuntime) {
+    for text in [CALENDAR, PRINTED] {
+        assert!(rt; is_read_and_printed(rt.alloc(), text));
+    }
 }
 
-#[test]
-fn prints_lines_before_components(rt: HostRuntime) -> Result<(), Fail> {
-    let node = read(rt.alloc(), CALENDAR)?;
-    assert!(rt; prints_as(rt.alloc(), &node, PRINTED)?);
-    Ok(())
-}
-
-#[test]
-fn prints_what_is_printed_as_it_is(rt: HostRuntime) -> Result<(), Fail> {
-    let node = read(rt.alloc(), PRINTED)?;
-    assert!(rt; prints_as(rt.alloc(), &node, PRINTED)?);
-    Ok(())
-}
+/// Texts, and the first fault of each.
+const FAULTS: &[(&[u8], TreeFault)] = &[
+    (b"", TreeFault::Unclosed { line: 0 }),
+    (
+        b"BEGIN:A\nBEGIN:B\nEND:B\nX:y",
+        TreeFault::Unclosed { line: 0 },
+    ),
+    (b"BEGIN:A\nBEGIN:B\nX:y", TreeFault::Unclosed { line: 1 }),
+    (b"X:y\nBEGIN:A\nEND:A", TreeFault::WrongEnd { line: 0 }),
+    (
+        b"BEGIN:A\nBEGIN:B\nEND:A\nEND:B",
+        TreeFault::WrongEnd { line: 2 },
+    ),
+    (b"BEGIN:A\nEND:a\nX:y", TreeFault::WrongEnd { line: 2 }),
+    (b"BEGIN:A\nEND:a\nBEGIN:B", TreeFault::WrongEnd { line: 2 }),
+    (
+        b"BEGIN:A\nBEGIN:A\nBEGIN:A\nBEGIN:A\nBEGIN:A\nEND:B",
+        TreeFault::TooDeep { line: 4 },
+    ),
+];
 
 #[test]
 fn tells_the_first_fault(rt: HostRuntime) {
-    let faults: [(&[u8], TreeFault); 8] = [
-        (b"", TreeFault::Unclosed { line: 0 }),
-        (
-            b"BEGIN:A\nBEGIN:B\nEND:B\nX:y",
-            TreeFault::Unclosed { line: 0 },
-        ),
-        (b"BEGIN:A\nBEGIN:B\nX:y", TreeFault::Unclosed { line: 1 }),
-        (b"X:y\nBEGIN:A\nEND:A", TreeFault::WrongEnd { line: 0 }),
-        (
-            b"BEGIN:A\nBEGIN:B\nEND:A\nEND:B",
-            TreeFault::WrongEnd { line: 2 },
-        ),
-        (b"BEGIN:A\nEND:a\nX:y", TreeFault::WrongEnd { line: 2 }),
-        (b"BEGIN:A\nEND:a\nBEGIN:B", TreeFault::WrongEnd { line: 2 }),
-        (
-            b"BEGIN:A\nBEGIN:A\nBEGIN:A\nBEGIN:A\nBEGIN:A\nEND:B",
-            TreeFault::TooDeep { line: 4 },
-        ),
-    ];
-    for (text, fault) in faults {
-        assert!(rt; has_fault(rt.alloc(), text, fault));
+    for (text, fault) in FAULTS {
+        assert!(rt; has_fault(rt.alloc(), text, *fault));
     }
 }

@@ -1,8 +1,9 @@
 //! The standard streams, over a runtime of the test's own, and the files of the system.
 ghost use Rattle.std.specs.Prelude.{◌≡◌, ◌+◌, ◌≤◌, length, string_len, IfOk};
 
-use cal_base::{Failed, FileFault, Files, Sink, Source, StdFiles, StdSink, StdSource};
-use std::alloc::{Allocator, Global};
+use crate::outside::is_read;
+use cal_base::{Failed, FileFault, Sink, Source, StdFiles, StdSink, StdSource};
+use std::alloc::Allocator;
 use std::fmt::Display;
 use std::io::{BufRead, ErrorKind, Input, Lines, Print, Read};
 use std::sync::atomic::{AtomicUsize, Ordering};
@@ -74,15 +75,14 @@ fn reads_give(
     wanted: [Result<usize, Failed>; 5],
 ) -> bool {
     let mut input = StdSource::new(&ScriptedInput { answers });
+    let mut same = true;
     for (size, want) in sizes.iter().zip(wanted.iter()) {
         let mut place = [0u8; 8];
         let got = input.read(&mut place[..(*size).min(8)]);
         let count = place.iter().filter(|octet| **octet == b'x').count();
-        if got != *want || count != want.unwrap_or(0) {
-            return false;
-        }
+        same = same && got == *want && count == want.unwrap_or(0);
     }
-    true
+    same
 }
 
 /// After the first 0 in a place that is not empty the input is not asked again.
@@ -122,8 +122,10 @@ impl Print for ShortOutput<'_> {
     }
 
     fn write_all(&self, bytes: &[u8]) -> io::Result<()> {
-        self.write_some(bytes)?;
-        Ok(())
+        match self.write_some(bytes) {
+            Ok(_) => Ok(()),
+            Err(error) => Err(error),
+        }
     }
 
     fn write_some(&self, bytes: &[u8]) -> io::Result<usize> {
@@ -162,35 +164,22 @@ fn the_streams_of_the_system_are_reached(rt: HostRuntime) {
     assert!(rt; StdSink::new(&rt).write(b".") == Ok(1));
 }
 
-/// How many octets of a file are read, or why none.
-fn length_read<F: Files>(
-    alloc: Global,
-    files: &mut F,
-    path: &str,
-    limit: u64,
-) -> Result<usize, FileFault> {
-    let octets = files.read(alloc, path, limit)?;
-    Ok(octets.len())
-}
-
-/// Whether a file of four octets is whole up to those limits, and refused at a lower one.
-fn is_whole_or_refused<F: Files>(alloc: Global, files: &mut F, path: &str) -> bool {
-    for (limit, want) in [(5, Ok(4)), (4, Ok(4)), (3, Err(FileFault::TooLong))] {
-        if length_read(alloc, files, path, limit) != want {
-            return false;
-        }
-    }
-    true
+/// Whether a file of the system with four octets is whole up to those limits, refused at a lower one, and
+/// none once it is gone.
+fn is_whole_or_refused(rt: HostRuntime, path: &str) -> bool {
+    let mut files = StdFiles::new(&rt);
+    let made = fs::write(&rt, path, "abcd").is_ok();
+    let long = is_read(rt.alloc(), &mut files, path, 5, Ok(4));
+    let whole = is_read(rt.alloc(), &mut files, path, 4, Ok(4));
+    let short = is_read(rt.alloc(), &mut files, path, 3, Err(FileFault::TooLong));
+    let removed = fs::remove_file(&rt, path).is_ok();
+    let gone = is_read(rt.alloc(), &mut files, path, 5, Err(FileFault::Failed));
+    made && long && whole && short && removed && gone
 }
 
 #[test]
 fn files_of_the_system_are_whole_or_refused(rt: HostRuntime) -> Result<(), Fail> {
     let path = format!(in rt.alloc(); "/tmp/tests_base-{}", std::process::id(rt.process()))?;
-    let mut files = StdFiles::new(&rt);
-    fs::write(&rt, path.as_str(), "abcd")?;
-    let is_read = is_whole_or_refused(rt.alloc(), &mut files, path.as_str());
-    fs::remove_file(&rt, path.as_str())?;
-    let gone = length_read(rt.alloc(), &mut files, path.as_str(), 5);
-    assert!(rt; is_read && gone == Err(FileFault::Failed));
+    assert!(rt; is_whole_or_refused(rt, path.as_str()));
     Ok(())
 }

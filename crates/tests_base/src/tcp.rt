@@ -1,7 +1,8 @@
 //! Connections over TCP, to the machine itself.
 
+use crate::wanted::Wanted;
 use cal_base::tcp::LINK_TIMEOUT_SECONDS;
-use cal_base::{Clock, Door, Failed, Link, Octets, TcpDoor, TcpLink, send_all};
+use cal_base::{Clock, Door, Failed, Link, TcpDoor, TcpLink, send_all};
 use std::alloc::Global;
 use std::io;
 use std::io::{Read, Write};
@@ -17,40 +18,34 @@ fn free_address<R: Net<Listener = TcpListener, Stream = TcpStream>>(
     TcpListener::bind(rt, "127.0.0.1:0")?.local_addr()
 }
 
-/// What comes until nothing is left; a real connection gives its octets in any pieces, and not
-/// more of them than there are octets.
-fn received<L: Link>(alloc: Global, link: &mut L, most: usize) -> Result<Octets, Fail> {
-    let mut kept = Octets::new(alloc);
-    for _ in 0..most {
+/// Whether a link gives the octets of its other side to the end, and sends a reply. A real connection gives
+/// its octets in any pieces, and not more of them than there are octets.
+fn is_answered<L: Link>(link: &mut L, octets: &[u8]) -> bool {
+    let mut wanted = Wanted::new(octets);
+    for _ in 0..octets.len().saturating_add(1) {
         let mut place = [0u8; 16];
-        let n = link.read(&mut place).ok().ok_or("a read failed")?;
+        let Ok(n) = link.read(&mut place) else {
+            return false;
+        };
         if n == 0 {
             break;
         }
-        kept.extend_from_slice(&place[..n])?;
+        wanted.put(&place[..n]);
     }
-    Ok(kept)
-}
-
-/// Whether a link gives the octets of its other side to the end, and sends a reply.
-fn is_answered<L: Link>(alloc: Global, link: &mut L, octets: &[u8]) -> Result<bool, Fail> {
-    let kept = received(alloc, link, octets.len().saturating_add(1))?;
     let ended = link.read(&mut [0u8; 16]) == Ok(0);
     let sent = send_all(link, b"reply") == Ok(());
-    Ok(ended && sent && kept.as_slice() == octets)
+    ended && sent && wanted.is_whole()
 }
 
 /// Sends a question to its end.
-fn asks(client: &mut TcpStream) -> io::Result<()> {
-    client.write_all(b"hello")?;
-    client.shutdown(Shutdown::Write)
+fn asks(client: &mut TcpStream) -> bool {
+    client.write_all(b"hello").is_ok() && client.shutdown(Shutdown::Write).is_ok()
 }
 
 /// Whether the five octets of the reply come.
-fn hears(client: &mut TcpStream) -> io::Result<bool> {
+fn hears(client: &mut TcpStream) -> bool {
     let mut reply = [0u8; 5];
-    client.read_exact(&mut reply)?;
-    Ok(reply == *b"reply")
+    client.read_exact(&mut reply).is_ok() && reply == *b"reply"
 }
 
 #[test]
@@ -64,36 +59,43 @@ fn a_door_that_is_not_open_fails(rt: HostRuntime) {
 }
 
 /// Whether a client's question comes over a link, and the reply to it back.
-fn is_heard<L: Link>(alloc: Global, client: &mut TcpStream, link: &mut L) -> Result<bool, Fail> {
-    asks(client)?;
-    let is_answered = is_answered(alloc, link, b"hello")?;
-    Ok(is_answered && hears(client)?)
+fn is_heard<L: Link>(client: &mut TcpStream, link: &mut L) -> bool {
+    asks(client) && is_answered(link, b"hello") && hears(client)
 }
 
 /// Whether a door accepts the connection of a client, and serves it to its end.
-fn accepts<D: Door, R: Wait>(
+fn accepts<D: Door, R: Wait>(rt: &R, door: &mut D, client: &mut TcpStream) -> bool {
+    match door.accept(rt) {
+        Ok(mut link) => is_heard(client, &mut link),
+        Err(_) => false,
+    }
+}
+
+/// Whether another door than the one that was opened serves a client.
+fn another_serves<D: Door, R: Wait>(
     rt: &R,
     alloc: Global,
     door: &mut D,
     client: &mut TcpStream,
-) -> Result<bool, Fail> {
-    match door.accept(rt) {
-        Ok(mut link) => is_heard(alloc, client, &mut link),
-        Err(_) => Ok(false),
+) -> bool {
+    match door.another(alloc) {
+        Ok(mut other) => accepts(rt, &mut other, client),
+        Err(_) => false,
     }
 }
 
-/// Whether another door than the one that was opened serves a client at an address.
-fn another_serves<D: Door, R: Net<Listener = TcpListener, Stream = TcpStream> + Wait>(
+/// Whether a door is opened at an address, and another than it serves a client there.
+fn is_served<D: Door, R: Net<Listener = TcpListener, Stream = TcpStream> + Wait>(
     rt: &R,
     alloc: Global,
     door: &mut D,
     address: SocketAddr,
-) -> Result<bool, Fail> {
-    let mut client = TcpStream::connect(rt, address)?;
-    match door.another(alloc) {
-        Ok(mut other) => accepts(rt, alloc, &mut other, &mut client),
-        Err(_) => Ok(false),
+    text: &str,
+) -> bool {
+    let is_open = door.open(text) == Ok(());
+    match TcpStream::connect(rt, address) {
+        Ok(mut client) => is_open && another_serves(rt, alloc, door, &mut client),
+        Err(_) => false,
     }
 }
 
@@ -102,8 +104,7 @@ fn a_connection_is_accepted_and_closes(rt: HostRuntime) -> Result<(), Fail> {
     let address = free_address(&rt)?;
     let text = format!(in rt.alloc(); "{address}")?;
     let mut door = TcpDoor::new(&rt);
-    let is_open = door.open(text.as_str()) == Ok(());
-    assert!(rt; is_open && another_serves(&rt, rt.alloc(), &mut door, address)?);
+    assert!(rt; is_served(&rt, rt.alloc(), &mut door, address, text.as_str()));
     Ok(())
 }
 
@@ -127,9 +128,11 @@ pub fn connection<R: Net<Listener = TcpListener, Stream = TcpStream>>(
     connected(rt, &listener)
 }
 
-/// Whether a connection waits so long for the other side, and holds no small write back.
-fn has_options(stream: &TcpStream, time: Option<Duration>) -> io::Result<bool> {
-    Ok(stream.nodelay()? && stream.read_timeout()? == time && stream.write_timeout()? == time)
+/// Whether a connection holds small writes back or not, and waits so long for the other side.
+fn has_options(stream: &TcpStream, no_delay: bool, time: Option<Duration>) -> bool {
+    stream.nodelay().ok() == Some(no_delay)
+        && stream.read_timeout().ok() == Some(time)
+        && stream.write_timeout().ok() == Some(time)
 }
 
 /// Whether a link sets the options of its connection, as a second handle of it shows.
@@ -139,15 +142,17 @@ fn sets_options<C: std::rt::Clock + Copy + Drop>(
     twin: &TcpStream,
 ) -> bool {
     let time = Some(Duration::from_secs(LINK_TIMEOUT_SECONDS));
-    let before = has_options(twin, time).ok();
+    let before = has_options(twin, false, None);
     let _link = TcpLink::new(clock, stream);
-    before == Some(false) && has_options(twin, time).ok() == Some(true)
+    before && has_options(twin, true, time)
 }
 
 #[test]
 fn a_link_sets_its_time_out(rt: HostRuntime) -> Result<(), Fail> {
     let (_client, stream) = connection(&rt)?;
-    let twin = stream.try_clone()?;
-    assert!(rt; sets_options(&rt, stream, &twin));
+    match stream.try_clone() {
+        Ok(twin) => assert!(rt; sets_options(&rt, stream, &twin)),
+        Err(_) => assert!(rt; false),
+    }
     Ok(())
 }

@@ -5,7 +5,6 @@ ghost use Rattle.turn_lock.specs.Journals.{IsFollowedByOwn};
 use cal_base::{List, NoMemory};
 use std::alloc::Global;
 use std::sync::Wait;
-use std::test::Fail;
 use std::thread;
 use std::thread::join;
 use turn_lock::{Held, Keeps, Pass, TurnLock};
@@ -60,6 +59,23 @@ fn add<R: Wait>(rt: &R, lock: &TurnLock<Pairs>, pass: &mut Pass<Pairs>, item: u6
     is_added
 }
 
+/// Takes a turn in which it sees one item of the pass 1, adds an item, and gives the turn back. Whether all
+/// that was so.
+fn add_behind<R: Wait>(rt: &R, lock: &TurnLock<Pairs>, pass: &mut Pass<Pairs>) -> bool
+    requires same { pass.old.lock ≡ lock.now }
+    requires free { pass.old.holds_turn ≡ false }
+    ensures same { (pass.new.lock ≡ pass.old.lock) × (pass.new.number ≡ pass.old.number) × (pass.new.holds_turn ≡ false) }
+    ensures sets { (pass.new.kin ≡ pass.old.kin) × (pass.new.gone ≡ pass.old.gone) }
+{
+    let Held { mut value } = lock.take(rt, pass);
+    let number = pass.number();
+    let seen = pass.seen_len();
+    let is_first = value.all.as_slice() == [(1, 5)].as_slice();
+    let is_added = append(&mut value, number, 6);
+    lock.give(pass, Held { value });
+    is_first && seen == 1 && is_added
+}
+
 fn may_move<T: Send>(_value: &T) {}
 
 fn may_share<T: Sync>(_value: &T) {}
@@ -75,7 +91,7 @@ fn lock_may_be_shared<B: Keeps + Send>(lock: &TurnLock<B>) {
 }
 
 #[test]
-fn a_pass_is_split_and_the_new_one_adds(rt: HostRuntime) -> Result<(), Fail> {
+fn a_pass_is_split_and_the_new_one_adds(rt: HostRuntime) {
     let value = Pairs {
         all: List::new(rt.alloc()),
     };
@@ -84,34 +100,33 @@ fn a_pass_is_split_and_the_new_one_adds(rt: HostRuntime) -> Result<(), Fail> {
     };
     pass_may_move(&first);
     lock_may_be_shared(&lock);
-    let mut second = lock.split(&rt, &mut first)?;
-    assert_eq!(rt; first.number(), 0);
-    assert_eq!(rt; second.number(), 1);
-    assert_eq!(rt; second.seen_len(), 0);
-    assert!(rt; add(&rt, &lock, &mut second, 5));
-    assert_eq!(rt; second.seen_len(), 1);
-    assert_eq!(rt; first.seen_len(), 0);
-    let Held { mut value } = lock.take(&rt, &mut first);
-    assert_eq!(rt; value.all.as_slice(), [(1, 5)].as_slice());
-    assert_eq!(rt; first.seen_len(), 1);
-    assert!(rt; append(&mut value, 0, 6));
-    lock.give(&mut first, Held { value });
+    let Ok(mut second) = lock.split(&rt, &mut first) else {
+        panic!(rt; "no memory")
+    };
+    let numbers = (first.number(), second.number(), second.seen_len());
+    let is_added = add(&rt, &lock, &mut second, 5);
+    let seen = (second.seen_len(), first.seen_len());
+    let is_behind = add_behind(&rt, &lock, &mut first);
+    let behind = first.seen_len();
     lock.join(&mut first, second);
-    assert_eq!(rt; first.seen_len(), 2);
+    let joined = first.seen_len();
     let value = lock.close(first);
-    assert_eq!(rt; value.all.as_slice(), [(1, 5), (0, 6)].as_slice());
-    Ok(())
+    assert!(rt; numbers == (0, 1, 0) && is_added && seen == (1, 0));
+    assert!(rt; is_behind && behind == 2 && joined == 2);
+    assert!(rt; value.all.as_slice() == [(1, 5), (0, 6)].as_slice());
 }
 
 #[test]
-fn a_pass_is_split_and_the_new_one_adds_in_another_thread(rt: HostRuntime) -> Result<(), Fail> {
+fn a_pass_is_split_and_the_new_one_adds_in_another_thread(rt: HostRuntime) {
     let value = Pairs {
         all: List::new(rt.alloc()),
     };
     let Ok((lock, mut first)) = TurnLock::new(rt.alloc(), value) else {
         panic!(rt; "no memory")
     };
-    let second = lock.split(&rt, &mut first)?;
+    let Ok(second) = lock.split(&rt, &mut first) else {
+        panic!(rt; "no memory")
+    };
     let (second, ()) = join(
         &rt,
         || {
@@ -121,16 +136,12 @@ fn a_pass_is_split_and_the_new_one_adds_in_another_thread(rt: HostRuntime) -> Re
         },
         || (),
     );
-    let Held { mut value } = lock.take(&rt, &mut first);
-    assert_eq!(rt; value.all.as_slice(), [(1, 5)].as_slice());
-    assert_eq!(rt; first.seen_len(), 1);
-    assert!(rt; append(&mut value, 0, 6));
-    lock.give(&mut first, Held { value });
+    let is_behind = add_behind(&rt, &lock, &mut first);
     lock.join(&mut first, second);
-    assert_eq!(rt; first.seen_len(), 2);
+    let joined = first.seen_len();
     let value = lock.close(first);
-    assert_eq!(rt; value.all.as_slice(), [(1, 5), (0, 6)].as_slice());
-    Ok(())
+    assert!(rt; is_behind && joined == 2);
+    assert!(rt; value.all.as_slice() == [(1, 5), (0, 6)].as_slice());
 }
 
 /// A pass and how many items it is to add.
@@ -182,37 +193,42 @@ fn jobs<R: Wait>(
 /// Whether the items of a number are 0, 1 and so on, so many.
 fn are_in_order(pairs: &[(u64, u64)], number: u64, items: u64) -> bool {
     let mut next = 0u64;
+    let mut same = true;
     for (author, item) in pairs {
         if *author == number {
-            if *item != next {
-                return false;
-            }
+            same = same && *item == next;
             next = next.wrapping_add(1);
         }
     }
-    next == items
+    same && next == items
+}
+
+/// Whether the items of the numbers 1 to 8 are 0, 1 and so on, 200 each.
+fn are_all_in_order(pairs: &[(u64, u64)]) -> bool {
+    let mut same = pairs.len() == 1600;
+    for number in 1..9 {
+        same = same && are_in_order(pairs, number, 200);
+    }
+    same
 }
 
 #[test]
-fn eight_threads_add(rt: HostRuntime) -> Result<(), Fail> {
+fn eight_threads_add(rt: HostRuntime) {
     let value = Pairs {
         all: List::new(rt.alloc()),
     };
     let Ok((lock, mut first)) = TurnLock::new(rt.alloc(), value) else {
         panic!(rt; "no memory")
     };
-    let jobs = jobs(&rt, rt.alloc(), &lock, &mut first, 8, 200)?;
-    let added = thread::map_vec(&rt, jobs, &|job| add_all(&rt, &lock, job))?;
-    assert_eq!(rt;
-        added.as_slice(),
-        [200, 200, 200, 200, 200, 200, 200, 200].as_slice()
-    );
+    let Ok(jobs) = jobs(&rt, rt.alloc(), &lock, &mut first, 8, 200) else {
+        panic!(rt; "no memory")
+    };
+    let Ok(added) = thread::map_vec(&rt, jobs, &|job| add_all(&rt, &lock, job)) else {
+        panic!(rt; "no memory")
+    };
     let Held { value } = lock.take(&rt, &mut first);
-    assert_eq!(rt; value.all.len(), 1600);
-    for number in 1..9 {
-        assert!(rt; are_in_order(value.all.as_slice(), number, 200));
-    }
+    let is_in_order = are_all_in_order(value.all.as_slice());
     lock.give(&mut first, Held { value });
-    assert_eq!(rt; first.seen_len(), 1600);
-    Ok(())
+    assert!(rt; is_in_order && first.seen_len() == 1600);
+    assert!(rt; added.as_slice() == [200, 200, 200, 200, 200, 200, 200, 200].as_slice());
 }

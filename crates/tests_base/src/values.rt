@@ -1,20 +1,19 @@
-//! Lists, texts, shared values, maps, content lines and trees: each call succeeds where there is
-//! memory.
+//! Lists, texts, stacks, shared values, maps, content lines and trees: each call succeeds where there
+//! is memory.
 
+use crate::wanted::{Wanted, with};
 use cal_base::{
-    Arc, Line, List, Name, NameMap, NoMemory, Node, Octets, Param, ReservedList, SharedList, Word,
+    Arc, Line, List, Name, NameMap, NoMemory, Node, Octets, Param, ReservedList, SharedList, Stack,
+    Word,
 };
 use std::alloc::Global;
-use std::test::Fail;
 
-/// 5, 7, 8 and 9.
-fn four_numbers(alloc: Global) -> Result<List<u32>, NoMemory> {
-    let mut list = List::new(alloc);
+/// Puts 5, 7, 8 and 9 into a list.
+fn put_four_numbers(list: &mut List<u32>) -> Result<(), NoMemory> {
     list.reserve(3)?;
     list.push(5)?;
     list.push(7)?;
-    list.extend_from_slice(&[8, 9])?;
-    Ok(list)
+    list.extend_from_slice(&[8, 9])
 }
 
 fn are_four_numbers(list: &List<u32>) -> bool {
@@ -45,61 +44,72 @@ fn are_apart(list: &mut List<u32>, copy: &List<u32>) -> bool {
     are_same && is_copied && ends_are_taken(list) && copy != list
 }
 
-#[test]
-fn lists(rt: HostRuntime) -> Result<(), Fail> {
-    let mut list = four_numbers(rt.alloc())?;
+fn are_lists(alloc: Global) -> Result<bool, NoMemory> {
+    let mut list = List::new(alloc);
+    put_four_numbers(&mut list)?;
     let copy = list.clone()?;
-    assert!(rt; are_apart(&mut list, &copy));
-    assert!(rt; List::from_vec(copy.into_vec()).len() == 4);
-    Ok(())
+    let same = are_apart(&mut list, &copy);
+    let again = List::from_vec(copy.into_vec());
+    Ok(same && again.len() == 4)
 }
 
 #[test]
-fn octets_are_kept(rt: HostRuntime) -> Result<(), Fail> {
-    let octets = Octets::of(rt.alloc(), b"Stand-up")?;
-    assert!(rt; octets.as_slice() == b"Stand-up".as_slice());
-    Ok(())
+fn lists(rt: HostRuntime) {
+    assert!(rt; are_lists(rt.alloc()) == Ok(true));
 }
 
-#[test]
-fn names_are_in_upper_case(rt: HostRuntime) -> Result<(), Fail> {
-    let name = Name::of(rt.alloc(), b"x-Zulu@[`{z")?;
+/// Whether octets and words are kept, and names in upper case.
+fn are_kept(alloc: Global) -> Result<bool, NoMemory> {
+    let octets = Octets::of(alloc, b"Stand-up")?;
+    let word = Word::of(alloc, "--users")?;
+    let name = Name::of(alloc, b"x-Zulu@[`{z")?;
     let copy = name.clone()?;
-    assert!(rt; name.as_slice() == b"X-ZULU@[`{Z".as_slice() && copy == name);
-    Ok(())
+    let same = octets.as_slice() == b"Stand-up".as_slice() && word.as_str() == "--users";
+    Ok(same && name.as_slice() == b"X-ZULU@[`{Z".as_slice() && copy == name)
 }
 
 #[test]
-fn words_are_kept(rt: HostRuntime) -> Result<(), Fail> {
-    let word = Word::of(rt.alloc(), "--users")?;
-    assert!(rt; word.as_str() == "--users");
-    Ok(())
+fn texts_are_kept(rt: HostRuntime) {
+    assert!(rt; are_kept(rt.alloc()) == Ok(true));
 }
 
-fn is_reserved_and_filled(list: &mut ReservedList<u8>) -> Result<bool, NoMemory> {
+/// Whether the last item that was put on a stack comes first.
+fn last_comes_first(alloc: Global) -> bool {
+    let mut stack = Stack::new(alloc);
+    let pushed = [stack.push(5u8), stack.push(7), stack.push(9)];
+    let seen = stack.at(0).copied() == Some(9) && stack.at(2).copied() == Some(5);
+    let is_all = stack.at(3).is_none();
+    let last = stack.pop();
+    pushed == [Ok(()), Ok(()), Ok(())] && seen && is_all && last == Some(9) && stack.len() == 2
+}
+
+#[test]
+fn a_stack_gives_the_last_first(rt: HostRuntime) {
+    assert!(rt; last_comes_first(rt.alloc()));
+}
+
+fn room_is_kept_in(alloc: Global) -> Result<bool, NoMemory> {
+    let mut list = ReservedList::new(alloc);
     let none = list.room() == 0;
     list.reserve(3)?;
     let three = 3 <= list.room();
     list.push(1u8);
     let two = 2 <= list.room();
     list.extend_from_slice(&[2, 3]);
-    Ok(none && three && two && list.len() == 3 && list.as_slice() == [1, 2, 3].as_slice())
+    let same = list.len() == 3 && list.as_slice() == [1, 2, 3].as_slice();
+    let list = list.into_list();
+    Ok(none && three && two && same && list.as_slice() == [1, 2, 3].as_slice())
 }
 
 #[test]
-fn room_is_kept(rt: HostRuntime) -> Result<(), Fail> {
-    let mut list = ReservedList::new(rt.alloc());
-    assert!(rt; is_reserved_and_filled(&mut list)?);
-    assert!(rt; list.into_list().as_slice() == [1, 2, 3].as_slice());
-    Ok(())
+fn room_is_kept(rt: HostRuntime) {
+    assert!(rt; room_is_kept_in(rt.alloc()) == Ok(true));
 }
 
-#[test]
-fn shared_values(rt: HostRuntime) -> Result<(), Fail> {
-    let first = Arc::new(rt.alloc(), Octets::of(rt.alloc(), b"one")?)?;
+fn is_shared(alloc: Global) -> Result<bool, NoMemory> {
+    let first = Arc::new(alloc, Octets::of(alloc, b"one")?)?;
     let second = Arc::try_clone(&first)?;
-    assert!(rt; second.as_slice() == b"one".as_slice());
-    Ok(())
+    Ok(second.as_slice() == b"one".as_slice())
 }
 
 /// Whether a second owner of an empty list finds nothing in it.
@@ -114,27 +124,44 @@ fn second_owner(alloc: Global) -> Result<SharedList<u8>, NoMemory> {
     SharedList::try_clone(&first)
 }
 
+fn outlives_its_first_owner(alloc: Global) -> bool {
+    match second_owner(alloc) {
+        Ok(second) => second.as_slice() == b"one".as_slice() && second.len() == 3,
+        Err(NoMemory) => false,
+    }
+}
+
 #[test]
-fn a_shared_list_outlives_its_first_owner(rt: HostRuntime) -> Result<(), Fail> {
-    assert!(rt; none_is_shared()?);
-    let second = second_owner(rt.alloc())?;
-    assert!(rt; second.as_slice() == b"one".as_slice() && second.len() == 3);
-    Ok(())
+fn values_are_shared(rt: HostRuntime) {
+    assert!(rt; is_shared(rt.alloc()) == Ok(true));
+    assert!(rt; none_is_shared() == Ok(true));
+    assert!(rt; outlives_its_first_owner(rt.alloc()));
 }
 
 /// Four names, the last of which is given twice.
-fn four_names(alloc: Global) -> Result<NameMap<u32>, NoMemory> {
-    let mut map = NameMap::new(alloc);
-    for (name, value) in [
-        ("two.ics", 2u32),
-        ("one.ics", 1),
-        ("onE.ics", 3),
-        ("one", 4),
-        ("one.ics", 5),
-    ] {
-        map.insert(Octets::of(alloc, name.as_bytes())?, value)?;
+const NAMES: &[(&str, u32)] = &[
+    ("two.ics", 2),
+    ("one.ics", 1),
+    ("onE.ics", 3),
+    ("one", 4),
+    ("one.ics", 5),
+];
+
+fn put_names(alloc: Global, map: &mut NameMap<u32>) -> Result<(), NoMemory> {
+    for (name, value) in NAMES {
+        map.insert(Octets::of(alloc, name.as_bytes())?, *value)?;
     }
-    Ok(map)
+    Ok(())
+}
+
+/// Whether the last value of each name is kept, and the names are in their order, one behind the other.
+fn is_in_order(map: &NameMap<u32>) -> bool {
+    let mut wanted = Wanted::new(b"onE.icsoneone.icstwo.ics");
+    for pair in map.iter() {
+        wanted.put(pair.0.as_slice());
+    }
+    let last = map.get(b"one.ics").copied() == Some(5) && map.get(b"three.ics").is_none();
+    wanted.is_whole() && last && map.len() == 4
 }
 
 /// Whether that is what stands next above a name.
@@ -145,42 +172,14 @@ fn is_above(map: &NameMap<u32>, name: &str, next: &str, value: u32) -> bool {
     }
 }
 
-/// The names in their order, one behind the other.
-fn order_of(alloc: Global, map: &NameMap<u32>) -> Result<Octets, NoMemory> {
-    let mut order = Octets::new(alloc);
-    for pair in map.iter() {
-        order.extend_from_slice(pair.0.as_slice())?;
-    }
-    Ok(order)
-}
-
-#[test]
-fn maps_keep_the_last_value_in_the_order_of_names(rt: HostRuntime) -> Result<(), Fail> {
-    let map = four_names(rt.alloc())?;
-    assert!(rt;
-        map.len() == 4 && map.get(b"one.ics").copied() == Some(5) && map.get(b"three.ics").is_none()
-    );
-    let order = order_of(rt.alloc(), &map)?;
-    assert!(rt; order.as_slice() == b"onE.icsoneone.icstwo.ics".as_slice());
-    Ok(())
-}
-
 /// Each name from the empty one on, and the one behind a name that is not there.
-#[test]
-fn maps_give_the_name_above(rt: HostRuntime) -> Result<(), Fail> {
-    let map = four_names(rt.alloc())?;
-    for (name, next, value) in [
-        ("", "onE.ics", 3u32),
-        ("onE.ics", "one", 4),
-        ("one", "one.ics", 5),
-        ("one.ics", "two.ics", 2),
-        ("three.ics", "two.ics", 2),
-    ] {
-        assert!(rt; is_above(&map, name, next, value));
-    }
-    assert!(rt; map.next_above(b"two.ics").is_none());
-    Ok(())
-}
+const ABOVE: &[(&str, &str, u32)] = &[
+    ("", "onE.ics", 3),
+    ("onE.ics", "one", 4),
+    ("one", "one.ics", 5),
+    ("one.ics", "two.ics", 2),
+    ("three.ics", "two.ics", 2),
+];
 
 /// Whether a value is changed in its place, and a name is taken out once.
 fn is_changed(map: &mut NameMap<u32>) -> bool {
@@ -193,48 +192,51 @@ fn is_changed(map: &mut NameMap<u32>) -> bool {
 }
 
 #[test]
-fn maps_are_changed(rt: HostRuntime) -> Result<(), Fail> {
-    let mut map = four_names(rt.alloc())?;
+fn maps_keep_the_order_of_names(rt: HostRuntime) {
+    let mut map = NameMap::new(rt.alloc());
+    assert!(rt; put_names(rt.alloc(), &mut map) == Ok(()) && is_in_order(&map));
+    for (name, next, value) in ABOVE {
+        assert!(rt; is_above(&map, name, next, *value));
+    }
+    assert!(rt; map.next_above(b"two.ics").is_none());
     assert!(rt; is_changed(&mut map));
-    Ok(())
 }
 
 fn one_param(alloc: Global) -> Result<Param, NoMemory> {
-    let mut values = List::new(alloc);
-    values.push(Octets::of(alloc, b"text")?)?;
-    Ok(Param {
-        name: Name::of(alloc, b"value")?,
-        values,
-    })
+    let name = Name::of(alloc, b"value")?;
+    let values = with(List::new(alloc), Octets::of(alloc, b"text"))?;
+    Ok(Param { name, values })
 }
 
 // UID:one
 fn uid_line(alloc: Global) -> Result<Line, NoMemory> {
-    let mut params = List::new(alloc);
-    params.push(one_param(alloc)?)?;
+    let name = Name::of(alloc, b"uid")?;
+    let value = Octets::of(alloc, b"one")?;
+    let raw = Octets::of(alloc, b"uid;value=text:one")?;
+    let params = with(List::new(alloc), one_param(alloc))?;
     Ok(Line {
-        name: Name::of(alloc, b"uid")?,
+        name,
         params,
-        value: Octets::of(alloc, b"one")?,
-        raw: Octets::of(alloc, b"uid;value=text:one")?,
+        value,
+        raw,
     })
 }
 
 fn one_event(alloc: Global) -> Result<Node, NoMemory> {
-    let mut lines = List::new(alloc);
-    lines.push(uid_line(alloc)?)?;
+    let name = Name::of(alloc, b"vevent")?;
+    let lines = with(List::new(alloc), uid_line(alloc))?;
     Ok(Node {
-        name: Name::of(alloc, b"vevent")?,
+        name,
         lines,
         children: List::new(alloc),
     })
 }
 
 fn one_calendar(alloc: Global) -> Result<Node, NoMemory> {
-    let mut children = List::new(alloc);
-    children.push(one_event(alloc)?)?;
+    let name = Name::of(alloc, b"vcalendar")?;
+    let children = with(List::new(alloc), one_event(alloc))?;
     Ok(Node {
-        name: Name::of(alloc, b"vcalendar")?,
+        name,
         lines: List::new(alloc),
         children,
     })
@@ -250,9 +252,14 @@ fn holds_one_event(calendar: &Node) -> bool {
     line.name.as_slice() == b"UID".as_slice()
 }
 
+fn is_made(alloc: Global) -> bool {
+    match one_calendar(alloc) {
+        Ok(calendar) => holds_one_event(&calendar),
+        Err(NoMemory) => false,
+    }
+}
+
 #[test]
-fn trees_are_made(rt: HostRuntime) -> Result<(), Fail> {
-    let calendar = one_calendar(rt.alloc())?;
-    assert!(rt; holds_one_event(&calendar));
-    Ok(())
+fn trees_are_made(rt: HostRuntime) {
+    assert!(rt; is_made(rt.alloc()));
 }

@@ -1,8 +1,9 @@
 //! XML bodies. The examples are those of the recommendations, and the faults are placed by hand.
 
-use cal_base::{Element, Item};
+use crate::wanted::Wanted;
+use cal_base::{Element, Item, NoMemory, Octets};
 use dav_body::{BodyFault, Why, read_body};
-use std::test::Fail;
+use std::alloc::Global;
 
 /// The element within an element at a place among its items.
 fn inner(element: &Element, place: usize) -> Option<&Element> {
@@ -22,126 +23,117 @@ fn text(element: &Element, place: usize) -> &[u8] {
     }
 }
 
-/// Whether a body has this as its first fault.
-fn has_fault(rt: HostRuntime, body: &[u8], place: u64, why: Why) -> bool {
-    match read_body(rt.alloc(), body) {
-        Ok(_) => false,
-        Err(fault) => fault == BodyFault::At { place, why },
-    }
-}
-
-/// Whether an element has this namespace and name.
-fn is_named(element: &Element, space: &[u8], name: &[u8]) -> bool {
-    element.space.as_slice() == space && element.name.as_slice() == name
-}
-
-/// Whether an element has one attribute at a place, with this namespace, name and value.
-fn has_attr(element: &Element, place: usize, space: &[u8], name: &[u8], value: &[u8]) -> bool {
-    match element.attrs.get(place) {
-        Some(attr) => {
-            attr.space.as_slice() == space
-                && attr.name.as_slice() == name
-                && attr.value.as_slice() == value
+/// The element at the end of a way of places from the root.
+fn behind<'a>(root: &'a Element, way: &[usize]) -> Option<&'a Element> {
+    let mut element = root;
+    for place in way {
+        match inner(element, *place) {
+            Some(next) => element = next,
+            None => return None,
         }
-        None => false,
+    }
+    Some(element)
+}
+
+/// Whether an element is shown so, as `{namespace}name {namespace}attribute=value>` and the text at its
+/// first place, and has so many items.
+fn is_shown_so(element: &Element, shown: &[u8], items: usize) -> bool {
+    let mut wanted = Wanted::new(shown);
+    wanted.put(b"{");
+    wanted.put(element.space.as_slice());
+    wanted.put(b"}");
+    wanted.put(element.name.as_slice());
+    for attr in element.attrs.as_slice() {
+        wanted.put(b" {");
+        wanted.put(attr.space.as_slice());
+        wanted.put(b"}");
+        wanted.put(attr.name.as_slice());
+        wanted.put(b"=");
+        wanted.put(attr.value.as_slice());
+    }
+    wanted.put(b">");
+    wanted.put(text(element, 0));
+    wanted.is_whole() && element.items.len() == items
+}
+
+/// A way from the root, how the element at its end is shown, and how many items it has.
+type Look = (&'static [usize], &'static [u8], usize);
+
+/// Whether the elements below a root are shown so.
+fn are_shown_so(root: &Element, looks: &[Look]) -> bool {
+    let mut same = true;
+    for (way, shown, items) in looks {
+        let so = match behind(root, way) {
+            Some(element) => is_shown_so(element, shown, *items),
+            None => false,
+        };
+        same = same && so;
+    }
+    same
+}
+
+/// Whether a body is read as elements that are shown so.
+fn is_read_so(alloc: Global, body: &[u8], looks: &[Look]) -> bool {
+    match read_body(alloc, body) {
+        Ok(root) => are_shown_so(&root, looks),
+        Err(_) => false,
     }
 }
 
-const NAMED_REQUEST: &[u8] =
-    b"<?xml version=\"1.0\" encoding=\"utf-8\" ?>\n<D:propfind xmlns:D=\"DAV:\">\n<D:prop xmlns:R=\"http://ns.example.com/boxschema/\">\n<R:bigbox/>\n<R:author/>\n</D:prop>\n</D:propfind>";
+/// What bodies show, the bodies, and their elements.
+const BODIES: &[(&str, &[u8], &[Look])] = &[
+    // RFC 4918, 9.1.3: a request for named properties, in two namespaces.
+    (
+        "names have their namespaces",
+        b"<?xml version=\"1.0\" encoding=\"utf-8\" ?>\n<D:propfind xmlns:D=\"DAV:\">\n<D:prop xmlns:R=\"http://ns.example.com/boxschema/\">\n<R:bigbox/>\n<R:author/>\n</D:prop>\n</D:propfind>",
+        &[
+            (&[], b"{DAV:}propfind>\n", 3),
+            (&[1], b"{DAV:}prop>\n", 5),
+            (
+                &[1, 3],
+                b"{http://ns.example.com/boxschema/}author>no item",
+                0,
+            ),
+        ],
+    ),
+    // Namespaces in XML 1.0, 6.2: a default namespace is for elements, and can be undone.
+    (
+        "a default namespace can be undone",
+        b"<Beers xmlns='urn:beers'><table xmlns='' class='x'><th/></table><b xmlns:e='urn:e' e:c='y'/></Beers>",
+        &[
+            (&[], b"{urn:beers}Beers>no text", 2),
+            (&[0], b"{}table {}class=x>no text", 1),
+            (&[0, 0], b"{}th>no item", 0),
+            (&[1], b"{urn:beers}b {urn:e}c=y>no item", 0),
+        ],
+    ),
+    // Namespaces in XML 1.0, 6.3: the default namespace is not that of an attribute.
+    (
+        "the default is none of an attribute",
+        b"<x xmlns:n1=\"http://www.w3.org\" xmlns=\"http://www.w3.org\"><good a=\"1\" n1:a=\"2\"/></x>",
+        &[(
+            &[0],
+            b"{http://www.w3.org}good {}a=1 {http://www.w3.org}a=2>no item",
+            0,
+        )],
+    ),
+    // XML 1.0, 2.11, 2.7, 4.1 and 4.6: ends of lines, sections and references are one text.
+    (
+        "text beside text is one",
+        b"\xEF\xBB\xBF<a b='&lt;&#xE4;\r\n'>1\r\n2\r3&#13;<![CDATA[<&>\r]]>&amp;<!-- c --><?p i?>&quot;</a>\n",
+        &[(&[], b"{}a {}b=<\xC3\xA4\r\n>1\n2\n3\r<&>\n&\"", 1)],
+    ),
+];
 
-fn is_the_named_request(root: &Element) -> bool {
-    let Some(prop) = inner(root, 1) else {
-        return false;
-    };
-    let Some(author) = inner(prop, 3) else {
-        return false;
-    };
-    is_named(root, b"DAV:", b"propfind")
-        && root.attrs.is_empty()
-        && text(root, 0) == b"\n".as_slice()
-        && is_named(prop, b"DAV:", b"prop")
-        && is_named(author, b"http://ns.example.com/boxschema/", b"author")
-        && author.items.is_empty()
-}
-
-// RFC 4918, 9.1.3: a request for named properties, in two namespaces.
 #[test]
-fn names_have_their_namespaces(rt: HostRuntime) -> Result<(), Fail> {
-    let root = read_body(rt.alloc(), NAMED_REQUEST)?;
-    assert!(rt; is_the_named_request(&root));
-    Ok(())
-}
-
-const BEERS: &[u8] =
-    b"<Beers xmlns='urn:beers'><table xmlns='' class='x'><th/></table><b xmlns:e='urn:e' e:c='y'/></Beers>";
-
-fn are_the_beers(root: &Element) -> bool {
-    let Some(table) = inner(root, 0) else {
-        return false;
-    };
-    let Some(head) = inner(table, 0) else {
-        return false;
-    };
-    let Some(other) = inner(root, 1) else {
-        return false;
-    };
-    is_named(root, b"urn:beers", b"Beers")
-        && is_named(table, b"", b"table")
-        && is_named(head, b"", b"th")
-        && has_attr(table, 0, b"", b"class", b"x")
-        && is_named(other, b"urn:beers", b"b")
-        && other.attrs.len() == 1
-        && has_attr(other, 0, b"urn:e", b"c", b"y")
-}
-
-// Namespaces in XML 1.0, 6.2: a default namespace is for elements, and can be undone.
-#[test]
-fn a_default_namespace_can_be_undone(rt: HostRuntime) -> Result<(), Fail> {
-    let root = read_body(rt.alloc(), BEERS)?;
-    assert!(rt; are_the_beers(&root));
-    Ok(())
-}
-
-const GOOD: &[u8] =
-    b"<x xmlns:n1=\"http://www.w3.org\" xmlns=\"http://www.w3.org\"><good a=\"1\" n1:a=\"2\"/></x>";
-
-fn is_good(root: &Element) -> bool {
-    let Some(good) = inner(root, 0) else {
-        return false;
-    };
-    good.attrs.len() == 2
-        && has_attr(good, 0, b"", b"a", b"1")
-        && has_attr(good, 1, b"http://www.w3.org", b"a", b"2")
-}
-
-// Namespaces in XML 1.0, 6.3: the default namespace is not that of an attribute.
-#[test]
-fn the_default_is_none_of_an_attribute(rt: HostRuntime) -> Result<(), Fail> {
-    let root = read_body(rt.alloc(), GOOD)?;
-    assert!(rt; is_good(&root));
-    Ok(())
-}
-
-const PIECES: &[u8] =
-    b"\xEF\xBB\xBF<a b='&lt;&#xE4;\r\n'>1\r\n2\r3&#13;<![CDATA[<&>\r]]>&amp;<!-- c --><?p i?>&quot;</a>\n";
-
-fn is_one_text(root: &Element) -> bool {
-    root.items.len() == 1
-        && text(root, 0) == b"1\n2\n3\r<&>\n&\"".as_slice()
-        && has_attr(root, 0, b"", b"b", b"<\xC3\xA4\r\n")
-}
-
-// XML 1.0, 2.11, 2.7, 4.1 and 4.6: ends of lines, sections and references are one text.
-#[test]
-fn text_beside_text_is_one(rt: HostRuntime) -> Result<(), Fail> {
-    let root = read_body(rt.alloc(), PIECES)?;
-    assert!(rt; is_one_text(&root));
-    Ok(())
+fn bodies_are_read(rt: HostRuntime) {
+    for (name, body, looks) in BODIES {
+        assert!(rt; is_read_so(rt.alloc(), body, looks), "{name}");
+    }
 }
 
 /// Bodies, and the place and the reason of the first fault of each.
-const FAULTS: [(&[u8], u64, Why); 34] = [
+const FAULTS: &[(&[u8], u64, Why)] = &[
     (b"", 0, Why::Cut),
     (b" ", 1, Why::Cut),
     (b"<a>", 3, Why::Cut),
@@ -190,59 +182,84 @@ const FAULTS: [(&[u8], u64, Why); 34] = [
     (b"<a b='1'c='2'/>", 0, Why::Syntax),
 ];
 
+/// The first fault of a body.
+fn first_fault(alloc: Global, body: &[u8]) -> Option<BodyFault> {
+    match read_body(alloc, body) {
+        Ok(_) => None,
+        Err(fault) => Some(fault),
+    }
+}
+
 #[test]
-fn a_fault_has_its_place_and_reason(rt: HostRuntime) -> Result<(), Fail> {
+fn a_fault_has_its_place_and_reason(rt: HostRuntime) {
     for (body, place, why) in FAULTS {
-        assert!(rt; has_fault(rt, body, place, why));
+        let fault = BodyFault::At {
+            place: *place,
+            why: *why,
+        };
+        assert!(rt; first_fault(rt.alloc(), body) == Some(fault));
     }
-    Ok(())
 }
 
-/// So many start tags, one within another.
-fn nested(rt: HostRuntime, depth: usize) -> Result<Vec<u8>, Fail> {
-    let mut body = Vec::new(rt.alloc());
-    for _ in 0..depth {
-        body.extend_from_slice(b"<a>")?;
-    }
-    for _ in 0..depth {
-        body.extend_from_slice(b"</a>")?;
+/// Pieces of a body, each so many times.
+type Pieces = &'static [(&'static [u8], usize)];
+
+fn joined(alloc: Global, pieces: Pieces) -> Result<Octets, NoMemory> {
+    let mut body = Octets::new(alloc);
+    for (piece, count) in pieces {
+        for _ in 0..*count {
+            body.extend_from_slice(piece)?;
+        }
     }
     Ok(body)
 }
 
-#[test]
-fn an_element_is_at_most_32_deep(rt: HostRuntime) -> Result<(), Fail> {
-    let deep = nested(rt, 32)?;
-    assert!(rt; read_body(rt.alloc(), deep.as_slice()).is_ok());
-    let deeper = nested(rt, 33)?;
-    assert!(rt; has_fault(rt, deeper.as_slice(), 96, Why::TooDeep));
-    Ok(())
+/// Whether a body of such pieces has this as its first fault, or none.
+fn has_fault(alloc: Global, pieces: Pieces, fault: Option<BodyFault>) -> bool {
+    match joined(alloc, pieces) {
+        Ok(body) => first_fault(alloc, body.as_slice()) == fault,
+        Err(NoMemory) => false,
+    }
 }
 
-/// A body with a namespace of so many octets and so many elements in it.
-fn with_long_namespace(rt: HostRuntime, octets: usize, elements: usize) -> Result<Vec<u8>, Fail> {
-    let mut body = Vec::new(rt.alloc());
-    body.extend_from_slice(b"<a xmlns='")?;
-    for _ in 0..octets {
-        body.push(b'u')?;
-    }
-    body.extend_from_slice(b"'>")?;
-    for _ in 0..elements {
-        body.extend_from_slice(b"<b/>")?;
-    }
-    body.extend_from_slice(b"</a>")?;
-    Ok(body)
-}
+/// An element is at most 32 deep, and at most 64 octets of namespaces are copied for each octet of the body.
+const LARGE: &[(&str, Pieces, Option<BodyFault>)] = &[
+    ("32 deep", &[(b"<a>", 32), (b"</a>", 32)], None),
+    (
+        "33 deep",
+        &[(b"<a>", 33), (b"</a>", 33)],
+        Some(BodyFault::At {
+            place: 96,
+            why: Why::TooDeep,
+        }),
+    ),
+    (
+        "a namespace of 200 octets",
+        &[
+            (b"<a xmlns='", 1),
+            (b"u", 200),
+            (b"'>", 1),
+            (b"<b/>", 1000),
+            (b"</a>", 1),
+        ],
+        None,
+    ),
+    (
+        "a namespace of 1,000 octets finds no memory",
+        &[
+            (b"<a xmlns='", 1),
+            (b"u", 1000),
+            (b"'>", 1),
+            (b"<b/>", 1000),
+            (b"</a>", 1),
+        ],
+        Some(BodyFault::NoMemory),
+    ),
+];
 
-// At most 64 octets of namespaces are copied for each octet of the body.
 #[test]
-fn a_long_namespace_finds_no_memory(rt: HostRuntime) -> Result<(), Fail> {
-    let common = with_long_namespace(rt, 200, 1000)?;
-    assert!(rt; read_body(rt.alloc(), common.as_slice()).is_ok());
-    let long = with_long_namespace(rt, 1000, 1000)?;
-    match read_body(rt.alloc(), long.as_slice()) {
-        Ok(_) => assert!(rt; false),
-        Err(fault) => assert!(rt; fault == BodyFault::NoMemory),
+fn large_bodies_have_their_limits(rt: HostRuntime) {
+    for (name, pieces, fault) in LARGE {
+        assert!(rt; has_fault(rt.alloc(), *pieces, *fault), "{name}");
     }
-    Ok(())
 }

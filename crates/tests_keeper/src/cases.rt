@@ -1,5 +1,5 @@
-//! What the tests share: users, one entry, and the reading of a file to its end.
-ghost use Rattle.std.specs.Prelude.{◌≡◌, ◌<◌, false, length, IfOk};
+//! What the tests share: users, entries, the making of a file of them, and the reading of a file to its end.
+ghost use Rattle.std.specs.Prelude.{◌≡◌, ◌<◌, false, true, length, IfOk};
 ghost use Rattle.cal_journal.specs.KeptEntries.{kept_entry};
 ghost use Rattle.cal_keeper.specs.Files.Payloads.{HasForm};
 ghost use Rattle.cal_keeper.specs.Principals.{counts_of};
@@ -10,9 +10,10 @@ use cal_keeper::{Created, Disk, Keeper, MemoryDisk, NextEntry, Opened, Reader, c
 use cal_model::Change;
 use privileges::{Users, UsersFault, read_users};
 use std::alloc::Global;
+use std::process::Abort;
 
 /// The users of the worked file.
-const USERS: &str =
+pub(super) const USERS: &str =
     "user alice ba7816bf8f01cfea414140de5dae2223b00361a396177a9cb410ff61f20015ad\nuser bob ba7816bf8f01cfea414140de5dae2223b00361a396177a9cb410ff61f20015ad\nuser carol ba7816bf8f01cfea414140de5dae2223b00361a396177a9cb410ff61f20015ad\n";
 
 /// The worked file with one PUT: 288 octets, with gates at 51 and 287.
@@ -28,7 +29,7 @@ pub(super) const ONE_DELETION: &[u8; 85] =
     b"caldavjournal 1\n\0\0\0\x1fuser alice\nuser bob\nuser carol\n\x01\0\0\0\x1c\x03\0\0\0\x01\0\0\0\0\x67\xce\xb5\0\0\xcc\0\0\0\x01\x08calendar\0";
 
 /// How the reading of a file ended.
-#[derive(Debug, Clone, Copy, PartialEq, Eq)]
+#[derive(Clone, Copy, PartialEq)]
 pub(super) enum Ending {
     NotJournal,
     OtherUsers(u64),
@@ -63,39 +64,86 @@ pub(super) fn deletion(alloc: Global, users: &Users) -> Result<Entry, NoMemory>
     })
 }
 
-/// Makes a file of three users on a disk, and appends the record of the deletion. Gives the disk, and
-/// whether all went through.
-pub(super) fn keep_deletion<D: Disk + Drop>(
+/// The entry of the deletion of a calendar of the first of some users, by one of the first two.
+pub(super) fn deletion_by(alloc: Global, users: &Users, who: u32) -> Result<Entry, NoMemory>
+    requires two { 1 < length users.now.people }
+    requires who { who < 2 }
+    ensures { IfOk result (λ entry. HasForm (counts_of users.now) (kept_entry entry)) }
+{
+    let name = Octets::of(alloc, b"work".as_slice())?;
+    Ok(Entry {
+        session: 7,
+        who,
+        moment: 1_741_500_000,
+        change: Change::DeleteCalendar(0, Arc::new(alloc, name)?),
+        status: 204,
+    })
+}
+
+/// Makes a file of some users on a disk, and appends the record of the deletion; where `others`, those of two
+/// others in front of it. Gives the disk, and whether all went through.
+pub(super) fn keep<D: Disk + Drop>(
     alloc: Global,
     disk: D,
     users: &Users,
-) -> Result<(D, bool), NoMemory> {
+    others: bool,
+) -> (D, Result<bool, NoMemory>) {
     if users.len() < 2 {
-        return Ok((disk, false));
+        return (disk, Ok(false));
     }
     match create(alloc, disk, users) {
-        Created::Done(keeper) => append_deletion(alloc, keeper, users),
-        Created::NotEmpty(disk, _) => Ok((disk, false)),
-        Created::Failed(disk) => Ok((disk, false)),
-        Created::NoMemory(_) => Err(NoMemory),
+        Created::Done(keeper) => {
+            let mut keeper = keeper;
+            let kept = append_all(alloc, &mut keeper, users, others);
+            (keeper.into_disk(), kept)
+        }
+        Created::NotEmpty(disk, _) => (disk, Ok(false)),
+        Created::Failed(disk) => (disk, Ok(false)),
+        Created::NoMemory(disk) => (disk, Err(NoMemory)),
     }
 }
 
-/// Appends the record of the deletion. Gives the disk, and whether that went through.
-fn append_deletion<D: Disk + Drop>(
+/// Appends the record of the deletion, where `others` behind those of two others. Says whether all went
+/// through.
+fn append_all<D: Disk>(
     alloc: Global,
-    keeper: Keeper<D>,
+    keeper: &mut Keeper<D>,
     users: &Users,
-) -> Result<(D, bool), NoMemory>
+    others: bool,
+) -> Result<bool, NoMemory>
     requires two { 1 < length users.now.people }
-    requires own { keeper.principals ≡ counts_of users.now }
-    requires unbroken { keeper.broken ≡ false }
+    requires own { keeper.old.principals ≡ counts_of users.now }
+    requires unbroken { keeper.old.broken ≡ false }
 {
-    let mut keeper = keeper;
-    let entry = deletion(alloc, users)?;
+    if !others {
+        return append(keeper, users, deletion(alloc, users));
+    }
+    if !append(keeper, users, deletion_by(alloc, users, 0))? {
+        return Ok(false);
+    }
+    if !append(keeper, users, deletion_by(alloc, users, 1))? {
+        return Ok(false);
+    }
+    append(keeper, users, deletion(alloc, users))
+}
+
+/// Appends the record of an entry to a file of these users, and says whether that went through.
+fn append<D: Disk>(
+    keeper: &mut Keeper<D>,
+    users: &Users,
+    entry: Result<Entry, NoMemory>,
+) -> Result<bool, NoMemory>
+    requires own { keeper.old.principals ≡ counts_of users.now }
+    requires unbroken { keeper.old.broken ≡ false }
+    requires form { IfOk entry (λ made. HasForm (counts_of users.now) (kept_entry made)) }
+    ensures own { keeper.new.principals ≡ counts_of users.now }
+    ensures unbroken { IfOk result (λ kept. kept ≡ true → keeper.new.broken ≡ false) }
+{
+    let _ = users;
+    let entry = entry?;
     let kept = keeper.append(&entry).is_ok();
     drop(entry);
-    Ok((keeper.into_disk(), kept))
+    Ok(kept)
 }
 
 /// How many records a file on a disk has, and how its reading ended.
@@ -163,7 +211,7 @@ pub(super) fn read_octets(
 }
 
 /// What is found in the file after a stop within a call.
-pub(super) fn found_of_stop(
+fn found_of_stop(
     alloc: Global,
     users: &Users,
     disk: &MemoryDisk,
@@ -195,6 +243,81 @@ pub(super) fn read_changed(
         octets[place] = octet;
     }
     read_octets(alloc, changed.as_slice(), users)
+}
+
+/// What is found in a file, and in it with one octet changed: the place, the octet that is put there, and
+/// what is then found.
+pub(super) type Changed = (usize, u8, (u32, Ending));
+
+/// Asks it of a file.
+pub(super) fn ask_changes(
+    rt: &impl Abort,
+    alloc: Global,
+    users: &Users,
+    file: &[u8],
+    changes: &[Changed],
+) -> Result<(), NoMemory> {
+    for (place, octet, wanted) in changes {
+        let found = read_changed(alloc, file, users, *place, *octet)?;
+        assert!(rt; found == *wanted, "{octet} at {place}");
+    }
+    Ok(())
+}
+
+/// Whether all went through in the writing of a file, and what is found in it then.
+pub(super) fn found_behind(
+    alloc: Global,
+    users: &Users,
+    written: (MemoryDisk, Result<bool, NoMemory>),
+) -> Result<(bool, (u32, Ending)), NoMemory> {
+    let (disk, all) = written;
+    let found = read_octets(alloc, disk.octets(), users);
+    drop(disk);
+    Ok((all?, found?))
+}
+
+/// Whether a stop within a call leaves these octets.
+pub(super) fn leaves(
+    disk: &MemoryDisk,
+    call: u64,
+    written: bool,
+    octets: &[u8],
+) -> Result<bool, NoMemory> {
+    if disk.calls() <= call {
+        return Ok(false);
+    }
+    let image = disk.stopped(call, written)?;
+    let same = is_same(image.as_slice(), octets);
+    drop(image);
+    Ok(same)
+}
+
+/// How many calls there are from one on within which a stop, written and not, leaves what it should: what is
+/// found in front of the end, but where it is written in one of the last two, which bring the end and sync
+/// it, what is found behind.
+pub(super) fn count_right_stops(
+    alloc: Global,
+    users: &Users,
+    disk: &MemoryDisk,
+    first: u64,
+    front: (u32, Ending),
+    behind: (u32, Ending),
+) -> Result<u64, NoMemory> {
+    let calls = disk.calls();
+    let mut count = 0u64;
+    for call in first..calls {
+        let torn = found_of_stop(alloc, users, disk, call, false)?;
+        let whole = found_of_stop(alloc, users, disk, call, true)?;
+        let wanted = if calls.saturating_sub(call) <= 2 {
+            behind
+        } else {
+            front
+        };
+        if torn == front && whole == wanted {
+            count = count.wrapping_add(1);
+        }
+    }
+    Ok(count)
 }
 
 /// Whether two texts are the same. It promises nothing, so that no proof goes over the octets.

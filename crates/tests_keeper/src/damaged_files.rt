@@ -1,6 +1,10 @@
 //! Files that were cut, and files of which an octet was changed.
 
-use crate::cases::{Ending, ONE_PUT, read_octets, three_users};
+use crate::cases::{Ending, ONE_PUT, read_changed, read_octets, three_users};
+use cal_base::NoMemory;
+use privileges::Users;
+use std::alloc::Global;
+use std::process::Abort;
 use std::test::Fail;
 
 /// What is found where the worked file is cut behind so many octets.
@@ -13,13 +17,11 @@ fn found_in_front(count: usize) -> (u32, Ending) {
     }
 }
 
-#[test]
-fn a_file_that_is_cut_is_refused_where_it_ends(rt: HostRuntime) -> Result<(), Fail> {
-    let alloc = rt.alloc();
-    let users = three_users(alloc)?;
+/// A file that is cut is refused where it ends.
+fn ask_cut(rt: &impl Abort, alloc: Global, users: &Users) -> Result<(), NoMemory> {
     for count in 0..=ONE_PUT.len() {
-        let found = read_octets(alloc, &ONE_PUT[..count], &users)?;
-        assert!(rt; found == found_in_front(count), "{count}");
+        let found = read_octets(alloc, &ONE_PUT[..count], users)?;
+        assert!(rt; found == found_in_front(count), "cut behind {count}");
     }
     Ok(())
 }
@@ -56,18 +58,28 @@ fn found_with_last_turned(place: usize) -> (u32, Ending) {
     }
 }
 
-#[test]
-fn a_changed_octet_is_found_or_is_another_entry(rt: HostRuntime) -> Result<(), Fail> {
-    let alloc = rt.alloc();
-    let users = three_users(alloc)?;
+/// An octet that was changed is found, or is another entry.
+fn ask_turned(rt: &impl Abort, alloc: Global, users: &Users) -> Result<(), NoMemory> {
+    let file = ONE_PUT.as_slice();
     for place in 0..ONE_PUT.len() {
-        let mut octets = *ONE_PUT;
-        octets[place] = ONE_PUT[place] ^ 0xff;
-        let all = read_octets(alloc, octets.as_slice(), &users)?;
-        octets[place] = ONE_PUT[place] ^ 1;
-        let last = read_octets(alloc, octets.as_slice(), &users)?;
-        assert!(rt; all == found_with_all_turned(place), "{place}");
-        assert!(rt; last == found_with_last_turned(place), "{place}");
+        let octet = ONE_PUT[place];
+        let all = read_changed(alloc, file, users, place, octet ^ 0xff)?;
+        assert!(rt; all == found_with_all_turned(place), "all bits of {place}");
+        let last = read_changed(alloc, file, users, place, octet ^ 1)?;
+        assert!(rt;
+            last == found_with_last_turned(place),
+            "last bit of {place}"
+        );
     }
     Ok(())
+}
+
+#[test]
+fn a_damaged_file_is_refused_or_is_another(rt: HostRuntime) -> Result<(), Fail> {
+    let users = three_users(rt.alloc())?;
+    let cut = ask_cut(&rt, rt.alloc(), &users);
+    let turned = ask_turned(&rt, rt.alloc(), &users);
+    drop(users);
+    cut?;
+    Ok(turned?)
 }

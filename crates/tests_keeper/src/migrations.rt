@@ -1,12 +1,12 @@
 //! A journal that is carried over to other users, with a stop and a failure at each call of either disk.
 
-use crate::cases::{Ending, is_same, memory_disk, read_octets, three_users};
-use crate::drafts::count_right_stops;
+use crate::cases::{Ending, USERS, count_right_stops, is_same, leaves, memory_disk, read_octets};
 use cal_base::{Arc, NoMemory};
 use cal_keeper::MemoryDisk;
 use journal_migration::{Migrated, migrate};
-use privileges::{Users, UsersFault, read_users};
+use privileges::{Users, read_users};
 use std::alloc::Global;
+use std::process::Abort;
 use std::test::Fail;
 
 /// The three users in another order, one more between them, and a group.
@@ -21,37 +21,32 @@ const OLD: &[u8] =
 const NEW: &[u8] =
     b"caldavjournal 1\n\0\0\0\x3duser bob\nuser dave\nuser alice\nuser carol\ngroup team bob dave\n\x01\0\0\0\x1c\x03\0\0\0\0\0\0\0\0\x67\xce\xb5\0\0\xcc\0\0\0\0\x08calendar\x01\0\0\0\x1c\x03\0\0\0\x03\0\0\0\0\x67\xce\xb5\x01\0\xcc\0\0\0\x03\x08calendar\0";
 
-fn new_users(alloc: Global) -> Result<Users, UsersFault> {
-    read_users(alloc, NEW_USERS.as_bytes())
+/// The users of a text.
+fn shared(alloc: Global, text: &str) -> Result<Arc<Users>, Fail> {
+    Ok(Arc::new(alloc, read_users(alloc, text.as_bytes())?)?)
 }
 
-fn shared(alloc: Global, users: Result<Users, UsersFault>) -> Result<Arc<Users>, Fail> {
-    Ok(Arc::new(alloc, users?)?)
-}
+/// The users of the journal, and those to whom it is carried over.
+type Both<'a> = (&'a Arc<Users>, &'a Arc<Users>);
 
 /// Carries the journal over, where the calls with these numbers fail, of the old file's disk and of the new
 /// one's. Gives how that ended, and both disks.
 fn carried(
     alloc: Global,
+    users: Both<'_>,
     old_failing: &[u64],
     new_failing: &[u64],
-) -> Result<(Migrated, MemoryDisk, MemoryDisk), Fail> {
-    let before = shared(alloc, three_users(alloc))?;
-    let after = shared(alloc, new_users(alloc))?;
+) -> Result<(Migrated, MemoryDisk, MemoryDisk), NoMemory> {
+    let before = Arc::try_clone(users.0)?;
+    let after = Arc::try_clone(users.1)?;
     let from = memory_disk(alloc, OLD, old_failing)?;
-    let to = memory_disk(alloc, &[], new_failing)?;
-    Ok(migrate(alloc, before, after, from, to))
-}
-
-/// Whether a stop within a call leaves these octets.
-fn leaves(disk: &MemoryDisk, call: u64, written: bool, octets: &[u8]) -> Result<bool, NoMemory> {
-    if disk.calls() <= call {
-        return Ok(false);
+    match memory_disk(alloc, &[], new_failing) {
+        Ok(to) => Ok(migrate(alloc, before, after, from, to)),
+        Err(NoMemory) => {
+            drop(from);
+            Err(NoMemory)
+        }
     }
-    let image = disk.stopped(call, written)?;
-    let same = is_same(image.as_slice(), octets);
-    drop(image);
-    Ok(same)
 }
 
 /// How many stops, written and not, leave the old file as it was.
@@ -69,78 +64,85 @@ fn count_kept(disk: &MemoryDisk) -> Result<u64, NoMemory> {
 
 /// Of a run without a failure: whether the new file is whole; and of each disk how many calls there were, and
 /// of how many of these a stop leaves what it should.
-fn stops_of_run(alloc: Global, users: &Users) -> Result<(bool, (u64, u64), (u64, u64)), Fail> {
-    let (end, from, to) = carried(alloc, &[], &[])?;
+fn stops_of_run(
+    alloc: Global,
+    users: Both<'_>,
+) -> Result<(bool, (u64, u64), (u64, u64)), NoMemory> {
+    let (end, from, to) = carried(alloc, users, &[], &[])?;
     let done = end == Migrated::Done && is_same(to.octets(), NEW);
     let kept = count_kept(&from);
-    let right = count_right_stops(alloc, users, &to, 2);
+    let none = (0, Ending::NotJournal);
+    let right = count_right_stops(alloc, users.1, &to, 0, none, (2, Ending::End));
     let calls = (from.calls(), to.calls());
     drop((from, to));
     Ok((done, (calls.0, kept?), (calls.1, right?)))
 }
 
-#[test]
-fn a_stop_leaves_the_old_journal_and_no_new_one_or_the_whole(rt: HostRuntime) -> Result<(), Fail> {
-    let users = new_users(rt.alloc())?;
-    let (done, old, new) = stops_of_run(rt.alloc(), &users)?;
-    assert!(rt; done);
-    assert!(rt; 5 < old.0 && old.1 == old.0, "{old:?}");
-    assert!(rt; 20 < new.0 && new.1 == new.0, "{new:?}");
-    Ok(())
-}
-
 /// A run of whose calls ones fail: how it ended, whether the old file stays, what is found in the new one, and
-/// how many calls of its disk there were.
+/// whether its disk was called.
 fn failing_run(
     alloc: Global,
-    users: &Users,
+    users: Both<'_>,
     old_failing: &[u64],
     new_failing: &[u64],
-) -> Result<(Migrated, bool, (u32, Ending), u64), Fail> {
-    let (end, from, to) = carried(alloc, old_failing, new_failing)?;
+) -> Result<(Migrated, bool, (u32, Ending), bool), NoMemory> {
+    let (end, from, to) = carried(alloc, users, old_failing, new_failing)?;
     let stays = is_same(from.octets(), OLD);
-    let found = read_octets(alloc, to.octets(), users);
-    let calls = to.calls();
+    let found = read_octets(alloc, to.octets(), users.1);
+    let called = to.calls() != 0;
     drop((from, to));
-    Ok((end, stays, found?, calls))
+    Ok((end, stays, found?, called))
 }
 
-#[test]
-fn each_call_of_the_old_disk_that_fails_leaves_the_new_file_alone(
-    rt: HostRuntime,
-) -> Result<(), Fail> {
-    let users = new_users(rt.alloc())?;
-    let (_, (calls, _), _) = stops_of_run(rt.alloc(), &users)?;
-    for call in 0..calls {
-        let ended = failing_run(rt.alloc(), &users, &[call], &[])?;
-        let wanted = (Migrated::OldFailed, true, (0, Ending::NotJournal), 0);
-        assert!(rt; ended == wanted, "{call}: {ended:?}");
+/// How a run ends of whose calls of the new disk this one fails, of `calls` in all. The first five begin the
+/// file. Without the last sync it may be whole, and is not acknowledged.
+fn ended_with_failure(call: u64, calls: u64) -> (Migrated, bool, (u32, Ending), bool) {
+    let told = if call < 5 {
+        Migrated::NotBegun
+    } else {
+        Migrated::NewFailed
+    };
+    let left = if call.saturating_add(1) < calls {
+        (0, Ending::NotJournal)
+    } else {
+        (2, Ending::End)
+    };
+    (told, true, left, true)
+}
+
+/// A stop leaves the old journal, and no new one or the whole; each call of the old disk that fails leaves
+/// the new file alone, and each of the new disk is told.
+fn ask(rt: &impl Abort, alloc: Global, users: Both<'_>) -> Result<(), NoMemory> {
+    let (done, old, new) = stops_of_run(alloc, users)?;
+    assert!(rt; done, "carried over");
+    assert!(rt;
+        5 < old.0 && old.1 == old.0,
+        "right stops of the old disk: {old:?}"
+    );
+    assert!(rt;
+        20 < new.0 && new.1 == new.0,
+        "right stops of the new disk: {new:?}"
+    );
+    for call in 0..old.0 {
+        let ended = failing_run(alloc, users, &[call], &[])?;
+        let wanted = (Migrated::OldFailed, true, (0, Ending::NotJournal), false);
+        assert!(rt; ended == wanted, "call {call} of the old disk failed");
     }
-    Ok(())
-}
-
-#[test]
-fn each_call_of_the_new_disk_that_fails_is_told(rt: HostRuntime) -> Result<(), Fail> {
-    let users = new_users(rt.alloc())?;
-    let (_, _, (calls, _)) = stops_of_run(rt.alloc(), &users)?;
-    for call in 0..calls {
-        let (end, stays, found, _) = failing_run(rt.alloc(), &users, &[], &[call])?;
-        // The first five calls begin the file. Without the last sync it may be whole, and is not
-        // acknowledged.
-        let told = if call < 5 {
-            Migrated::NotBegun
-        } else {
-            Migrated::NewFailed
-        };
-        let left = if call.saturating_add(1) < calls {
-            (0, Ending::NotJournal)
-        } else {
-            (2, Ending::End)
-        };
+    for call in 0..new.0 {
+        let ended = failing_run(alloc, users, &[], &[call])?;
         assert!(rt;
-            end == told && stays && found == left,
-            "{call}: {end:?} {found:?}"
+            ended == ended_with_failure(call, new.0),
+            "call {call} of the new disk failed"
         );
     }
     Ok(())
+}
+
+#[test]
+fn a_journal_is_carried_over_whole_or_not_at_all(rt: HostRuntime) -> Result<(), Fail> {
+    let before = shared(rt.alloc(), USERS)?;
+    let after = shared(rt.alloc(), NEW_USERS)?;
+    let asked = ask(&rt, rt.alloc(), (&before, &after));
+    drop((before, after));
+    Ok(asked?)
 }

@@ -1,8 +1,6 @@
 //! Files of the system: made, locked, read back, and compared with the disk in memory.
 
-use crate::cases::{
-    Ending, ONE_DELETION, is_same, keep_deletion, memory_disk, read_whole, three_users,
-};
+use crate::cases::{Ending, ONE_DELETION, is_same, keep, memory_disk, read_whole, three_users};
 use cal_base::{NoMemory, Word};
 use cal_keeper::{Disk, FileDisk, MemoryDisk};
 use privileges::Users;
@@ -33,7 +31,9 @@ fn is_absent<R: Files<File = File> + Copy + Drop>(
     path: &str,
 ) -> Result<bool, NoMemory> {
     let mut disk = disk_at(rt, alloc, path)?;
-    Ok(disk.len() == Ok(0) && disk.sync().is_ok())
+    let absent = disk.len() == Ok(0) && disk.sync().is_ok();
+    drop(disk);
+    Ok(absent)
 }
 
 /// Whether every call of a disk fails.
@@ -49,7 +49,9 @@ fn is_refused<R: Files<File = File> + Copy + Drop>(
     path: &str,
 ) -> Result<bool, NoMemory> {
     let mut disk = disk_at(rt, alloc, path)?;
-    Ok(fails(&mut disk))
+    let refused = fails(&mut disk);
+    drop(disk);
+    Ok(refused)
 }
 
 /// Whether a file with one record is made at a path, and is refused to a second disk as long as the first
@@ -60,10 +62,10 @@ fn is_kept_alone<R: Files<File = File> + Copy + Drop>(
     path: &str,
     users: &Users,
 ) -> Result<bool, NoMemory> {
-    let (first, kept) = keep_deletion(alloc, disk_at(rt, alloc, path)?, users)?;
+    let (first, kept) = keep(alloc, disk_at(rt, alloc, path)?, users, false);
     let second = is_refused(rt, alloc, path);
     drop(first);
-    Ok(kept && second?)
+    Ok(kept? && second?)
 }
 
 /// Whether a file is made at a path, kept from others and read back, and a folder is refused.
@@ -253,7 +255,9 @@ fn count_in_file<R: Files<File = File> + Copy + Drop>(
     memory: &mut MemoryDisk,
 ) -> Result<usize, NoMemory> {
     let mut system = disk_at(rt, alloc, path)?;
-    count_with_noise(alloc, memory, &mut system)
+    let count = count_with_noise(alloc, memory, &mut system);
+    drop(system);
+    count
 }
 
 #[test]

@@ -3,123 +3,56 @@ ghost use Rattle.std.specs.Prelude.{◌≡◌};
 ghost use Rattle.cal_keeper.specs.Principals.{counts_of};
 
 use crate::cases::{
-    Ending, NO_RECORD, ONE_DELETION, ONE_PUT, found_of_stop, is_same, keep_deletion, memory_disk,
-    read_octets, read_whole, three_users,
+    Ending, NO_RECORD, ONE_DELETION, ONE_PUT, count_right_stops, found_behind, is_same, keep,
+    leaves, memory_disk, read_whole, three_users,
 };
 use cal_base::NoMemory;
 use cal_keeper::{MemoryDisk, NextEntry, Opened, Reader, open};
 use cal_model::{Content, Event, Method, Path};
 use privileges::Users;
 use std::alloc::Global;
+use std::process::Abort;
 use std::test::Fail;
 
 /// How many calls of the disk make a new file.
 const CREATING: u64 = 4;
 
-/// What is found after a stop within a call, of `calls` in all, the last two of which open the gate and
-/// sync it.
-fn found_after_stop(call: u64, calls: u64, written: bool) -> (u32, Ending) {
-    if written && calls.saturating_sub(call) <= 2 {
-        (1, Ending::End)
-    } else {
-        (0, Ending::End)
-    }
-}
-
-/// How many stops, written and not, leave the file that they should, beginning with the call behind the
-/// making of the file.
-fn count_right_stops(alloc: Global, users: &Users, disk: &MemoryDisk) -> Result<u64, NoMemory> {
+/// Of a file with one record: whether it has the octets of the worked one and was made as it should, a stop
+/// within the last call that makes it leaving no record; how many calls there were; and of how many behind
+/// its making a stop leaves the records before or one more.
+fn kept_deletion(alloc: Global, users: &Users) -> Result<(bool, u64, u64), NoMemory> {
+    let (disk, kept) = keep(alloc, memory_disk(alloc, &[], &[])?, users, false);
+    let whole = is_same(disk.octets(), ONE_DELETION.as_slice());
+    let made = leaves(&disk, CREATING - 1, true, NO_RECORD.as_slice());
+    let (none, one) = ((0, Ending::End), (1, Ending::End));
+    let right = count_right_stops(alloc, users, &disk, CREATING, none, one);
     let calls = disk.calls();
-    let mut count = 0u64;
-    for call in CREATING..calls {
-        let torn = found_of_stop(alloc, users, disk, call, false)?;
-        let whole = found_of_stop(alloc, users, disk, call, true)?;
-        if torn == found_after_stop(call, calls, false)
-            && whole == found_after_stop(call, calls, true)
-        {
-            count = count.wrapping_add(1);
-        }
-    }
-    Ok(count)
-}
-
-/// Whether a stop within the last call that makes the file leaves the file without a record.
-fn is_made(disk: &MemoryDisk) -> Result<bool, NoMemory> {
-    if disk.calls() < CREATING {
-        return Ok(false);
-    }
-    let made = disk.stopped(CREATING - 1, true)?;
-    let same = is_same(made.as_slice(), NO_RECORD.as_slice());
-    drop(made);
-    Ok(same)
-}
-
-/// Of a file with one record: whether it has the octets of the worked one, was made as it should, and
-/// how many calls came behind its making, and of how many of these a stop leaves what it should.
-fn stops_of_deletion(alloc: Global, users: &Users) -> Result<(bool, bool, u64, u64), NoMemory> {
-    let (disk, kept) = keep_deletion(alloc, memory_disk(alloc, &[], &[])?, users)?;
-    let whole = kept && is_same(disk.octets(), ONE_DELETION.as_slice());
-    let made = is_made(&disk);
-    let right = count_right_stops(alloc, users, &disk);
-    let calls = disk.calls().saturating_sub(CREATING);
     drop(disk);
-    Ok((whole, made?, calls, right?))
+    let made = made?;
+    Ok((kept? && whole && made, calls, right?))
 }
 
-#[test]
-fn a_stop_at_each_call_leaves_the_records_before_or_one_more(rt: HostRuntime) -> Result<(), Fail> {
-    let users = three_users(rt.alloc())?;
-    let (whole, made, calls, right) = stops_of_deletion(rt.alloc(), &users)?;
-    assert!(rt; whole && made);
-    assert!(rt; 0 < calls && right == calls, "{right} of {calls}");
-    Ok(())
-}
-
-/// What is found in the file of a disk of whose calls this one failed, of `calls` in all.
-fn found_after_failure(call: u64, calls: u64) -> (u32, Ending) {
+/// Whether all goes through where a call fails, of `calls` in all, and what is found in the file then.
+fn ended_with_failure(call: u64, calls: u64) -> (bool, (u32, Ending)) {
     match call {
-        0 | 1 => (0, Ending::NotJournal),
-        2 => (0, Ending::Bad(51)),
-        _ if calls.saturating_sub(call) == 1 => (1, Ending::End),
-        _ => (0, Ending::End),
+        0 | 1 => (false, (0, Ending::NotJournal)),
+        2 => (false, (0, Ending::Bad(51))),
+        _ => match calls.saturating_sub(call) {
+            0 => (true, (1, Ending::End)),
+            1 => (false, (1, Ending::End)),
+            _ => (false, (0, Ending::End)),
+        },
     }
 }
 
-/// Makes the file with one record on a disk of whose calls one fails. Whether all went through, and what
-/// is found in the file then.
-fn keep_failing(
-    alloc: Global,
-    users: &Users,
-    call: u64,
-) -> Result<(bool, (u32, Ending)), NoMemory> {
-    let (disk, kept) = keep_deletion(alloc, memory_disk(alloc, &[], &[call])?, users)?;
-    let found = read_octets(alloc, disk.octets(), users);
-    drop(disk);
-    Ok((kept, found?))
-}
-
-#[test]
-fn each_call_that_fails_is_answered(rt: HostRuntime) -> Result<(), Fail> {
-    let alloc = rt.alloc();
-    let users = three_users(alloc)?;
-    let (disk, _) = keep_deletion(alloc, memory_disk(alloc, &[], &[])?, &users)?;
-    let calls = disk.calls();
-    for call in 0..calls {
-        let (kept, found) = keep_failing(alloc, &users, call)?;
-        assert!(rt;
-            !kept && found == found_after_failure(call, calls),
-            "{call}"
-        );
-    }
-    let (kept, found) = keep_failing(alloc, &users, calls)?;
-    assert!(rt; kept && found == (1, Ending::End));
-    Ok(())
-}
-
-/// How many of the calls that read a file whole each end the reading where they fail.
-fn count_failing(alloc: Global, users: &Users, octets: &[u8]) -> Result<u64, NoMemory> {
+/// How many of the calls that read the worked file whole each end the reading where they fail.
+fn count_failing(alloc: Global, users: &Users) -> Result<u64, NoMemory> {
     for call in 0..1_000u64 {
-        match read_whole(alloc, memory_disk(alloc, octets, &[call])?, users) {
+        match read_whole(
+            alloc,
+            memory_disk(alloc, ONE_PUT.as_slice(), &[call])?,
+            users,
+        ) {
             (_, Ending::Failed) => {}
             (1, Ending::End) => return Ok(call),
             _ => return Ok(0),
@@ -128,40 +61,24 @@ fn count_failing(alloc: Global, users: &Users, octets: &[u8]) -> Result<u64, NoM
     Ok(0)
 }
 
-#[test]
-fn each_read_that_fails_ends_the_reading(rt: HostRuntime) -> Result<(), Fail> {
-    let alloc = rt.alloc();
-    let users = three_users(alloc)?;
-    let count = count_failing(alloc, &users, ONE_PUT.as_slice())?;
-    assert!(rt; 5 <= count, "{count}");
-    Ok(())
-}
-
 /// Whether an event is the worked PUT.
 fn is_worked_put(event: &Event) -> bool {
+    let Path::Object(user, calendar, object) = &event.request.path else {
+        return false;
+    };
+    let Content::Put { media_ok, octets } = &event.request.content else {
+        return false;
+    };
+    let file = ONE_PUT.as_slice();
     let is_asked = event.session == 0 && event.who == 0 && event.moment == 1_741_600_000;
     is_asked
         && event.request.method == Method::Put
         && event.request.size == 191
-        && is_worked_path(&event.request.path)
-        && is_worked_content(&event.request.content)
-}
-
-fn is_worked_path(path: &Path) -> bool {
-    let Path::Object(user, calendar, object) = path else {
-        return false;
-    };
-    is_same(user.as_slice(), b"alice")
+        && is_same(user.as_slice(), b"alice")
         && is_same(calendar.as_slice(), b"calendar")
         && is_same(object.as_slice(), b"one.ics")
-}
-
-fn is_worked_content(content: &Content) -> bool {
-    let Content::Put { media_ok, octets } = content else {
-        return false;
-    };
-    let file = ONE_PUT.as_slice();
-    *media_ok && is_same(octets.as_slice(), &file[96..287])
+        && *media_ok
+        && is_same(octets.as_slice(), &file[96..287])
 }
 
 /// Whether the worked file gives the worked PUT with its status.
@@ -169,7 +86,10 @@ fn reads_worked_put(alloc: Global, users: &Users) -> Result<bool, NoMemory> {
     let disk = memory_disk(alloc, ONE_PUT.as_slice(), &[])?;
     match open(alloc, disk, users) {
         Opened::Ready(reader) => Ok(gives_worked_put(alloc, reader, users)),
-        _ => Ok(false),
+        other => {
+            drop(other);
+            Ok(false)
+        }
     }
 }
 
@@ -185,13 +105,40 @@ fn gives_worked_put(alloc: Global, reader: Reader<MemoryDisk>, users: &Users) ->
             drop(event);
             is_put && place == 287 && status == 201
         }
-        _ => false,
+        other => {
+            drop(other);
+            false
+        }
     }
 }
 
-#[test]
-fn the_worked_put_is_read(rt: HostRuntime) -> Result<(), Fail> {
-    let users = three_users(rt.alloc())?;
-    assert!(rt; reads_worked_put(rt.alloc(), &users)?);
+/// A stop at each call leaves the records before or one more, each call that fails is answered, each read
+/// that fails ends the reading, and the worked PUT is read.
+fn ask(rt: &impl Abort, alloc: Global, users: &Users) -> Result<(), NoMemory> {
+    let (made, calls, right) = kept_deletion(alloc, users)?;
+    assert!(rt; made, "the worked deletion");
+    assert!(rt;
+        CREATING < calls && right == calls.saturating_sub(CREATING),
+        "right stops: {right} of {calls}"
+    );
+    for call in 0..=calls {
+        let disk = memory_disk(alloc, &[], &[call])?;
+        let ended = found_behind(alloc, users, keep(alloc, disk, users, false))?;
+        assert!(rt;
+            ended == ended_with_failure(call, calls),
+            "call {call} failed"
+        );
+    }
+    let count = count_failing(alloc, users)?;
+    assert!(rt; 5 <= count, "right reads: {count}");
+    assert!(rt; reads_worked_put(alloc, users)?, "the worked PUT");
     Ok(())
+}
+
+#[test]
+fn the_worked_files_are_written_and_read(rt: HostRuntime) -> Result<(), Fail> {
+    let users = three_users(rt.alloc())?;
+    let asked = ask(&rt, rt.alloc(), &users);
+    drop(users);
+    Ok(asked?)
 }

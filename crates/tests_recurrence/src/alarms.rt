@@ -10,8 +10,11 @@ use std::process::Abort;
 /// A range by its start and its end, and whether an alarm goes off in it.
 type Asked = (i64, i64, bool);
 
-/// TRIGGER, REPEAT and DURATION of an alarm, and ranges.
-type Case = (Trigger, u32, Length, &'static [Asked]);
+/// A component: what it is, how it starts and ends, and an instance of it.
+type Of = (Kind, Option<Stamp>, Extent, (i64, i64));
+
+/// What an alarm is of, its TRIGGER, REPEAT and DURATION, and ranges.
+type Case = (Of, Trigger, u32, Length, &'static [Asked]);
 
 /// The seconds of some times of that day.
 const AT_0835: i64 = 1_741_595_700;
@@ -70,8 +73,20 @@ const BEFORE_START: Trigger = Trigger::From(Related::Start, QUARTER_BEFORE);
 
 const BEFORE_END: Trigger = Trigger::From(Related::End, QUARTER_BEFORE);
 
-const CASES: [Case; 6] = [
+const EVENT: Of = (Kind::Event, START, Extent::End(END), (AT_0900, AT_1000));
+
+/// It has a start and no end.
+const ENDLESS: Of = (Kind::Event, START, Extent::Point, (AT_1000, AT_1000));
+
+/// It has an end and no start.
+const DUE: Of = (Kind::Todo, None, Extent::Due(END), (AT_1000, AT_1000));
+
+const DATELESS: Of = (Kind::Event, None, Extent::Point, (AT_0900, AT_1000));
+
+const CASES: [Case; 11] = [
+    // They go off and repeat.
     (
+        EVENT,
         BEFORE_START,
         0,
         NOTHING,
@@ -84,6 +99,7 @@ const CASES: [Case; 6] = [
         ],
     ),
     (
+        EVENT,
         BEFORE_END,
         0,
         NOTHING,
@@ -94,6 +110,7 @@ const CASES: [Case; 6] = [
         ],
     ),
     (
+        EVENT,
         BEFORE_START,
         2,
         FIVE_MINUTES,
@@ -105,6 +122,7 @@ const CASES: [Case; 6] = [
         ],
     ),
     (
+        EVENT,
         BEFORE_START,
         2,
         BACKWARDS,
@@ -117,12 +135,14 @@ const CASES: [Case; 6] = [
         ],
     ),
     (
+        EVENT,
         BEFORE_START,
         2,
         NOTHING,
         &[(AT_0845, AT_1000, true), (AT_0845 + 1, AT_1000, false)],
     ),
     (
+        EVENT,
         BEFORE_START,
         999_999_999,
         AGES,
@@ -133,11 +153,33 @@ const CASES: [Case; 6] = [
             (i64::MIN, AT_0845, false),
         ],
     ),
+    // They want what they count from.
+    (ENDLESS, BEFORE_START, 0, NOTHING, &[(0, AT_1000, true)]),
+    (ENDLESS, BEFORE_END, 0, NOTHING, &[(0, AT_1000, false)]),
+    (DUE, BEFORE_START, 0, NOTHING, &[(0, AT_1000, false)]),
+    (DUE, BEFORE_END, 0, NOTHING, &[(0, AT_1000, true)]),
+    // One with a moment of its own wants no instance.
+    (
+        DATELESS,
+        Trigger::At(Utc(AT_0900)),
+        1,
+        FIVE_MINUTES,
+        &[
+            (AT_0900, AT_0900 + 1, true),
+            (AT_0900 + 1, AT_0900 + 300, false),
+            (AT_0900 + 300, AT_0900 + 301, true),
+            (0, AT_0900, false),
+        ],
+    ),
 ];
 
-/// Asks whether an alarm that counts from an instance goes off in each of some ranges; without an
-/// instance it goes off in none.
+/// Asks whether an alarm goes off in each of some ranges: with an instance; and without one, or alone, where
+/// it has a moment of its own.
 fn ask(rt: &impl Abort, component: &Component, at: Fixed, alarm: &Alarm, ranges: &[Asked]) {
+    let is_alone = match alarm.trigger {
+        Trigger::At(_) => true,
+        Trigger::From(_, _) => false,
+    };
     for (start, end, answer) in ranges {
         let range = Range {
             start: Utc(*start),
@@ -147,71 +189,26 @@ fn ask(rt: &impl Abort, component: &Component, at: Fixed, alarm: &Alarm, ranges:
             alarm_overlaps(alarm, component, Some(at), range) == *answer,
             "from {start} to {end}"
         );
-        assert!(rt; !alarm_overlaps(alarm, component, None, range));
-        assert!(rt; !lone_alarm_overlaps(alarm, range));
+        let alone = *answer && is_alone;
+        assert!(rt; alarm_overlaps(alarm, component, None, range) == alone);
+        assert!(rt; lone_alarm_overlaps(alarm, range) == alone);
     }
 }
 
 #[test]
-fn alarms_go_off_and_repeat(rt: HostRuntime) {
-    let event = component(rt.alloc(), Kind::Event, START, Extent::End(END));
-    let at = Fixed {
-        start: AT_0900,
-        end: AT_1000,
-    };
-    for (trigger, repeat, gap, ranges) in CASES {
+fn alarms_go_off_in_ranges(rt: HostRuntime) {
+    for ((kind, start, extent, at), trigger, repeat, gap, ranges) in CASES {
+        let asked = component(rt.alloc(), kind, start, extent);
+        let at = Fixed {
+            start: at.0,
+            end: at.1,
+        };
         let alarm = Alarm {
             trigger,
             repeat,
             gap,
         };
-        ask(&rt, &event, at, &alarm, ranges);
-    }
-}
-
-/// A to-do with DUE alone has an end and no start, and an event without an end has none.
-#[test]
-fn alarms_want_what_they_count_from(rt: HostRuntime) {
-    let to_do = component(rt.alloc(), Kind::Todo, None, Extent::Due(END));
-    let event = component(rt.alloc(), Kind::Event, START, Extent::Point);
-    let at = Fixed {
-        start: AT_1000,
-        end: AT_1000,
-    };
-    for (trigger, starts) in [(BEFORE_START, true), (BEFORE_END, false)] {
-        let alarm = Alarm {
-            trigger,
-            repeat: 0,
-            gap: NOTHING,
-        };
-        ask(&rt, &event, at, &alarm, &[(0, AT_1000, starts)]);
-        ask(&rt, &to_do, at, &alarm, &[(0, AT_1000, !starts)]);
-    }
-}
-
-/// An alarm with a moment of its own wants no instance.
-#[test]
-fn alarms_go_off_at_their_moment(rt: HostRuntime) {
-    let event = component(rt.alloc(), Kind::Event, None, Extent::Point);
-    let alarm = Alarm {
-        trigger: Trigger::At(Utc(AT_0900)),
-        repeat: 1,
-        gap: FIVE_MINUTES,
-    };
-    for (start, end, answer) in [
-        (AT_0900, AT_0900 + 1, true),
-        (AT_0900 + 1, AT_0900 + 300, false),
-        (AT_0900 + 300, AT_0900 + 301, true),
-        (0, AT_0900, false),
-    ] {
-        let range = Range {
-            start: Utc(start),
-            end: Utc(end),
-        };
-        assert!(rt;
-            lone_alarm_overlaps(&alarm, range) == answer,
-            "from {start} to {end}"
-        );
-        assert!(rt; alarm_overlaps(&alarm, &event, None, range) == answer);
+        ask(&rt, &asked, at, &alarm, ranges);
+        drop(asked);
     }
 }

@@ -1,10 +1,11 @@
 //! Runs of busy time (RFC 4791, 7.10), on 10 March 2025: the seconds of its hours are 1,741,564,800
 //! and 3,600 for each hour.
 
+use crate::common_times::{Time, runs_of};
 use cal_base::{List, NoMemory};
 use cal_model::{Class, Range};
 use cal_moment::Utc;
-use freebusy::{BusyRow, Gathered, Run, busy_runs};
+use freebusy::{BusyRow, Gathered, Run};
 use std::alloc::Global;
 use std::test::Fail;
 
@@ -20,15 +21,21 @@ const NOON: i64 = 1_741_608_000;
 
 const NEXT_MIDNIGHT: i64 = 1_741_651_200;
 
-/// Busy times, and their runs in that day.
-const DAYS: [(&[(Class, i64, i64)], &[(Class, i64, i64)]); 8] = [
-    (&[], &[]),
+const DAY: (i64, i64) = (MIDNIGHT, NEXT_MIDNIGHT);
+
+/// Busy times, a range, and their runs in it.
+type Case = (&'static [Time], (i64, i64), &'static [Time]);
+
+const CASES: [Case; 10] = [
+    (&[], DAY, &[]),
     (
         &[(Class::Tentative, NINE, ELEVEN), (Class::Busy, TEN, NOON)],
+        DAY,
         &[(Class::Tentative, NINE, TEN), (Class::Busy, TEN, NOON)],
     ),
     (
         &[(Class::Tentative, NINE, NOON), (Class::Busy, TEN, ELEVEN)],
+        DAY,
         &[
             (Class::Tentative, NINE, TEN),
             (Class::Busy, TEN, ELEVEN),
@@ -37,119 +44,109 @@ const DAYS: [(&[(Class, i64, i64)], &[(Class, i64, i64)]); 8] = [
     ),
     (
         &[(Class::Busy, TEN, ELEVEN), (Class::Busy, NINE, TEN)],
+        DAY,
         &[(Class::Busy, NINE, ELEVEN)],
     ),
     (
         &[(Class::Busy, NINE, TEN), (Class::Unavailable, TEN, ELEVEN)],
+        DAY,
         &[(Class::Busy, NINE, TEN), (Class::Unavailable, TEN, ELEVEN)],
     ),
     (
         &[(Class::Busy, NINE, TEN), (Class::Busy, ELEVEN, NOON)],
+        DAY,
         &[(Class::Busy, NINE, TEN), (Class::Busy, ELEVEN, NOON)],
     ),
     (
         &[(Class::Tentative, NINE, NOON), (Class::Unavailable, 0, TEN)],
+        DAY,
         &[
             (Class::Unavailable, MIDNIGHT, TEN),
             (Class::Tentative, TEN, NOON),
         ],
     ),
-    (&[(Class::Busy, TEN, TEN), (Class::Busy, NOON, NINE)], &[]),
+    (
+        &[(Class::Busy, TEN, TEN), (Class::Busy, NOON, NINE)],
+        DAY,
+        &[],
+    ),
+    // A range that ends before it starts has no run.
+    (&[(Class::Busy, NINE, NOON)], (TEN, TEN), &[]),
+    (&[(Class::Busy, NINE, NOON)], (ELEVEN, TEN), &[]),
 ];
 
-#[test]
-fn runs_of_a_day_are_found(rt: HostRuntime) -> Result<(), Fail> {
-    let day = Range {
-        start: Utc(MIDNIGHT),
-        end: Utc(NEXT_MIDNIGHT),
-    };
-    for (times, runs) in DAYS {
-        let mut rows = List::new(rt.alloc());
-        for (class, start, end) in times {
-            rows.push(BusyRow {
-                class: *class,
-                start: *start,
-                end: *end,
-            })?;
-        }
-        let mut wanted = List::new(rt.alloc());
-        for (class, start, end) in runs {
-            wanted.push(Run {
-                start: Utc(*start),
-                end: Utc(*end),
-                class: *class,
-            })?;
-        }
-        let found = busy_runs(rt.alloc(), &rows, day)?;
-        assert!(rt; found.as_slice() == wanted.as_slice());
-        for often in [1, 1_500] {
-            let found = gathered_runs(rt.alloc(), rows.as_slice(), often, day)?;
-            assert!(rt; found.as_slice() == wanted.as_slice());
+/// Whether runs are those, in their order.
+fn are_those(runs: &[Run], wanted: &[Time]) -> bool {
+    'wanted: for (run, one) in runs.iter().zip(wanted) {
+        if (run.class, run.start.0, run.end.0) != *one {
+            return false;
         }
     }
-    Ok(())
+    runs.len() == wanted.len()
 }
 
 /// The runs of some times that are gathered so often, each as often as the others.
 fn gathered_runs(
     alloc: Global,
-    rows: &[BusyRow],
+    times: &[Time],
     often: usize,
     range: Range,
 ) -> Result<List<Run>, NoMemory> {
     let mut gathered = Gathered::new(alloc, range);
     for _ in 0..often {
-        for row in rows {
-            gathered.push(*row)?;
+        for (class, start, end) in times {
+            gathered.push(BusyRow {
+                class: *class,
+                start: *start,
+                end: *end,
+            })?;
         }
     }
     gathered.runs()
 }
 
-/// Of times with a free second between each and the next none is lost, however often their runs are put
-/// in their place.
-#[test]
-fn no_gathered_time_is_lost(rt: HostRuntime) -> Result<(), Fail> {
+/// Whether the runs of some times are those, also where the times are gathered, once and often.
+fn is_found(alloc: Global, case: &Case) -> Result<bool, NoMemory> {
+    let (times, (start, end), wanted) = *case;
+    let range = Range {
+        start: Utc(start),
+        end: Utc(end),
+    };
+    let at_once = are_those(runs_of(alloc, times, range)?.as_slice(), wanted);
+    let once = are_those(gathered_runs(alloc, times, 1, range)?.as_slice(), wanted);
+    let often = are_those(
+        gathered_runs(alloc, times, 1_500, range)?.as_slice(),
+        wanted,
+    );
+    Ok(at_once && once && often)
+}
+
+/// So many times of a second, with a free second between each and the next.
+fn seconds(alloc: Global, count: u32) -> Result<List<Time>, NoMemory> {
+    let mut times = List::new(alloc);
+    for second in 0..count {
+        let start = MIDNIGHT + 2 * i64::from(second);
+        times.push((Class::Tentative, start, start + 1))?;
+    }
+    Ok(times)
+}
+
+/// Whether none of those times is lost, however often their runs are put in their place.
+fn is_none_lost(alloc: Global) -> Result<bool, NoMemory> {
     let day = Range {
         start: Utc(MIDNIGHT),
         end: Utc(NEXT_MIDNIGHT),
     };
-    let mut gathered = Gathered::new(rt.alloc(), day);
-    let mut wanted = List::new(rt.alloc());
-    for second in 0..10_000u32 {
-        let start = MIDNIGHT + 2 * i64::from(second);
-        gathered.push(BusyRow {
-            class: Class::Tentative,
-            start,
-            end: start + 1,
-        })?;
-        wanted.push(Run {
-            start: Utc(start),
-            end: Utc(start + 1),
-            class: Class::Tentative,
-        })?;
-    }
-    assert!(rt; gathered.runs()?.as_slice() == wanted.as_slice());
-    Ok(())
+    let times = seconds(alloc, 10_000)?;
+    let runs = gathered_runs(alloc, times.as_slice(), 1, day)?;
+    Ok(are_those(runs.as_slice(), times.as_slice()))
 }
 
-/// A range that ends before it starts has no run.
 #[test]
-fn no_second_has_no_run(rt: HostRuntime) -> Result<(), Fail> {
-    let rows = List::of(
-        rt.alloc(),
-        &[BusyRow {
-            class: Class::Busy,
-            start: NINE,
-            end: NOON,
-        }],
-    )?;
-    for (start, end) in [(TEN, TEN), (ELEVEN, TEN)] {
-        let range = Range {
-            start: Utc(start),
-            end: Utc(end),
-        };
-        assert!(rt; busy_runs(rt.alloc(), &rows, range)?.is_empty());
+fn runs_are_found(rt: HostRuntime) -> Result<(), Fail> {
+    for (number, case) in CASES.iter().enumerate() {
+        assert!(rt; is_found(rt.alloc(), case)?, "case {number}");
     }
+    assert!(rt; is_none_lost(rt.alloc())?, "a gathered time is lost");
     Ok(())
 }

@@ -28,7 +28,7 @@ const NOON: i64 = 1_741_608_000;
 const ONE: i64 = 1_741_611_600;
 
 /// A busy time: its class, its start and its end.
-type Time = (Class, i64, i64);
+pub type Time = (Class, i64, i64);
 
 /// The busy times of each calendar, a range, how many seconds have to be free, how many times are
 /// asked for, and the free times.
@@ -42,7 +42,43 @@ type Case = (
 
 const ROUND_NOON: &[&[Time]] = &[&[(Class::Tentative, NINE, TEN), (Class::Busy, TEN, NOON)]];
 
-const CASES: [Case; 14] = [
+/// 32 calendars that take turns from eight on, for a minute each: they are free together from 8:32 on.
+const TURNS: &[&[Time]] = &[
+    &[(Class::Busy, EIGHT, EIGHT + 60)],
+    &[(Class::Busy, EIGHT + 60, EIGHT + 120)],
+    &[(Class::Busy, EIGHT + 120, EIGHT + 180)],
+    &[(Class::Busy, EIGHT + 180, EIGHT + 240)],
+    &[(Class::Busy, EIGHT + 240, EIGHT + 300)],
+    &[(Class::Busy, EIGHT + 300, EIGHT + 360)],
+    &[(Class::Busy, EIGHT + 360, EIGHT + 420)],
+    &[(Class::Busy, EIGHT + 420, EIGHT + 480)],
+    &[(Class::Busy, EIGHT + 480, EIGHT + 540)],
+    &[(Class::Busy, EIGHT + 540, EIGHT + 600)],
+    &[(Class::Busy, EIGHT + 600, EIGHT + 660)],
+    &[(Class::Busy, EIGHT + 660, EIGHT + 720)],
+    &[(Class::Busy, EIGHT + 720, EIGHT + 780)],
+    &[(Class::Busy, EIGHT + 780, EIGHT + 840)],
+    &[(Class::Busy, EIGHT + 840, EIGHT + 900)],
+    &[(Class::Busy, EIGHT + 900, EIGHT + 960)],
+    &[(Class::Busy, EIGHT + 960, EIGHT + 1020)],
+    &[(Class::Busy, EIGHT + 1020, EIGHT + 1080)],
+    &[(Class::Busy, EIGHT + 1080, EIGHT + 1140)],
+    &[(Class::Busy, EIGHT + 1140, EIGHT + 1200)],
+    &[(Class::Busy, EIGHT + 1200, EIGHT + 1260)],
+    &[(Class::Busy, EIGHT + 1260, EIGHT + 1320)],
+    &[(Class::Busy, EIGHT + 1320, EIGHT + 1380)],
+    &[(Class::Busy, EIGHT + 1380, EIGHT + 1440)],
+    &[(Class::Busy, EIGHT + 1440, EIGHT + 1500)],
+    &[(Class::Busy, EIGHT + 1500, EIGHT + 1560)],
+    &[(Class::Busy, EIGHT + 1560, EIGHT + 1620)],
+    &[(Class::Busy, EIGHT + 1620, EIGHT + 1680)],
+    &[(Class::Busy, EIGHT + 1680, EIGHT + 1740)],
+    &[(Class::Busy, EIGHT + 1740, EIGHT + 1800)],
+    &[(Class::Busy, EIGHT + 1800, EIGHT + 1860)],
+    &[(Class::Busy, EIGHT + 1860, EIGHT + 1920)],
+];
+
+const CASES: [Case; 17] = [
     // Time of each class is held, and so is a second too little.
     (
         ROUND_NOON,
@@ -120,12 +156,16 @@ const CASES: [Case; 14] = [
         5,
         &[(TEN, ELEVEN)],
     ),
+    // Many calendars are free together for 28 minutes, and not for a second more.
+    (TURNS, (EIGHT, NINE), 1, 5, &[(EIGHT + 32 * 60, NINE)]),
+    (TURNS, (EIGHT, NINE), 28 * 60, 5, &[(EIGHT + 32 * 60, NINE)]),
+    (TURNS, (EIGHT, NINE), 28 * 60 + 1, 5, &[]),
     // A range that ends before it starts has no time.
     (&[], (ONE, EIGHT), 1, 5, &[]),
 ];
 
 /// The runs of some times of a calendar.
-fn runs_of(alloc: Global, times: &[Time], range: Range) -> Result<List<Run>, NoMemory>
+pub fn runs_of(alloc: Global, times: &[Time], range: Range) -> Result<List<Run>, NoMemory>
     ensures { IfOk result AreInOrder }
 {
     let mut rows = List::new(alloc);
@@ -182,34 +222,8 @@ fn is_found(alloc: Global, case: &Case) -> Result<bool, NoMemory> {
 
 #[test]
 fn common_free_times_are_found(rt: HostRuntime) -> Result<(), Fail> {
-    for case in &CASES {
-        assert!(rt; is_found(rt.alloc(), case)?);
+    for (number, case) in CASES.iter().enumerate() {
+        assert!(rt; is_found(rt.alloc(), case)?, "case {number}");
     }
-    Ok(())
-}
-
-/// Of so many calendars each is busy for a minute, one behind the other from EIGHT on.
-fn one_minute_each(alloc: Global, number: u32, range: Range) -> Result<List<List<Run>>, NoMemory>
-    ensures { IfOk result (All AreInOrder) }
-{
-    let mut all = List::new(alloc);
-    'calendars: for place in 0..number {
-        let start = EIGHT + 60 * i64::from(place);
-        all.push(runs_of(alloc, &[(Class::Busy, start, start + 60)], range)?)?;
-    }
-    Ok(all)
-}
-
-/// 32 calendars that take turns from eight on, for a minute each, are free together from 8:32 on.
-#[test]
-fn many_calendars_are_free_together(rt: HostRuntime) -> Result<(), Fail> {
-    let range = Range {
-        start: Utc(EIGHT),
-        end: Utc(NINE),
-    };
-    let runs = one_minute_each(rt.alloc(), 32, range)?;
-    assert!(rt; earliest(&runs, range, 1) == Some(Utc(EIGHT + 32 * 60)));
-    assert!(rt; earliest(&runs, range, 28 * 60) == Some(Utc(EIGHT + 32 * 60)));
-    assert!(rt; earliest(&runs, range, 28 * 60 + 1).is_none());
     Ok(())
 }

@@ -13,8 +13,8 @@ use std::test::Fail;
 /// A range by its start and its end, and whether it overlaps.
 type Asked = (i64, i64, bool);
 
-/// How a component starts and ends, an instance of it, and ranges.
-type Case = (Option<Stamp>, Extent, (i64, i64), &'static [Asked]);
+/// What a component is, how it starts and ends, an instance of it, and ranges.
+type Case = (Kind, Option<Stamp>, Extent, (i64, i64), &'static [Asked]);
 
 const START: Option<Stamp> = Some(Stamp::Utc(Utc(100)));
 
@@ -94,44 +94,72 @@ const ENDS: &[Asked] = &[
 
 const NEVER: &[Asked] = &[(0, 300, false), (100, 200, false)];
 
-const EVENTS: [Case; 8] = [
-    (START, Extent::End(END), (100, 200), SPANS),
-    (FLOATING, Extent::End(END), (100, 200), SPANS),
-    (START, Extent::Lasting(LONG), (100, 200), SPANS),
-    (START, Extent::Lasting(DAYS), (100, 200), SPANS),
-    (START, Extent::Lasting(NOTHING), (100, 100), BEGINS),
-    (START, Extent::Point, (100, 100), BEGINS),
-    (DAY, Extent::WholeDay, (0, 86_400), WHOLE_DAY),
-    (None, Extent::Point, (100, 200), NEVER),
+const CASES: [Case; 21] = [
+    (Kind::Event, START, Extent::End(END), (100, 200), SPANS),
+    (Kind::Event, FLOATING, Extent::End(END), (100, 200), SPANS),
+    (Kind::Event, START, Extent::Lasting(LONG), (100, 200), SPANS),
+    (Kind::Event, START, Extent::Lasting(DAYS), (100, 200), SPANS),
+    (
+        Kind::Event,
+        START,
+        Extent::Lasting(NOTHING),
+        (100, 100),
+        BEGINS,
+    ),
+    (Kind::Event, START, Extent::Point, (100, 100), BEGINS),
+    (Kind::Event, DAY, Extent::WholeDay, (0, 86_400), WHOLE_DAY),
+    (Kind::Event, None, Extent::Point, (100, 200), NEVER),
+    (
+        Kind::Todo,
+        START,
+        Extent::Lasting(LONG),
+        (100, 200),
+        TOUCHES,
+    ),
+    (
+        Kind::Todo,
+        START,
+        Extent::Lasting(NOTHING),
+        (100, 100),
+        AT_A_MOMENT,
+    ),
+    (Kind::Todo, START, Extent::Due(END), (100, 200), SPANS),
+    (
+        Kind::Todo,
+        START,
+        Extent::Due(AT_ONCE),
+        (100, 100),
+        AT_A_MOMENT,
+    ),
+    (Kind::Todo, START, Extent::Point, (100, 100), BEGINS),
+    (Kind::Todo, None, Extent::Due(END), (200, 200), ENDS),
+    (Kind::Journal, START, Extent::Point, (100, 100), BEGINS),
+    (Kind::Journal, FLOATING, Extent::Point, (100, 100), BEGINS),
+    (Kind::Journal, DAY, Extent::WholeDay, (0, 86_400), WHOLE_DAY),
+    (Kind::Journal, None, Extent::Point, (100, 200), NEVER),
+    (Kind::FreeBusy, START, Extent::End(END), (100, 200), TOUCHES),
+    (Kind::FreeBusy, START, Extent::None, (100, 200), NEVER),
+    (Kind::FreeBusy, None, Extent::None, (0, 0), NEVER),
 ];
 
-const TO_DOS: [Case; 6] = [
-    (START, Extent::Lasting(LONG), (100, 200), TOUCHES),
-    (START, Extent::Lasting(NOTHING), (100, 100), AT_A_MOMENT),
-    (START, Extent::Due(END), (100, 200), SPANS),
-    (START, Extent::Due(AT_ONCE), (100, 100), AT_A_MOMENT),
-    (START, Extent::Point, (100, 100), BEGINS),
-    (None, Extent::Due(END), (200, 200), ENDS),
-];
+/// How a to-do without DTSTART and DUE ends.
+const NOT_DUE: &[Extent] = &[Extent::None, Extent::Lasting(LONG)];
 
-const JOURNALS: [Case; 4] = [
-    (START, Extent::Point, (100, 100), BEGINS),
-    (FLOATING, Extent::Point, (100, 100), BEGINS),
-    (DAY, Extent::WholeDay, (0, 86_400), WHOLE_DAY),
-    (None, Extent::Point, (100, 200), NEVER),
-];
+/// COMPLETED and CREATED of a to-do without DTSTART, how it ends, an instance of it, and ranges.
+type Dates = (
+    Option<Utc>,
+    Option<Utc>,
+    &'static [Extent],
+    (i64, i64),
+    &'static [Asked],
+);
 
-const FREE_BUSY: [Case; 3] = [
-    (START, Extent::End(END), (100, 200), TOUCHES),
-    (START, Extent::None, (100, 200), NEVER),
-    (None, Extent::None, (0, 0), NEVER),
-];
-
-/// COMPLETED and CREATED of a to-do without DTSTART and DUE, and ranges.
-const DATES: [(Option<Utc>, Option<Utc>, &[Asked]); 5] = [
+const DATES: [Dates; 6] = [
     (
         Some(Utc(200)),
         Some(Utc(100)),
+        NOT_DUE,
+        (0, 0),
         &[
             (50, 99, false),
             (50, 100, true),
@@ -142,6 +170,8 @@ const DATES: [(Option<Utc>, Option<Utc>, &[Asked]); 5] = [
     (
         Some(Utc(100)),
         Some(Utc(200)),
+        NOT_DUE,
+        (0, 0),
         &[
             (50, 99, false),
             (50, 100, true),
@@ -152,6 +182,8 @@ const DATES: [(Option<Utc>, Option<Utc>, &[Asked]); 5] = [
     (
         Some(Utc(200)),
         None,
+        NOT_DUE,
+        (0, 0),
         &[
             (50, 199, false),
             (50, 200, true),
@@ -162,12 +194,23 @@ const DATES: [(Option<Utc>, Option<Utc>, &[Asked]); 5] = [
     (
         None,
         Some(Utc(100)),
+        NOT_DUE,
+        (0, 0),
         &[(50, 100, false), (50, 101, true), (5000, 6000, true)],
     ),
     (
         None,
         None,
+        NOT_DUE,
+        (0, 0),
         &[(-2, -1, true), (0, 1, true), (1000, 2000, true)],
+    ),
+    (
+        Some(Utc(5000)),
+        Some(Utc(10)),
+        &[Extent::Due(END)],
+        (200, 200),
+        ENDS,
     ),
 ];
 
@@ -210,36 +253,27 @@ fn ask(rt: &impl Abort, component: &Component, at: (i64, i64), ranges: &[Asked])
     }
 }
 
-/// Asks it of components of a kind.
-fn ask_all(rt: &impl Abort, alloc: Global, kind: Kind, cases: &[Case]) {
-    for (start, extent, at, ranges) in cases {
-        ask(rt, &component(alloc, kind, *start, *extent), *at, ranges);
-    }
-}
-
 #[test]
 fn ranges_overlap_by_start_and_end(rt: HostRuntime) {
-    ask_all(&rt, rt.alloc(), Kind::Event, &EVENTS);
-    ask_all(&rt, rt.alloc(), Kind::Todo, &TO_DOS);
-    ask_all(&rt, rt.alloc(), Kind::Journal, &JOURNALS);
-    ask_all(&rt, rt.alloc(), Kind::FreeBusy, &FREE_BUSY);
+    for (kind, start, extent, at, ranges) in CASES {
+        let asked = component(rt.alloc(), kind, start, extent);
+        ask(&rt, &asked, at, ranges);
+        drop(asked);
+    }
 }
 
 /// They count only where there is neither DTSTART nor DUE; a DURATION alone says nothing.
 #[test]
 fn to_dos_count_by_completed_and_created(rt: HostRuntime) {
-    for (completed, created, ranges) in DATES {
-        for extent in [Extent::None, Extent::Lasting(LONG)] {
-            let mut to_do = component(rt.alloc(), Kind::Todo, None, extent);
+    for (completed, created, extents, at, ranges) in DATES {
+        for extent in extents {
+            let mut to_do = component(rt.alloc(), Kind::Todo, None, *extent);
             to_do.completed = completed;
             to_do.created = created;
-            ask(&rt, &to_do, (0, 0), ranges);
+            ask(&rt, &to_do, at, ranges);
+            drop(to_do);
         }
     }
-    let mut due = component(rt.alloc(), Kind::Todo, None, Extent::Due(END));
-    due.completed = Some(Utc(5000));
-    due.created = Some(Utc(10));
-    ask(&rt, &due, (200, 200), ENDS);
 }
 
 /// A VFREEBUSY with one period that starts at its 100th second.
@@ -263,6 +297,7 @@ fn stored_periods_overlap(rt: HostRuntime) -> Result<(), Fail> {
     ] {
         let free_busy = stored(rt.alloc(), class, end)?;
         ask(&rt, &free_busy, (0, 0), SPANS);
+        drop(free_busy);
     }
     Ok(())
 }

@@ -151,6 +151,18 @@ fn row_at(day: u16) -> Row
     }
 }
 
+/// That Monday at nine and at noon in UTC, and that Saturday at noon in New York.
+const MONDAY_AT_NINE: i64 = 1_741_597_200;
+
+const MONDAY_AT_NOON: i64 = 1_741_608_000;
+
+const SATURDAY_AT_NOON: i64 = 1_173_546_000;
+
+/// A day and a week.
+const A_DAY: i64 = 86_400;
+
+const A_WEEK: i64 = 604_800;
+
 /// A row that is wanted: its id, start, end and component.
 type Wanted = (i64, i64, i64, u32);
 
@@ -189,101 +201,126 @@ fn merges(
         return Ok(false);
     }
     match object_of(alloc, components) {
-        Ok(object) => merges_in(alloc, days, &object, wanted),
+        Ok(object) => {
+            let merged = merges_in(alloc, days, &object, wanted);
+            drop(object);
+            merged
+        }
         Err(NoMemory) => Err(NoMemory),
     }
 }
 
-/// A moved override stands at its new time with its old id, one that names no instance is added, and
-/// one without a start takes its instance away.
-#[test]
-fn overrides_stand_in_place_of_what_they_name(rt: HostRuntime) -> Result<(), Fail> {
-    let overrides = [
-        Override {
-            id: When::Utc(MONDAY, NINE),
-            start: Some(When::Utc(MONDAY + 30, NOON)),
-            days: 0,
-        },
-        Override {
-            id: When::Utc(MONDAY + 1, NINE),
-            start: Some(When::Utc(MONDAY + 1, NINE)),
-            days: 0,
-        },
-        Override {
-            id: When::Utc(MONDAY + 14, NINE),
-            start: None,
-            days: 0,
-        },
-    ];
-    let (moved, added) = (seconds(MONDAY + 30, NOON), seconds(MONDAY + 1, NINE));
-    let (first, third) = (seconds(MONDAY - 7, NINE), seconds(MONDAY + 7, NINE));
-    let so = merges(
-        rt.alloc(),
-        &[MONDAY - 7, MONDAY, MONDAY + 7, MONDAY + 14],
-        &overrides,
-        &[
-            (first, first, first, 9),
-            (seconds(MONDAY, NINE), moved, moved, 0),
-            (added, added, added, 1),
-            (third, third, third, 9),
-        ],
-    )?;
-    assert!(rt; so);
-    Ok(())
-}
+/// What a case shows, the days of a master, overrides, and the rows that are wanted.
+type Case = (
+    &'static str,
+    &'static [u16],
+    &'static [Override],
+    &'static [Wanted],
+);
 
-/// An override by a local day takes the place of each instance on that day, with the id of the first;
-/// where there is none, its id is the day's midnight by the clock of the ids.
-#[test]
-fn days_name_their_instances(rt: HostRuntime) -> Result<(), Fail> {
-    let by_day = Override {
-        id: When::Day(MONDAY),
-        start: Some(When::Utc(MONDAY, NOON)),
-        days: 0,
-    };
-    let (id, start) = (seconds(MONDAY, NINE), seconds(MONDAY, NOON));
-    let other = seconds(MONDAY + 7, NINE);
-    let beside = Override {
+/// Two overrides by the day: one takes the instance of the next Monday away, and one is by a local day.
+const BY_DAY: &[Override] = &[
+    Override {
         id: When::Utc(MONDAY + 7, NINE),
         start: None,
         days: 0,
-    };
-    let so = merges(
-        rt.alloc(),
-        &[MONDAY, MONDAY + 7],
-        &[beside, by_day],
-        &[(id, start, start, 1)],
-    )?;
-    assert!(rt; so);
-    let midnight = seconds(MONDAY, 0);
-    let so = merges(
-        rt.alloc(),
-        &[MONDAY + 14],
-        &[beside, by_day],
-        &[
-            (midnight, start, start, 1),
-            (other + 604_800, other + 604_800, other + 604_800, 9),
-        ],
-    )?;
-    assert!(rt; so);
-    Ok(())
-}
+    },
+    Override {
+        id: When::Day(MONDAY),
+        start: Some(When::Utc(MONDAY, NOON)),
+        days: 0,
+    },
+];
 
-/// A day that an event lasts is one of the clock: from noon to noon, 23 hours where it goes forward.
-#[test]
-fn days_are_added_by_the_clock(rt: HostRuntime) -> Result<(), Fail> {
-    let over = Override {
-        id: When::Local(SATURDAY, NOON),
-        start: Some(When::Local(SATURDAY, NOON)),
-        days: 1,
-    };
-    let start = seconds(SATURDAY, NOON) + 18_000;
-    let so = merges(
-        rt.alloc(),
+const CASES: [Case; 4] = [
+    (
+        "a moved override stands at its new time with its old id, one that names no instance is added, and one without a start takes its instance away",
+        &[MONDAY - 7, MONDAY, MONDAY + 7, MONDAY + 14],
+        &[
+            Override {
+                id: When::Utc(MONDAY, NINE),
+                start: Some(When::Utc(MONDAY + 30, NOON)),
+                days: 0,
+            },
+            Override {
+                id: When::Utc(MONDAY + 1, NINE),
+                start: Some(When::Utc(MONDAY + 1, NINE)),
+                days: 0,
+            },
+            Override {
+                id: When::Utc(MONDAY + 14, NINE),
+                start: None,
+                days: 0,
+            },
+        ],
+        &[
+            (
+                MONDAY_AT_NINE - A_WEEK,
+                MONDAY_AT_NINE - A_WEEK,
+                MONDAY_AT_NINE - A_WEEK,
+                9,
+            ),
+            (
+                MONDAY_AT_NINE,
+                MONDAY_AT_NOON + 30 * A_DAY,
+                MONDAY_AT_NOON + 30 * A_DAY,
+                0,
+            ),
+            (
+                MONDAY_AT_NINE + A_DAY,
+                MONDAY_AT_NINE + A_DAY,
+                MONDAY_AT_NINE + A_DAY,
+                1,
+            ),
+            (
+                MONDAY_AT_NINE + A_WEEK,
+                MONDAY_AT_NINE + A_WEEK,
+                MONDAY_AT_NINE + A_WEEK,
+                9,
+            ),
+        ],
+    ),
+    (
+        "an override by a local day takes the place of each instance on that day, with the id of the first",
+        &[MONDAY, MONDAY + 7],
+        BY_DAY,
+        &[(MONDAY_AT_NINE, MONDAY_AT_NOON, MONDAY_AT_NOON, 1)],
+    ),
+    (
+        "where there is none, its id is the day's midnight by the clock of the ids",
+        &[MONDAY + 14],
+        BY_DAY,
+        &[
+            (MONDAY_AT_NOON - 43_200, MONDAY_AT_NOON, MONDAY_AT_NOON, 1),
+            (
+                MONDAY_AT_NINE + 2 * A_WEEK,
+                MONDAY_AT_NINE + 2 * A_WEEK,
+                MONDAY_AT_NINE + 2 * A_WEEK,
+                9,
+            ),
+        ],
+    ),
+    (
+        "a day that an event lasts is one of the clock: from noon to noon, 23 hours where it goes forward",
         &[],
-        &[over],
-        &[(start, start, start + 82_800, 0)],
-    )?;
-    assert!(rt; so);
+        &[Override {
+            id: When::Local(SATURDAY, NOON),
+            start: Some(When::Local(SATURDAY, NOON)),
+            days: 1,
+        }],
+        &[(
+            SATURDAY_AT_NOON,
+            SATURDAY_AT_NOON,
+            SATURDAY_AT_NOON + 82_800,
+            0,
+        )],
+    ),
+];
+
+#[test]
+fn overrides_stand_among_the_rows(rt: HostRuntime) -> Result<(), Fail> {
+    for (shown, days, overrides, wanted) in CASES {
+        assert!(rt; merges(rt.alloc(), days, overrides, wanted)?, "{shown}");
+    }
     Ok(())
 }

@@ -20,7 +20,6 @@ pub struct Parts {
     pub days: &'static [(i16, u8)],
     pub hours: &'static [u8],
     pub minutes: &'static [u8],
-    pub set_places: &'static [i16],
 }
 
 /// No part at all.
@@ -32,7 +31,6 @@ pub const NONE: Parts = Parts {
     days: &[],
     hours: &[],
     minutes: &[],
-    set_places: &[],
 };
 
 /// The numbers of a part from one to another. Without memory there are fewer.
@@ -111,7 +109,7 @@ pub fn rule_of(alloc: Global, freq: Freq, interval: u32, week_start: u8, parts: 
         by_hour: below(alloc, parts.hours, 24),
         by_minute: below(alloc, parts.minutes, 60),
         by_second: List::new(alloc),
-        by_set_pos: places(alloc, parts.set_places, 366),
+        by_set_pos: List::new(alloc),
     }
 }
 

@@ -1,125 +1,15 @@
 //! The tables of zones that calendars have.
-ghost use Rattle.std.specs.Prelude.{◌≡◌, ◌<◌, All, IfSome, false, true};
-ghost use Rattle.cal_model.specs.Recurrence.NextPassing.{is_fine};
-ghost use Rattle.cal_model.specs.Recurrence.RuleBounds.{IsWritten, IsWrittenUntil, IsUsable};
+ghost use Rattle.std.specs.Prelude.{◌≡◌, All, IfSome, true};
 ghost use Rattle.cal_model.specs.TimeZones.TableBounds.{IsPart, IsOffset};
 
-use crate::rule_cases::{NONE, Parts, moment, rule_of};
-use crate::rule_walks::is_coarse;
+use crate::rule_cases::moment;
 use cal_base::List;
-use cal_model::{Freq, Rule, Until, ZonePart, ZoneTable};
-use cal_moment::{Local, Utc};
+use cal_model::{ZonePart, ZoneTable};
 use rrule_step::PeriodStep;
 use std::alloc::Global;
 use std::process::Abort;
 use std::rt::HostRuntime;
 use vtimezone::make_table;
-
-/// A date and a second of it.
-type At = ((i32, u8, u8), u32);
-
-/// A STANDARD or DAYLIGHT part, perhaps with a rule: its frequency, where weeks begin, its parts,
-/// and UNTIL as an instant.
-#[derive(Clone, Copy)]
-struct Part {
-    start: At,
-    from: i32,
-    to: i32,
-    dates: &'static [At],
-    freq: Option<Freq>,
-    week_start: u8,
-    months: &'static [u8],
-    days: &'static [(i16, u8)],
-    set_places: &'static [i16],
-    until: Option<i64>,
-}
-
-/// A part without a rule.
-const ALONE: Part = Part {
-    start: ((1970, 1, 1), 0),
-    from: 0,
-    to: 0,
-    dates: &[],
-    freq: None,
-    week_start: 0,
-    months: &[],
-    days: &[],
-    set_places: &[],
-    until: None,
-};
-
-/// An UNTIL in UTC, where the calendar has it.
-fn until_of(until: Option<i64>) -> Option<Until>
-    ensures { IsWrittenUntil result }
-{
-    match until {
-        Some(at) => {
-            if -62_135_596_800 <= at && at <= 253_402_300_799 {
-                Some(Until::Utc(Utc(at)))
-            } else {
-                None
-            }
-        }
-        None => None,
-    }
-}
-
-/// The rule of a part.
-fn rule_in(alloc: Global, part: &Part, freq: Freq) -> Rule
-    requires week_start { part.now.week_start < 7 }
-    requires coarse { is_fine freq ≡ false }
-    ensures usable { IsUsable result }
-    ensures coarse { is_fine result.freq ≡ false }
-{
-    let parts = Parts {
-        months: part.months,
-        days: part.days,
-        set_places: part.set_places,
-        ..NONE
-    };
-    let mut rule = rule_of(alloc, freq, 1, part.week_start, parts);
-    rule.until = until_of(part.until);
-    rule
-}
-
-/// The rules of a part, of which there is one at most.
-fn rules_of(alloc: Global, part: &Part) -> List<Rule>
-    ensures usable { All IsUsable result }
-    ensures coarse { All (λ (rule : Rule). is_fine rule.freq ≡ false) result }
-{
-    let mut rules = List::new(alloc);
-    if let Some(freq) = part.freq {
-        if part.week_start < 7 && is_coarse(freq) {
-            let _ = rules.push(rule_in(alloc, part, freq));
-        }
-    }
-    rules
-}
-
-/// A moment, where the calendar has it.
-fn local_of(at: At) -> Option<Local>
-    ensures { IfSome result (λ m. IsWritten m) }
-{
-    let (date, second) = at;
-    if second < 86_400 {
-        moment(date, second)
-    } else {
-        None
-    }
-}
-
-/// The dates of a part.
-fn dates_of(alloc: Global, dates: &[At]) -> List<Local>
-    ensures { All IsWritten result }
-{
-    let mut list = List::new(alloc);
-    for date in dates {
-        if let Some(m) = local_of(*date) {
-            let _ = list.push(m);
-        }
-    }
-    list
-}
 
 /// Whether an offset is less than a day.
 fn is_offset(offset: i32) -> bool
@@ -128,20 +18,20 @@ fn is_offset(offset: i32) -> bool
     -86_400 < offset && offset < 86_400
 }
 
-/// A part as a table takes it.
-fn part_of(alloc: Global, part: &Part) -> Option<ZonePart>
+/// A part at the start of 1970 whose offset is the one before it.
+fn part_of(alloc: Global, offset: i32) -> Option<ZonePart>
     ensures { IfSome result IsPart }
 {
-    let start = local_of(part.start)?;
-    if !is_offset(part.from) || !is_offset(part.to) {
+    let start = moment((1970, 1, 1), 0)?;
+    if !is_offset(offset) {
         return None;
     }
     Some(ZonePart {
         start,
-        from: part.from,
-        to: part.to,
-        rules: rules_of(alloc, part),
-        dates: dates_of(alloc, part.dates),
+        from: offset,
+        to: offset,
+        rules: List::new(alloc),
+        dates: List::new(alloc),
     })
 }
 
@@ -154,28 +44,24 @@ fn put(list: &mut List<ZonePart>, part: ZonePart)
     let _ = list.push(part);
 }
 
-/// The parts of a zone. Without memory there are fewer.
-fn parts_of(alloc: Global, parts: &[Part]) -> List<ZonePart>
+/// That part alone. Without memory there is none.
+fn parts_of(alloc: Global, offset: i32) -> List<ZonePart>
     ensures { All IsPart result }
 {
     let mut list = List::new(alloc);
-    for part in parts {
-        if let Some(part) = part_of(alloc, part) {
-            put(&mut list, part);
-        }
+    if let Some(part) = part_of(alloc, offset) {
+        put(&mut list, part);
     }
     list
 }
 
-/// A table has this offset before, these first onsets, and so many in all.
-fn shows(rt: &impl Abort, table: &ZoneTable, before: i32, onsets: &[(i64, i32)], number: usize) {
-    assert_eq!(rt; table.before, before);
-    assert_eq!(rt; table.onsets.len(), number);
-    for (k, (at, offset)) in onsets.iter().enumerate() {
-        match table.onsets.as_slice().get(k) {
-            Some(onset) => assert!(rt; onset.at.0 == *at && onset.offset == *offset),
-            None => assert!(rt; false),
+/// Whether a table has an offset before its only onset, and from it on.
+fn shows(table: &ZoneTable, offset: i32) -> bool {
+    match table.onsets.as_slice() {
+        [onset] => {
+            table.before == offset && onset.offset == offset && onset.at.0 == -(offset as i64)
         }
+        _ => false,
     }
 }
 
@@ -187,23 +73,16 @@ const FIXED: [i32; 16] = [
 
 /// A zone of one part at the start of 1970, whose offset does not change.
 fn never_changes(rt: &impl Abort, alloc: Global, offset: i32) {
-    let part = Part {
-        from: offset,
-        to: offset,
-        ..ALONE
-    };
-    let parts = parts_of(alloc, &[part]);
-    if parts.is_empty() {
-        assert!(rt; false);
-        return;
-    }
+    let parts = parts_of(alloc, offset);
+    assert!(rt; !parts.is_empty(), "{offset}");
     match make_table(alloc, b"Zone", &parts, 1, &PeriodStep) {
         Ok((table, count)) => {
-            assert_eq!(rt; count, 1);
-            shows(rt, &table, offset, &[(-(offset as i64), offset)], 1);
+            assert!(rt; count == 1 && shows(&table, offset), "{offset}");
+            drop(table);
         }
-        Err(_) => assert!(rt; false),
+        Err(_) => assert!(rt; false, "{offset}"),
     }
+    drop(parts);
 }
 
 #[test]

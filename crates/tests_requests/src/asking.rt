@@ -17,8 +17,37 @@ const ALICE: &[u8] = b"Basic YWxpY2U6YWJj";
 /// The most octets of a body.
 const MOST_OCTETS: usize = 1_048_576;
 
-/// A request of alice, with no other field and no body.
-pub fn plain(alloc: Global, method: &[u8], target: &[u8]) -> Result<WireRequest, NoMemory> {
+/// What is told of a request: a word and a number.
+pub type Told = (&'static [u8], usize);
+
+/// What a request has beside its line and its credentials.
+pub enum Field {
+    None,
+    Authorization,
+    Media,
+    Coding,
+    Depth,
+    IfMatch,
+    IfNoneMatch,
+    /// A body, and the depth 0.
+    Body,
+}
+
+/// The method and the target of a request of alice, a field and its value, and what is told of it.
+pub type Row = (&'static [u8], &'static [u8], Field, &'static [u8], Told);
+
+/// A request of alice without a body, with the depth 0 or with no other field.
+fn plain(
+    alloc: Global,
+    method: &[u8],
+    target: &[u8],
+    has_depth: bool,
+) -> Result<WireRequest, NoMemory> {
+    let depth = if has_depth {
+        Some(Octets::of(alloc, b"0")?)
+    } else {
+        None
+    };
     let method = Octets::of(alloc, method)?;
     let target = Octets::of(alloc, target)?;
     let authorization = Octets::of(alloc, ALICE)?;
@@ -29,11 +58,25 @@ pub fn plain(alloc: Global, method: &[u8], target: &[u8]) -> Result<WireRequest,
         authorization: Some(authorization),
         media: None,
         coding: None,
-        depth: None,
+        depth,
         if_match: None,
         if_none: None,
         body: Octets::new(alloc),
     })
+}
+
+/// Gives a request a field or a body of this value.
+fn set(wire: &mut WireRequest, field: &Field, value: Octets) {
+    match field {
+        Field::None => {}
+        Field::Authorization => wire.authorization = Some(value),
+        Field::Media => wire.media = Some(value),
+        Field::Coding => wire.coding = Some(value),
+        Field::Depth => wire.depth = Some(value),
+        Field::IfMatch => wire.if_match = Some(value),
+        Field::IfNoneMatch => wire.if_none = Some(value),
+        Field::Body => wire.body = value,
+    }
 }
 
 /// What a request of some length asks for.
@@ -45,14 +88,24 @@ fn ask(alloc: Global, wire: &WireRequest, users: &Users) -> Asked {
     }
 }
 
-/// What is told of a request: a word and a number.
-pub type Told = (&'static [u8], usize);
+/// Whether this is told of what is asked for.
+fn is_that(asked: &Asked, wanted: Told) -> bool {
+    let found = told(asked);
+    found.0 == wanted.0 && found.1 == wanted.1
+}
 
 /// Whether this is told of a request.
-pub fn is_told(alloc: Global, users: &Users, wire: &WireRequest, wanted: Told) -> bool {
+fn is_told_of(alloc: Global, users: &Users, wire: &WireRequest, wanted: Told) -> bool {
     let asked = ask(alloc, wire, users);
-    let found = told(&asked);
-    found.0 == wanted.0 && found.1 == wanted.1
+    is_that(&asked, wanted)
+}
+
+/// Whether that of a row is told of its request.
+pub fn is_told(alloc: Global, users: &Users, row: &Row) -> Result<bool, NoMemory> {
+    let value = Octets::of(alloc, row.3)?;
+    let mut wire = plain(alloc, row.0, row.1, matches!(row.2, Field::Body))?;
+    set(&mut wire, &row.2, value);
+    Ok(is_told_of(alloc, users, &wire, row.4))
 }
 
 /// What is asked for, in a word, and a number beside it: a status, how many, or 1 for yes. (`odd` is

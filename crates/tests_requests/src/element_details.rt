@@ -1,43 +1,68 @@
 //! What is read from bodies, to the last value. The moments are by the program date.
 
-use crate::element_words::{body_of, content_of};
+use crate::element_bodies::Row;
 use cal_base::Octets;
 use cal_model::{
-    Collation, CompFilter, CompPick, Content, Grant, Method, ParamFilter, ParamTest, PrivilegeSet,
+    Collation, CompFilter, CompPick, Content, Grant, ParamFilter, ParamTest, PrivilegeSet,
     PropFilter, PropSet, PropTest, Range, Recur, ReportRequest, TextMatch, Who,
 };
 use cal_moment::Utc;
-use std::test::Fail;
+
+/// A filter like those of RFC 4791, 7.8.5 to 7.8.7.
+pub const ONE_FILTER: &[Row] = &[(
+    b"<C:calendar-query><D:allprop/><C:filter><C:comp-filter name=\"vCalendar\"><C:comp-filter name=\"VEVENT\"><C:time-range start=\"20060104T000000Z\" end=\"20060105T000000Z\"/><C:prop-filter name=\"attendee\"><C:text-match collation=\"i;octet\" negate-condition=\"yes\">mailto:lisa@example.com</C:text-match><C:param-filter name=\"PartStat\"><C:text-match>NEEDS<x/>-ACTION</C:text-match></C:param-filter></C:prop-filter></C:comp-filter></C:comp-filter></C:filter><C:timezone>zone</C:timezone></C:calendar-query>",
+    b"query all",
+)];
+
+/// Calendar-data like that of RFC 4791, 7.8.1 and 7.8.3.
+pub const CALENDAR_DATA: &[Row] = &[(
+    b"<C:calendar-multiget><D:prop><C:calendar-data><C:comp name=\"VCALENDAR\"><C:prop name=\"version\"/><C:comp name=\"VEVENT\"><C:allprop/></C:comp></C:comp><C:expand start=\"20060104T000000Z\" end=\"20060105T000000Z\"/></C:calendar-data></D:prop><D:href>/a%20b</D:href></C:calendar-multiget>",
+    b"multiget 1 expanded of 1",
+)];
+
+/// Values that are set: text with references, a component set, and content that is not text alone.
+pub const VALUES: &[Row] = &[(
+    b"<D:propertyupdate><D:set><D:prop><D:displayname>a &amp; b</D:displayname><C:supported-calendar-component-set><C:comp name=\"vevent\"/><C:comp name=\"VTODO\"/></C:supported-calendar-component-set><D:x>a<D:y/></D:x></D:prop></D:set><D:remove><D:prop><D:z>a</D:z></D:prop></D:remove></D:propertyupdate>",
+    b"4 set",
+)];
+
+/// Grants to bob, whose number is 1, to the group team, whose number is 1 too, and to all.
+pub const THREE_GRANTS: &[Row] = &[(
+    b"<D:acl><D:ace><D:principal><D:href>/principals/bob/</D:href></D:principal><D:grant><D:privilege><D:read/></D:privilege><D:privilege><D:bind/></D:privilege></D:grant></D:ace><D:ace><D:principal><D:href>/principals/team</D:href></D:principal><D:grant><D:privilege><D:read/></D:privilege></D:grant></D:ace><D:ace><D:principal><D:all/></D:principal><D:grant><D:privilege><C:read-free-busy/></D:privilege></D:grant></D:ace></D:acl>",
+    b"3 granted",
+)];
+
+/// Whether that is asked for by these bodies, by each of what kind it is.
+pub fn is_that_content(content: &Content) -> bool {
+    match content {
+        Content::Report(report) => is_that_report(report),
+        Content::Patch(settings) => are_those_values(settings.as_slice()),
+        Content::Acl(grants) => are_those_grants(grants.as_slice()),
+        _ => false,
+    }
+}
+
+fn is_that_report(report: &ReportRequest) -> bool {
+    match report {
+        ReportRequest::Query {
+            filter,
+            zone: Some(zone),
+            ..
+        } => is_that_filter(&filter.top) && zone.as_slice() == b"zone".as_slice(),
+        ReportRequest::Multiget { select, hrefs, .. } => {
+            select.recur == Recur::Expand(ONE_DAY)
+                && are_those_picks(&select.comp)
+                && are_those_hrefs(hrefs.as_slice())
+        }
+        _ => false,
+    }
+}
 
 /// 20060104T000000Z to 20060105T000000Z.
 const ONE_DAY: Range = Range {
     start: Utc(1_136_332_800),
     end: Utc(1_136_419_200),
 };
-
-/// A filter like those of RFC 4791, 7.8.5 to 7.8.7.
-#[test]
-fn a_filter(rt: HostRuntime) -> Result<(), Fail> {
-    let body = body_of(
-        rt.alloc(),
-        b"C:calendar-query><D:allprop/><C:filter><C:comp-filter name=\"vCalendar\"><C:comp-filter name=\"VEVENT\"><C:time-range start=\"20060104T000000Z\" end=\"20060105T000000Z\"/><C:prop-filter name=\"attendee\"><C:text-match collation=\"i;octet\" negate-condition=\"yes\">mailto:lisa@example.com</C:text-match><C:param-filter name=\"PartStat\"><C:text-match>NEEDS<x/>-ACTION</C:text-match></C:param-filter></C:prop-filter></C:comp-filter></C:comp-filter></C:filter><C:timezone>zone</C:timezone></C:calendar-query",
-    )?;
-    let content = content_of(rt.alloc(), Method::Report, body.as_slice())?;
-    let same = match &content {
-        Some(
-            Content::Report(
-                ReportRequest::Query {
-                    filter,
-                    zone: Some(zone),
-                    ..
-                },
-            ),
-        ) => is_that_filter(&filter.top) && zone.as_slice() == b"zone".as_slice(),
-        _ => false,
-    };
-    assert!(rt; same);
-    Ok(())
-}
 
 fn is_that_filter(top: &CompFilter) -> bool {
     match top.comps.as_slice() {
@@ -78,26 +103,6 @@ fn is_text(text: &TextMatch, wanted: &[u8], collation: Collation, negate: bool) 
     text.text.as_slice() == wanted && text.collation == collation && text.negate == negate
 }
 
-/// Calendar-data like that of RFC 4791, 7.8.1 and 7.8.3.
-#[test]
-fn calendar_data(rt: HostRuntime) -> Result<(), Fail> {
-    let body = body_of(
-        rt.alloc(),
-        b"C:calendar-multiget><D:prop><C:calendar-data><C:comp name=\"VCALENDAR\"><C:prop name=\"version\"/><C:comp name=\"VEVENT\"><C:allprop/></C:comp></C:comp><C:expand start=\"20060104T000000Z\" end=\"20060105T000000Z\"/></C:calendar-data></D:prop><D:href>/a%20b</D:href></C:calendar-multiget",
-    )?;
-    let content = content_of(rt.alloc(), Method::Report, body.as_slice())?;
-    let same = match &content {
-        Some(Content::Report(ReportRequest::Multiget { select, hrefs, .. })) => {
-            select.recur == Recur::Expand(ONE_DAY)
-                && are_those_picks(&select.comp)
-                && are_those_hrefs(hrefs.as_slice())
-        }
-        _ => false,
-    };
-    assert!(rt; same);
-    Ok(())
-}
-
 fn are_those_picks(comp: &Option<CompPick>) -> bool {
     match comp {
         Some(calendar) => match (calendar.props.as_slice(), calendar.comps.as_slice()) {
@@ -120,22 +125,6 @@ fn are_those_hrefs(hrefs: &[Octets]) -> bool {
     }
 }
 
-/// Values that are set: text with references, a component set, and content that is not text alone.
-#[test]
-fn values(rt: HostRuntime) -> Result<(), Fail> {
-    let body = body_of(
-        rt.alloc(),
-        b"D:propertyupdate><D:set><D:prop><D:displayname>a &amp; b</D:displayname><C:supported-calendar-component-set><C:comp name=\"vevent\"/><C:comp name=\"VTODO\"/></C:supported-calendar-component-set><D:x>a<D:y/></D:x></D:prop></D:set><D:remove><D:prop><D:z>a</D:z></D:prop></D:remove></D:propertyupdate",
-    )?;
-    let content = content_of(rt.alloc(), Method::Proppatch, body.as_slice())?;
-    let same = match &content {
-        Some(Content::Patch(settings)) => are_those_values(settings.as_slice()),
-        _ => false,
-    };
-    assert!(rt; same);
-    Ok(())
-}
-
 fn are_those_values(settings: &[PropSet]) -> bool {
     match settings {
         [name, set, markup, removed] => {
@@ -153,22 +142,6 @@ fn is_value(setting: &PropSet, wanted: &[u8]) -> bool {
         Some(value) => value.as_slice() == wanted,
         None => false,
     }
-}
-
-/// Grants to bob, whose number is 1, to the group team, whose number is 1 too, and to all.
-#[test]
-fn three_grants(rt: HostRuntime) -> Result<(), Fail> {
-    let body = body_of(
-        rt.alloc(),
-        b"D:acl><D:ace><D:principal><D:href>/principals/bob/</D:href></D:principal><D:grant><D:privilege><D:read/></D:privilege><D:privilege><D:bind/></D:privilege></D:grant></D:ace><D:ace><D:principal><D:href>/principals/team</D:href></D:principal><D:grant><D:privilege><D:read/></D:privilege></D:grant></D:ace><D:ace><D:principal><D:all/></D:principal><D:grant><D:privilege><C:read-free-busy/></D:privilege></D:grant></D:ace></D:acl",
-    )?;
-    let content = content_of(rt.alloc(), Method::Acl, body.as_slice())?;
-    let same = match &content {
-        Some(Content::Acl(grants)) => are_those_grants(grants.as_slice()),
-        _ => false,
-    };
-    assert!(rt; same);
-    Ok(())
 }
 
 fn are_those_grants(grants: &[Grant]) -> bool {

@@ -26,4 +26,6 @@ mod paths;
 #[cfg(test)]
 mod streams_read;
 #[cfg(test)]
+mod wanted;
+#[cfg(test)]
 mod written_bodies;

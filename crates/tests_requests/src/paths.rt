@@ -1,12 +1,12 @@
 //! Paths in the spellings of RFC 3986 and of clients, and as they are written.
 
 use cal_base::{NoMemory, Octets};
+use cal_model::Path;
 use dav_write::{append_path, read_path, write_path};
 use std::alloc::Global;
-use std::test::Fail;
 
 /// Targets and the written form of the path that each names.
-const NAMED: [(&[u8], &[u8]); 24] = [
+const NAMED: &[(&[u8], &[u8])] = &[
     (b"/", b"/"),
     (b"", b"/"),
     (b"?x", b"/"),
@@ -45,7 +45,7 @@ const NAMED: [(&[u8], &[u8]); 24] = [
 ];
 
 /// Targets that name no path.
-const UNNAMED: [&[u8]; 18] = [
+const UNNAMED: &[&[u8]] = &[
     b"*",
     b"//",
     b"calendars/u/",
@@ -66,49 +66,32 @@ const UNNAMED: [&[u8]; 18] = [
     b"/calendars/u/c/a%0Ab",
 ];
 
-/// Whether a target names the path that is written so.
-fn is_named(alloc: Global, target: &[u8], octets: &[u8]) -> Result<bool, NoMemory> {
-    let Some(path) = read_path(alloc, target)? else {
-        return Ok(false);
-    };
-    let written = write_path(alloc, &path)?;
-    Ok(written.as_slice() == octets)
+/// Whether a path is written so, by itself and behind an `a`.
+fn is_written_so(alloc: Global, path: &Path, octets: &[u8]) -> Result<bool, NoMemory> {
+    let written = write_path(alloc, path)?;
+    let mut out = Octets::of(alloc, b"a")?;
+    append_path(path, &mut out)?;
+    let appended = out.as_slice().strip_prefix(b"a".as_slice());
+    Ok(written.as_slice() == octets && appended == Some(octets))
 }
 
-/// The first of some targets that doesn't name the path beside it.
-fn first_misread<'a>(
-    alloc: Global,
-    rows: &[(&'a [u8], &'a [u8])],
-) -> Result<Option<&'a [u8]>, NoMemory> {
-    for (target, octets) in rows {
-        if !is_named(alloc, target, octets)? {
-            return Ok(Some(target));
-        }
+/// Whether a target names the path that is written so, or none where that is empty.
+fn is_named(alloc: Global, target: &[u8], octets: &[u8]) -> bool {
+    match read_path(alloc, target) {
+        Ok(Some(path)) => is_written_so(alloc, &path, octets) == Ok(true),
+        Ok(None) => octets.is_empty(),
+        Err(NoMemory) => false,
     }
-    Ok(None)
-}
-
-/// How many of some targets name a path.
-fn named(alloc: Global, targets: &[&[u8]]) -> Result<u64, NoMemory> {
-    let mut count = 0u64;
-    for target in targets {
-        if read_path(alloc, target)?.is_some() {
-            count = count.saturating_add(1);
-        }
-    }
-    Ok(count)
 }
 
 #[test]
-fn targets_name_paths(rt: HostRuntime) -> Result<(), Fail> {
-    assert!(rt; first_misread(rt.alloc(), &NAMED)?.is_none());
-    Ok(())
-}
-
-#[test]
-fn other_targets_name_none(rt: HostRuntime) -> Result<(), Fail> {
-    assert!(rt; named(rt.alloc(), &UNNAMED)? == 0);
-    Ok(())
+fn targets_name_paths_or_none(rt: HostRuntime) {
+    for (target, octets) in NAMED {
+        assert!(rt; is_named(rt.alloc(), target, octets), "a path is named");
+    }
+    for target in UNNAMED {
+        assert!(rt; is_named(rt.alloc(), target, b""), "no path is named");
+    }
 }
 
 /// The path of an object whose name has so many octets.
@@ -120,21 +103,19 @@ fn target(alloc: Global, octets: u8) -> Result<Octets, NoMemory> {
     Ok(target)
 }
 
-/// Whether a target names a path, which is written as it stands behind an `a`.
-fn is_appended(alloc: Global, target: &[u8]) -> Result<bool, NoMemory> {
-    let Some(path) = read_path(alloc, target)? else {
-        return Ok(false);
-    };
-    let mut out = Octets::of(alloc, b"a")?;
-    append_path(&path, &mut out)?;
-    Ok(out.as_slice().strip_prefix(b"a".as_slice()) == Some(target))
+/// Whether the target of a name of so many octets names its path, or none.
+fn is_named_or_none(alloc: Global, octets: u8, is_path: bool) -> bool {
+    match target(alloc, octets) {
+        Ok(target) => {
+            let target = target.as_slice();
+            is_named(alloc, target, if is_path { target } else { b"" })
+        }
+        Err(NoMemory) => false,
+    }
 }
 
 #[test]
-fn names_have_up_to_200_octets(rt: HostRuntime) -> Result<(), Fail> {
-    let longest = target(rt.alloc(), 200)?;
-    assert!(rt; is_appended(rt.alloc(), longest.as_slice())?);
-    let longer = target(rt.alloc(), 201)?;
-    assert!(rt; !is_appended(rt.alloc(), longer.as_slice())?);
-    Ok(())
+fn names_have_up_to_200_octets(rt: HostRuntime) {
+    assert!(rt; is_named_or_none(rt.alloc(), 200, true));
+    assert!(rt; is_named_or_none(rt.alloc(), 201, false));
 }

@@ -1,4 +1,4 @@
-use Rattle.cases_server.proofs.books.print_walk.Given as goal
+use Rattle.cases_server.proofs.books.print_steps.Given as goal
 
 -- the ledger is that of the blank
 abbrev pub ghosts-take_steps : goal.ghosts-take_steps

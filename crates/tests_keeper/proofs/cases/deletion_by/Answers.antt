@@ -6,7 +6,7 @@ use Rattle.cal_model.specs.State.Changes.{delete_calendar}
 use Rattle.cal_model.specs.Users.UsersFile.{Users}
 use Rattle.cal_keeper.specs.Files.Payloads.{IsName, HasForm}
 use Rattle.cal_keeper.specs.Principals.{counts_of}
-use Rattle.tests_keeper.proofs.drafts.deletion_by.Goals as goal
+use Rattle.tests_keeper.proofs.cases.deletion_by.Goals as goal
 
 abbrev deletion_of : ℕ → List ℕ → Entry
 deletion_of who name = record { session = 7; who = who; moment = pos 1_741_500_000; change = delete_calendar 0 name; status = 204 }

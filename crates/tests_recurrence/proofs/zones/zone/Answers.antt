@@ -1,7 +1,7 @@
 use Rattle.std.proofs.Common.{◌≡◌, ◌∙◌, sym, subst, rules, w32, to_z, of_z}
 use Rattle.cal_model.specs.TimeZones.TableBounds.{IsOffset}
 use Rattle.tests_recurrence.proofs.ZoneTables.{IsTable-two}
-use Rattle.tests_recurrence.proofs.zoned_rows.zone.Goals as goal
+use Rattle.tests_recurrence.proofs.zones.zone.Goals as goal
 
 pub returns : goal.returns
 returns c =
