@@ -8,6 +8,7 @@ use crate::rule_walks::is_coarse;
 use cal_base::List;
 use cal_model::{Freq, Rule, Until, ZonePart, ZoneTable};
 use cal_moment::{Local, Utc};
+use rrule_filter::DayFilter;
 use rrule_step::PeriodStep;
 use std::alloc::Global;
 use std::process::Abort;
@@ -209,5 +210,140 @@ fn never_changes(rt: &impl Abort, alloc: Global, offset: i32) {
 fn zones_that_never_change(rt: HostRuntime) {
     for offset in FIXED.iter() {
         never_changes(&rt, rt.alloc(), *offset);
+    }
+}
+
+/// Each weekday.
+const EACH: &[(i16, u8)] = &[(0, 0), (0, 1), (0, 2), (0, 3), (0, 4), (0, 5), (0, 6)];
+
+/// A part from 2061 on, where the years up to 2100 have nine leap years.
+const LATE: Part = Part {
+    start: ((2061, 1, 1), 0),
+    freq: Some(Freq::Monthly),
+    ..ALONE
+};
+
+/// Parts whose rules have places that some periods have, or none, or no days, and how many moments these
+/// rules give behind the start.
+const PICKED: [(Part, u32); 9] = [
+    // the 31st day of a month
+    (
+        Part {
+            days: EACH,
+            set_places: &[31],
+            ..LATE
+        },
+        280,
+    ),
+    // the 30th from the end
+    (
+        Part {
+            days: EACH,
+            set_places: &[-30],
+            ..LATE
+        },
+        440,
+    ),
+    // the fifth Monday
+    (
+        Part {
+            days: &[(5, 0)],
+            set_places: &[1],
+            ..LATE
+        },
+        167,
+    ),
+    // the fifth of four Mondays
+    (
+        Part {
+            days: &[(1, 0), (2, 0), (3, 0), (4, 0)],
+            set_places: &[5, -5],
+            ..LATE
+        },
+        0,
+    ),
+    // the sixth Monday
+    (
+        Part {
+            days: &[(6, 0)],
+            ..LATE
+        },
+        0,
+    ),
+    // 29 February
+    (
+        Part {
+            months: &[2],
+            days: EACH,
+            set_places: &[29],
+            ..LATE
+        },
+        9,
+    ),
+    // the 366th day of a year, from the front and from the end
+    (
+        Part {
+            freq: Some(Freq::Yearly),
+            days: EACH,
+            set_places: &[366],
+            ..LATE
+        },
+        9,
+    ),
+    (
+        Part {
+            freq: Some(Freq::Yearly),
+            days: EACH,
+            set_places: &[-366],
+            ..LATE
+        },
+        9,
+    ),
+    // the 53rd Monday of a year
+    (
+        Part {
+            freq: Some(Freq::Yearly),
+            days: &[(53, 0)],
+            set_places: &[1],
+            ..LATE
+        },
+        7,
+    ),
+];
+
+/// Two tables have the same onsets.
+fn are_same(rt: &impl Abort, a: &ZoneTable, b: &ZoneTable) {
+    assert_eq!(rt; a.onsets.len(), b.onsets.len());
+    for (k, onset) in a.onsets.iter().enumerate() {
+        match b.onsets.as_slice().get(k) {
+            Some(other) => assert!(rt; onset.at.0 == other.at.0),
+            None => assert!(rt; false),
+        }
+    }
+}
+
+/// Both bodies make one table of a part, of so many moments behind the start.
+fn bodies_make_one(rt: &impl Abort, alloc: Global, part: Part, moments: u32) {
+    let parts = parts_of(alloc, &[part]);
+    if parts.is_empty() {
+        assert!(rt; false);
+        return;
+    }
+    match make_table(alloc, b"Zone", &parts, 1000, &PeriodStep) {
+        Ok((fast, count)) => {
+            assert_eq!(rt; count, moments + 2);
+            match make_table(alloc, b"Zone", &parts, 1000, &DayFilter) {
+                Ok((plain, _)) => are_same(rt, &fast, &plain),
+                Err(_) => assert!(rt; false),
+            }
+        }
+        Err(_) => assert!(rt; false),
+    }
+}
+
+#[test]
+fn places_that_some_periods_have(rt: HostRuntime) {
+    for (part, moments) in PICKED.iter() {
+        bodies_make_one(&rt, rt.alloc(), *part, *moments);
     }
 }
