@@ -1,4 +1,4 @@
-use Rattle.std.proofs.Common.{◌≡◌, ◌+◌, ◌*◌, ◌∙◌, sym, arith}
+use Rattle.std.proofs.Common.{◌≡◌, ◌+◌, ◌*◌, ◌∙◌, length, refl, sym, arith}
 use Rattle.std.proofs.lemmas.Int.{ints}
 use Rattle.cal_model.specs.Recurrence.NextPassing.{end_day}
 use Rattle.cal_model.specs.Values.LocalTimes.{moment_of_local}
@@ -23,7 +23,7 @@ pub returns-then-none_has-clause-kept : goal.returns-then-none_has-clause-kept
 returns-then-none_has-clause-kept g c = λ u.
     let few = c.none_has.ensures c.if-none_has.true in
     let from = c.requires.cursor.written.from_first in
-    kept_from-never c.args.rule.now (moment_of_local c.args.start) (reading_by c.args.clock.now) c.requires.long c.args.times.now c.len-count.result c.args.least c.requires.times c.len-count.ensures c.requires.least c.requires.some
+    kept_from-never c.args.rule.now (moment_of_local c.args.start) (reading_by c.args.clock.now) c.requires.long c.args.times.now (length c.args.times.now) c.args.least c.requires.times refl c.requires.least c.requires.some
     few (moment_of_local c.args.cursor.now.at) (omega (arith, ints, from)) c.requires.cursor.within
     ∙ sym (kept_from-end c.args.rule.now (moment_of_local c.args.start) (reading_by c.args.clock.now))
 
@@ -40,5 +40,5 @@ pub returns-clause-kept : goal.returns-clause-kept
 returns-clause-kept g c = λ u.
     let few = c.period_has.ensures c.if-period_has.false in
     let ends = c.period_end-cursor.ensures.ends in
-    kept_from-stepped c.args.rule.now (moment_of_local c.args.start) (reading_by c.args.clock.now) c.requires.long c.args.times.now c.len-count.result c.args.least c.requires.times c.len-count.ensures c.requires.least c.requires.some
+    kept_from-stepped c.args.rule.now (moment_of_local c.args.start) (reading_by c.args.clock.now) c.requires.long c.args.times.now (length c.args.times.now) c.args.least c.requires.times refl c.requires.least c.requires.some
     (moment_of_local c.args.cursor.now.at) (moment_of_local c.period_end-cursor.result) few ends.later c.period_end-cursor.ensures.within ends.last ends.next
