@@ -286,7 +286,7 @@ of_four : (y : ℕ) → is_leap y ≡ true → y % 4 ≡ 0
 of_four y leap = elim (cases_Bool (y % 4 == 0)) [ inl w ↦ eqb-true _ _ w | inr w ↦ absurd (let bad = rw w at leap in cc) ]
 
 common : (y : ℕ) → (y % 4 ≡ 0 → ⊥) → is_leap y ≡ false
-common y no = elim (cases_Bool (y % 4 == 0)) [ inl w ↦ absurd (no (eqb-true _ _ w)) | inr w ↦ rw w refl ]
+common y other = elim (cases_Bool (y % 4 == 0)) [ inl w ↦ absurd (other (eqb-true _ _ w)) | inr w ↦ rw w refl ]
 
 -- the leap years from 2000 to 2028
 leap_year : (k : ℕ) → k < 7 → is_leap (2000 + 4 * k) ≡ true

@@ -15,7 +15,7 @@ loop-month-init c =
 pub overflow_add-days : goal.overflow_add-days
 overflow_add-days c =
     let bound = c.loop-month.invariant.bound in
-    let one = c.days_in_month.ensures.bound in
+    let one = c.days_in_month-days.ensures.bound in
     omega (arith, bound, one)
 
 pub loop-month-preserved : goal.loop-month-preserved
@@ -24,8 +24,8 @@ loop-month-preserved c =
     let cut = count_in-cut (day_passes c.args.rule.now c.args.plan.now.start.day) (month_begin (12 * c.args.year)) (month_begin (12 * c.args.year + c.loop-month.month)) (month_begin (12 * c.args.year + c.loop-month.month + 1)) (months_rise_by (12 * c.args.year) c.loop-month.month) (months_rise (12 * c.args.year + c.loop-month.month)) in
     let so_far = c.loop-month.invariant.counted in
     let bound = c.loop-month.invariant.bound in
-    let one = c.days_in_month.ensures.most in
-    let few = c.days_in_month.ensures.bound in
+    let one = c.days_in_month-days.ensures.most in
+    let few = c.days_in_month-days.ensures.bound in
     record { counted = rw at (omega (arith, cut, so_far, one)); bound = omega (arith, bound, few) }
 
 pub returns : goal.returns
