@@ -72,7 +72,7 @@ ASKED = [
 
 
 # What takes up to a second: the object that is stored before, how often, and the request.
-DEAR = [alarms(3_000), sparse_alarms(40), zone_of_query(1), zone_of_put(1), repeated_days(40_000), named_days(50), texts(5_000), busy(8), expanded_often(1_500)]
+DEAR = [alarms(3_000), sparse_alarms(40), zone_of_query(60), zone_of_put(60), repeated_days(40_000), named_days(50), texts(5_000), busy(8), expanded_often(1_500)]
 
 
 def dear_requests():

@@ -190,9 +190,8 @@ LAST_ALARM = ("BEGIN:VALARM", "TRIGGER;VALUE=DATE-TIME:20990601T000000Z", "END:V
 WEEK = ["MO", "TU", "WE", "TH", "FR", "SA", "SU"]
 
 
-FOUR_WEEKS = ",".join(f"{number}{day}" for number in range(1, 5) for day in WEEK)
-# A rule whose place no month has: each has 364 moments, and by the numbers of its parts it might have more.
-NEVER = f"RRULE:FREQ=MONTHLY;BYSETPOS=365;BYHOUR={','.join(map(str, range(13)))};BYDAY={FOUR_WEEKS}"
+# A rule that has no moment: every second year from an odd one on, and so no leap year. Each of the months of these years is looked at.
+NEVER = "RRULE:FREQ=YEARLY;INTERVAL=2;BYYEARDAY=366"
 
 
 def zone(*lines, parts=1):
@@ -290,7 +289,7 @@ WARM = [
     request("REPORT", CALENDAR, busy(1).body.encode()),
     request("DELETE", CALENDAR + "o0.ics", b""),
 ]
-DAYS = 767_000  # from the year 1 to 2101
+MONTHS = 12 * 1_050  # of every second year from the year 1 to 2101
 # A family: how its case of a size is made, a small and a large size, the request that is meant, what of it (seconds, octets
 # at most or octets that stay), the work of a size, and the most that the limits allow in one request of one user.
 Family = namedtuple("Family", "make sizes what measure work most told")
@@ -298,8 +297,8 @@ OF_ALARM, OF_SPARSE_ALARM, OF_TEST, OF_RULE = 42, 73, 82, len(NEVER) + 2
 FAMILIES = [
     Family(alarms, (1_500, 3_000), "REPORT", "seconds", lambda n: n * 100, OBJECT // OF_ALARM * (BODY // OF_TEST), "alarms x tests, of one object"),
     Family(sparse_alarms, (20, 40), "REPORT", "seconds", lambda n: n * INSTANCES * 4, OBJECT // OF_SPARSE_ALARM * INSTANCES * (BODY // OF_TEST), "alarms x instances x tests, of one object"),
-    Family(zone_of_query, (1, 2), "REPORT", "seconds", lambda n: n * 8 * DAYS, BODY // OF_RULE * DAYS, "days x rules"),
-    Family(zone_of_put, (1, 2), "PUT", "seconds", lambda n: n * 8 * DAYS, OBJECT // OF_RULE * DAYS, "days x rules"),
+    Family(zone_of_query, (40, 80), "REPORT", "seconds", lambda n: n * 8 * MONTHS, BODY // OF_RULE * MONTHS, "months x rules"),
+    Family(zone_of_put, (40, 80), "PUT", "seconds", lambda n: n * 8 * MONTHS, OBJECT // OF_RULE * MONTHS, "months x rules"),
     Family(repeated_days, (20_000, 40_000), "PUT", "seconds", lambda n: n * 3, OBJECT, "octets of the rule"),
     Family(texts, (200, 400), "REPORT", "seconds", lambda n: n * 200_000, HOME * (BODY // 95), "octets x tests"),
     Family(busy, (2, 4), "REPORT", "seconds", lambda n: n * INSTANCES, HOME // (130 + COST) * INSTANCES, "instances of the calendar"),

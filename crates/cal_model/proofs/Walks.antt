@@ -8,4 +8,6 @@ pub mod DayCounts
 pub mod PlaceLemmas
 pub mod DayTimeLemmas
 pub mod DayLemmas
+pub mod PeriodEnds
+pub mod StepOverLemmas
 pub mod SetPlaceLemmas

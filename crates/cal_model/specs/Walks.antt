@@ -4,7 +4,7 @@ pub mod Clocks
 pub mod KeptMoments
 pub mod Cursors
 pub mod DayTimes
+pub mod Places
 pub mod SetPlaces
 pub mod PickedRest
-pub mod Places
 pub mod Budgets

@@ -16,4 +16,4 @@ pub mod stamps;
 pub mod starts;
 pub mod zones;
 
-pub use merged::{has_overrides, merge, merged_rows, put_asked_rows};
+pub use merged::{has_overrides, merge, merged_rows, put_asked_rows, unnamed};

@@ -75,7 +75,7 @@ fn put_own_rows(
 }
 
 /// A row, if no override names it.
-fn unnamed(zones: &[LocalTimes<'_>], ids: Stamp, names: &Names, row: &Row) -> Option<Row>
+pub fn unnamed(zones: &[LocalTimes<'_>], ids: Stamp, names: &Names, row: &Row) -> Option<Row>
     requires ids { HasZone (length zones.now) ids }
     requires values { AllPairs IsBelow names.now.values }
     requires days { AllPairs IsBelow names.now.days }

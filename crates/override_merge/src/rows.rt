@@ -120,6 +120,17 @@ fn lies_in_window(zones: &[LocalTimes<'_>], object: &Object, window: i32, row: &
     nominal_start(zones, stamp, row.start).div_euclid(WINDOW) == window as i64
 }
 
+/// The window of 64 days, counted from 1970, in which the nominal start of a row lies.
+pub fn window_of(zones: &[LocalTimes<'_>], object: &Object, row: &Row) -> i64
+    requires zones { tables_of zones.now ≡ object.now.zones }
+    requires object { HasConvertibleRows object.now }
+    requires start { IsBetween (neg_ℤ (pos 1_200_000_000_000)) (pos 1_200_000_000_000) row.now.start }
+    ensures { result ≡ spec.window_of object.now row.now }
+{
+    let stamp = start_of(object.components.as_slice(), row.component);
+    nominal_start(zones, stamp, row.start).div_euclid(WINDOW)
+}
+
 /// Whether a row is asked for.
 pub fn lies_in(zones: &[LocalTimes<'_>], object: &Object, part: Part, row: &Row) -> bool
     requires zones { tables_of zones.now ≡ object.now.zones }

@@ -134,4 +134,40 @@ impl ReadyRule for DayFilter {
         let (day, second) = next_moment(rule, &start, first, day_number(from.day), from.second)?;
         Some(moment_at(day, second))
     }
+
+    /// Days are not counted here.
+    fn period_has(
+        &self,
+        rule: &Rule,
+        start: Local,
+        dated: bool,
+        m: Local,
+        times: u64,
+        least: u64,
+    ) -> bool {
+        let _ = rule;
+        let _ = start;
+        let _ = dated;
+        let _ = m;
+        let _ = times;
+        let _ = least;
+        true
+    }
+
+    /// Nor are they here.
+    fn some_period_has(
+        &self,
+        rule: &Rule,
+        start: Local,
+        dated: bool,
+        times: u64,
+        least: u64,
+    ) -> bool {
+        let _ = rule;
+        let _ = start;
+        let _ = dated;
+        let _ = times;
+        let _ = least;
+        true
+    }
 }

@@ -20,6 +20,7 @@ pub mod SpanLemmas
 pub mod StartsInRange
 pub mod UndatedLemmas
 pub mod WindowedRows
+pub mod PlacedLemmas
 pub mod SeveralLemmas
 pub mod TableLemmas
 pub mod OnceLemmas

@@ -10,5 +10,6 @@ pub mod MasterRows
 pub mod ExpandableObjects
 pub mod CountedRows
 pub mod NearRows
+pub mod PlacedRows
 pub mod SeveralWindows
 pub mod EvenRules

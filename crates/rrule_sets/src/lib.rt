@@ -18,6 +18,7 @@ mod moved;
 mod near;
 mod needed;
 mod once;
+mod placed;
 mod range;
 mod tables;
 mod undated;

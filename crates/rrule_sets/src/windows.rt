@@ -11,9 +11,11 @@ ghost use Rattle.rrule_sets.specs.NearRows.{HasLesserId, LiesWhereInner};
 ghost use Rattle.rrule_sets.specs.NeededDigits.{HasRange};
 ghost use Rattle.rrule_sets.specs.SeveralWindows.{HasNeeded, looks_of};
 
+use crate::governors::has_future;
 use crate::near::{near_rows, rows_before, rows_from};
 use crate::needed::{joined, needed};
 use crate::once::{only_row, row_in_windows};
+use crate::placed::{placed_rows, put_rows_of};
 use crate::range::Digits;
 use crate::window::{governed_rows, rows_beside};
 use cal_base::{List, NoMemory, Steps};
@@ -174,9 +176,40 @@ fn put_window(
     put_near(zones, object, needed.window, near, out)
 }
 
+/// The rows of several windows of an object of which overrides move later instances, given the rows of
+/// the master, with those moved, in a range that has what each of them needs. What a window has may stand
+/// anywhere among them, so they are put by their windows once.
+fn rows_by_windows(
+    alloc: Global,
+    zones: &[LocalTimes<'_>],
+    ids: Stamp,
+    object: &Object,
+    range: Digits,
+    rows: &[Row],
+    each: &[Needed],
+) -> Result<List<Row>, NoMemory>
+    requires object { HasRowsToFind object.now }
+    requires zones { tables_of zones.now ≡ object.now.zones }
+    requires ids { Some ids ≡ spec.ids_start object.now }
+    requires rows { rows.now ≡ governed_rows object.now ids range }
+    requires range { All (λ (n : Needed). HasRange range n.range) each.now }
+    requires needed { All (HasNeeded object.now.zones ids object.now.components) each.now }
+    ensures { IfOk result (λ rows. rows ≡ flat_map (spec.rows_in object.now) (map (λ (n : Needed). n.window) each.now)) }
+{
+    let _ = range;
+    let placed = placed_rows(alloc, zones, ids, object, rows)?;
+    let mut out = List::new(alloc);
+    let mut rest = each;
+    'windows: while let Some((needed, behind)) = rest.split_first() {
+        put_rows_of(alloc, placed.as_slice(), needed.window, &mut out)?;
+        rest = behind;
+    }
+    Ok(out)
+}
+
 /// The rows of several windows, given the rows of the master, with those moved that overrides govern, in
-/// a range that has what each of them needs.
-fn rows_in_range(
+/// a range that has what each of them needs, window by window.
+fn rows_of_windows(
     alloc: Global,
     zones: &[LocalTimes<'_>],
     ids: Stamp,
@@ -200,6 +233,31 @@ fn rows_in_range(
         rest = behind;
     }
     Ok(out)
+}
+
+/// The rows of several windows, given the rows of the master, with those moved that overrides govern, in
+/// a range that has what each of them needs.
+fn rows_in_range(
+    alloc: Global,
+    zones: &[LocalTimes<'_>],
+    ids: Stamp,
+    object: &Object,
+    range: Digits,
+    rows: &[Row],
+    each: &[Needed],
+) -> Result<List<Row>, NoMemory>
+    requires object { HasRowsToFind object.now }
+    requires zones { tables_of zones.now ≡ object.now.zones }
+    requires ids { Some ids ≡ spec.ids_start object.now }
+    requires rows { rows.now ≡ governed_rows object.now ids range }
+    requires range { All (λ (n : Needed). HasRange range n.range) each.now }
+    requires needed { All (HasNeeded object.now.zones ids object.now.components) each.now }
+    ensures { IfOk result (λ rows. rows ≡ flat_map (spec.rows_in object.now) (map (λ (n : Needed). n.window) each.now)) }
+{
+    if has_future(object.components.as_slice()) {
+        return rows_by_windows(alloc, zones, ids, object, range, rows, each);
+    }
+    rows_of_windows(alloc, zones, ids, object, range, rows, each)
 }
 
 /// The rows of several windows, of which it is known what they need.

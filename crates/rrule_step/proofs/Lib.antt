@@ -5,3 +5,5 @@ pub mod CalendarLemmas
 pub mod MonthLemmas
 pub mod StepLemmas
 pub mod RoundLemmas
+pub mod YearLemmas
+pub mod CountLemmas

@@ -123,10 +123,14 @@ day_in_year month i lt =
     let year = days_before_month-end month.year in
     omega (arith, size, next, end, year, lt)
 
+-- and begins where its number says
+pub month_first : (month : Month) (n : ℕ) → month.year ≡ n / 12 → month.month ≡ n % 12 + 1 → month_begin n ≡ month.first
+month_first month n year of = ap (λ y. day_of_date y (n % 12 + 1) 1) (sym year) ∙ (ap (λ m. day_of_date month.year m 1) (sym of) ∙ sym month.first_is)
+
 -- and ends where the next one begins
 pub month_next : (month : Month) (n : ℕ) → month.year ≡ n / 12 → month.month ≡ n % 12 + 1 → month_begin (n + 1) ≡ month.first + month.size
 month_next month n year of =
-    let first : month_begin n ≡ month.first = ap (λ y. day_of_date y (n % 12 + 1) 1) (sym year) ∙ (ap (λ m. day_of_date month.year m 1) (sym of) ∙ sym month.first_is) in
+    let first = month_first month n year of in
     let size : month_length (n / 12) (n % 12 + 1) ≡ month.size = ap (λ y. month_length y (n % 12 + 1)) (sym year) ∙ (ap (λ m. month_length month.year m) (sym of) ∙ sym month.size_is) in
     let next = month_begin-next n in
     next ∙ (ap (λ a. a + month_length (n / 12) (n % 12 + 1)) first ∙ ap (λ b. month.first + b) size)

@@ -21,7 +21,7 @@ module _ (rule : Rule) (plan : Plan) (is : IsPlan rule plan) where
   pub uncounted : (a b : ℕ) → ((m : ℕ) → a ≤ m → m < b → is_counted plan.first rule.interval (period_number rule.freq rule.week_start m) ≡ false) → NonePasses rule (moment_of plan.start) plan.dated a b
   uncounted a b none = NonePasses-period rule (moment_of plan.start) plan.dated a b (λ m low high. let fails = none m low high in rw is.first at fails)
 
-  day_is : day_of_moment (moment_of plan.start) ≡ plan.start.day
+  pub day_is : day_of_moment (moment_of plan.start) ≡ plan.start.day
   day_is = day_of_start plan.start.day plan.start.second plan.start.second_below
 
   second_is : second_of_day (moment_of plan.start) ≡ plan.start.second

@@ -20,12 +20,12 @@ pub record IsPlan (rule : Rule) (plan : Plan) : Type 0 where
   pub listed : (day : ℕ) → has plan.months (month_of day) ≡ true → month_passes rule day ≡ true
   pub days : AreDaySets rule plan.days
 
--- it is that of the rule and this start, and where nothing passes that may be known
+-- it is that of the rule and this start, and where nothing passes from the year 1 on that may be known
 pub record IsReady (ready : PeriodPlan) (rule : Rule) (start : ℕ) (dated : Bool) : Type 0 where
   pub plan : IsPlan rule ready.plan
   pub begins : moment_of ready.plan.start ≡ start
   pub is_date : ready.plan.dated ≡ dated
-  pub never : ready.never ≡ true → (m : ℕ) → passes rule start dated m ≡ false
+  pub never : ready.never ≡ true → (m : ℕ) → 31_622_400 ≤ m → passes rule start dated m ≡ false
 
 -- a second of a day passes
 abbrev pub passes_on : Rule → Plan → ℕ → ℕ → Bool

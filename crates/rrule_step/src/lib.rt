@@ -9,6 +9,7 @@
 //! taken.
 #![tactic(auto)]
 
+mod counts;
 mod day_sets;
 mod days;
 mod month;

@@ -8,12 +8,15 @@ ghost use Rattle.rrule_step.specs.Periods.{is_counted, month_begin};
 ghost use Rattle.rrule_step.specs.Firsts.{NoneHolds};
 ghost use Rattle.rrule_step.specs.Sets.{has};
 
-use crate::month::Month;
+use crate::month::{Month, date_of};
 use crate::set::Set;
 use cal_model::{Freq, Rule};
 
 /// The number of the first month that no rule reaches: January 2102.
 pub const END_MONTH: u32 = 25_224;
+
+/// Its first day, counted from 1 January of the year 0.
+pub const END_DAY: u32 = 767_740;
 
 /// The number of the period of a day, and under HOURLY of its first hour.
 pub fn period_of(rule: &Rule, year: u32, month: u32, day: u32) -> u32
@@ -134,7 +137,30 @@ fn first_of_week(week_start: u8, week: u32) -> u32
     7 * week.min(200_000) + week_start as u32 - 12
 }
 
-/// The first month from one on that INTERVAL may let count, as far as months and years go.
+/// The first month from one on that has a day which INTERVAL may let count, as far as days, weeks and
+/// hours go.
+fn month_of_counted(rule: &Rule, first: u32, month: u32) -> u32
+    requires rule { IsUsable rule.now }
+    requires month { (12 ≤ month) × (month < END_MONTH) }
+    ensures from { month ≤ result }
+    ensures to { result ≤ END_MONTH }
+    ensures none { (m : ℕ) → 86_400 * month_begin month ≤ m → m < 86_400 * month_begin result → is_counted first rule.now.interval (spec.period_number rule.now.freq rule.now.week_start m) ≡ false }
+{
+    let this = Month::new(month);
+    let end = this.first + this.size;
+    let counted = counted_day(rule, first, this.first);
+    if counted < end {
+        return month;
+    }
+    let is_past = END_DAY <= counted;
+    if is_past {
+        return END_MONTH;
+    }
+    let (year, of_year, _) = date_of(counted);
+    12 * year + of_year - 1
+}
+
+/// The first month from one on that INTERVAL may let count.
 pub fn counted_month(rule: &Rule, first: u32, month: u32) -> u32
     requires rule { IsUsable rule.now }
     requires month { (12 ≤ month) × (month < END_MONTH) }
@@ -152,7 +178,13 @@ pub fn counted_month(rule: &Rule, first: u32, month: u32) -> u32
                 12 * year.min(END_MONTH / 12)
             }
         }
-        _ => month,
+        _ => {
+            if rule.interval < 5 {
+                month
+            } else {
+                month_of_counted(rule, first, month)
+            }
+        }
     }
 }
 

@@ -11,10 +11,13 @@ ghost use Rattle.rrule_step.specs.Firsts.{FindsFirst};
 ghost use Rattle.rrule_step.specs.Periods.{month_begin};
 ghost use Rattle.rrule_step.specs.Sets.{has};
 
+use crate::counts::{period_has, some_month_has, some_period_has};
 use crate::day_sets::{DaySets, day_sets_of};
 use crate::days::{days_of, months_of};
 use crate::month::{Month, date_of};
-use crate::periods::{END_MONTH, counted_day, counted_month, hours_on, listed_month, period_of};
+use crate::periods::{
+    END_DAY, END_MONTH, counted_day, counted_month, hours_on, listed_month, period_of,
+};
 use crate::rounds::never_meets;
 use crate::set::Set;
 use crate::start::Start;
@@ -24,9 +27,6 @@ use cal_moment::Local;
 
 /// Steps from period to period, and looks at the days of a month as a set.
 pub struct PeriodStep;
-
-/// 1 January 2102, where rules end, counted from 1 January of the year 0.
-const END_DAY: u32 = 767_740;
 
 /// A moment, by its day, counted from the year 0, and its second.
 #[derive(Clone, Copy)]
@@ -61,7 +61,7 @@ pub struct Plan {
 #[derive(Drop)]
 pub struct PeriodPlan {
     plan: Plan,
-    /// INTERVAL leaves out each hour that BYHOUR and BYDAY have, so nothing passes.
+    /// Nothing passes: INTERVAL leaves out each hour that BYHOUR and BYDAY have, or no day passes.
     never: bool,
 }
 
@@ -176,7 +176,7 @@ fn next_moment(rule: &Rule, plan: &Plan, month: u32, from: Moment) -> Option<Mom
 }
 
 /// A day as it is counted from the year 0.
-fn day_number(day: i32) -> u32
+pub fn day_number(day: i32) -> u32
     requires from { neg_ℤ (pos 719_162) ≤ℤ day }
     requires to { day ≤ℤ pos 2_932_896 }
     ensures value { result ≡ cal.day_number day }
@@ -255,6 +255,39 @@ fn next_from(rule: &Rule, plan: &Plan, from: Local) -> Option<Local>
     Some(moment_at(found))
 }
 
+/// Whether a part names days other than weekdays, or months. Where none does, some day passes.
+fn may_lack_days(rule: &Rule) -> bool {
+    rule.freq == Freq::Monthly
+        || !rule.by_month.is_empty()
+        || !rule.by_week.is_empty()
+        || !rule.by_year_day.is_empty()
+        || !rule.by_month_day.is_empty()
+}
+
+/// Whether no day passes.
+fn lacks_days(rule: &Rule, plan: &Plan) -> bool
+    requires usable { IsUsable rule.now }
+    requires plan { IsPlan rule.now plan.now }
+    ensures { result ≡ true → (day : ℕ) → 366 ≤ day → spec.day_passes rule.now plan.now.start.day day ≡ false }
+{
+    if !may_lack_days(rule) {
+        return false;
+    }
+    !some_month_has(rule, plan, 1, 1)
+}
+
+/// Whether it is known that nothing passes from the year 1 on.
+fn gives_nothing(rule: &Rule, plan: &Plan) -> bool
+    requires usable { IsUsable rule.now }
+    requires plan { IsPlan rule.now plan.now }
+    ensures { result ≡ true → (m : ℕ) → 31_622_400 ≤ m → spec.passes rule.now (moment_of plan.now.start) plan.now.dated m ≡ false }
+{
+    if never_meets(rule, plan) {
+        return true;
+    }
+    lacks_days(rule, plan)
+}
+
 impl ReadyRule for PeriodPlan {
     ghost use Rattle.rrule_step.specs.Plans.{IsReady};
 
@@ -268,6 +301,33 @@ impl ReadyRule for PeriodPlan {
         }
         next_from(rule, &self.plan, from)
     }
+
+    fn period_has(
+        &self,
+        rule: &Rule,
+        start: Local,
+        dated: bool,
+        m: Local,
+        times: u64,
+        least: u64,
+    ) -> bool {
+        let _ = start;
+        let _ = dated;
+        period_has(rule, &self.plan, m, times, least)
+    }
+
+    fn some_period_has(
+        &self,
+        rule: &Rule,
+        start: Local,
+        dated: bool,
+        times: u64,
+        least: u64,
+    ) -> bool {
+        let _ = start;
+        let _ = dated;
+        some_period_has(rule, &self.plan, times, least)
+    }
 }
 
 impl Rules for PeriodStep {
@@ -275,7 +335,7 @@ impl Rules for PeriodStep {
 
     fn ready(&self, rule: &Rule, start: Local, dated: bool) -> PeriodPlan {
         let plan = plan_of(rule, start, dated);
-        let never = never_meets(rule, &plan);
+        let never = gives_nothing(rule, &plan);
         PeriodPlan { plan, never }
     }
 }

@@ -44,7 +44,7 @@ year_before day y lt = elim (cases_Bool (nat_lt (year_of day) y)) [
   | inr w ↦ absurd (let ge = ltb-false _ _ w in let le = first_of_year-le y (year_of day) ge in let from = year_of-first day in omega (arith, le, from, lt))
 ]
 
-year_at_first : (y : ℕ) → year_of (first_of_year y) ≡ y
+pub year_at_first : (y : ℕ) → year_of (first_of_year y) ≡ y
 year_at_first y = year_of-only (first_of_year y) y (omega arith) (let le = first_of_year-le y y (omega arith) in omega arith)
 
 -- the year of a day from the year 1 on begins at or before it

@@ -4,6 +4,7 @@ use Rattle.std.specs.Prelude.{All, filter, count_by, nat_le, ◌==◌, if◌then
 use Rattle.std.specs.List.{list_any}
 use Rattle.std.proofs.lemmas.Bool.{cases_Bool, eqb-true, leb-false, ltb-false}
 use Rattle.std.proofs.lemmas.List.Elements.{All-head, All-tail}
+use Rattle.std.proofs.lemmas.List.Sums.{length-filter}
 use Rattle.cal_moment.specs.Calendar.{day_of_moment, second_of_day, seconds_since_1970}
 use Rattle.cal_model.specs.declared.rule.Rule.{Rule}
 use Rattle.cal_model.specs.declared.rule.Freq.{Freq}
@@ -12,9 +13,10 @@ use Rattle.cal_model.specs.Words.Lists.{is_empty, numbers_between}
 use Rattle.cal_model.specs.Words.Integers.{names_place, some_names_place}
 use Rattle.cal_model.specs.Recurrence.NextPassing.{end_day, is_fine}
 use Rattle.cal_model.specs.Recurrence.Passing.{passes, period_number, period_passes, day_passes, time_passes, part_passes, hour_passes}
-use Rattle.cal_model.specs.Recurrence.RecurrenceSet.{Reading, first_moment, same_period, place_in_period, size_of_period}
-use Rattle.cal_model.specs.Walks.KeptMoments.{found_from, kept_from}
-use Rattle.cal_model.specs.Walks.Places.{is_place_within, is_day_of, HasDaysAtMost, IsMostInPeriod, PicksNothing}
+use Rattle.cal_model.specs.Recurrence.RecurrenceSet.{Reading, at_places, first_moment, same_period, place_in_period, size_of_period}
+use Rattle.cal_model.specs.Walks.DayTimes.{times_of_day}
+use Rattle.cal_model.specs.Walks.KeptMoments.{found_from, found_between, kept_from}
+use Rattle.cal_model.specs.Walks.Places.{is_place_within, is_day_of, days_of_period, HasDaysAtMost, IsMostInPeriod, PicksNothing}
 use Rattle.cal_model.proofs.Recurrence.Rising.{count_le}
 use Rattle.cal_model.proofs.Recurrence.Periods.{count_one, count_zero}
 use Rattle.cal_model.proofs.Words.CountedRuns.{count_in, count_in-cut, count_in-one, count_in-shifted, count_in-within, count_in-blocks_at_most}
@@ -36,6 +38,9 @@ count_filter p q (x ∷ xs) =
           let test : (if q x then p x else false) ≡ false = elim (cases_Bool (q x)) [ inl v ↦ rw v w | inr v ↦ rw v refl ] in
           let b = count_zero (λ x. if q x then p x else false) x xs test in rw left_out (omega (arith, rest, b)))
     ]
+
+at_most_itself : (n : ℕ) → n ≤ n
+at_most_itself n = omega arith
 
 module _ (rule : Rule) (start : ℕ) (reading : Reading) (m : ℕ) where
   -- a moment is found in the period of m
@@ -166,6 +171,24 @@ module _ (rule : Rule) (start : ℕ) (reading : Reading) (m : ℕ) where
           rw from at (
           count_in-blocks_at_most here (is_day_of rule start m) (λ d. 86400 * d) (λ k. k / 86400) (hours * (minutes * seconds)) (λ d. omega arith) (λ d k low high. omega (arith, low, high)) in_day (here_day whole) n 0 days (rw from few))
 
+  -- Of the days of its period each has no more moments than times.
+
+  day_count : (d : ℕ) → count_in here (86400 * d) (86400 * (d + 1)) ≤ length (times_of_day rule start reading.dated)
+  day_count d =
+      let shift = count_in-shifted here (λ second. time_passes rule (second_of_day start) reading.dated second) (86400 * d) 86400 (86400 * (d + 1)) (omega arith)
+      (λ i lt w. let at : (86400 * d + i) % 86400 ≡ i = omega (arith, lt) in rw at at (here_timed (86400 * d + i) w)) in
+      let size = length-filter (λ second. time_passes rule (second_of_day start) reading.dated second) (numbers_between 0 86400) in
+      omega (arith, shift, size)
+
+  pub found_at_most : is_whole rule.freq → (a b : ℕ) → a ≤ b → b ≤ 86400 * end_day → size_of_period rule (found_between rule start reading a b) m ≤ days_of_period rule start m * length (times_of_day rule start reading.dated)
+  found_at_most whole a b le end =
+      let some = count_filter (is_found rule start reading) (same_period rule m) (numbers_between a b) in
+      let first = count_in-cut here 0 a (86400 * end_day) (omega arith) (omega (arith, le, end)) in
+      let second = count_in-cut here a b (86400 * end_day) le end in
+      let most : count_in here 0 (86400 * end_day) ≤ days_of_period rule start m * length (times_of_day rule start reading.dated) =
+      count_in-blocks_at_most here (is_day_of rule start m) (λ d. 86400 * d) (λ k. k / 86400) (length (times_of_day rule start reading.dated)) (λ d. omega arith) (λ d k low high. omega (arith, low, high)) day_count (here_day whole) end_day 0 (days_of_period rule start m) (at_most_itself (days_of_period rule start m)) in
+      omega (arith, some, first, second, most)
+
   -- The period of m lies in a stretch.
 
   size_at_most : (low high : ℕ) → low ≤ high → ((k : ℕ) → here k ≡ true → (low ≤ k) × (k < high)) → size_of_period rule (found_from rule start reading first_moment) m ≤ count_in here low high
@@ -250,15 +273,20 @@ all_fail : (p : ℕ → Bool) (xs : List ℕ) → All (λ x. p x ≡ false) xs �
 all_fail p [] all = refl
 all_fail p (x ∷ xs) all = let here = All-head (λ x. p x ≡ false) x xs all in rw here (all_fail p xs (All-tail (λ x. p x ≡ false) x xs all))
 
--- so BYSETPOS picks nothing
+-- so of moments whose periods have no more none is picked
+pub none_placed : (rule : Rule) (most : ℕ) (found : List ℕ) → All (λ m. size_of_period rule found m ≤ most) found → is_empty rule.by_set_pos ≡ false → list_any (is_place_within most) rule.by_set_pos ≡ false → at_places rule found ≡ []
+none_placed rule most found few some none = rw some
+    (all_fail (λ m. some_names_place rule.by_set_pos (place_in_period rule found m) (size_of_period rule found m)) found
+    (λ i d lt.
+    let m = get_or found i d in
+    let test : (if nat_le m m then same_period rule m m else false) ≡ true = grind arith in
+    none_named most (place_in_period rule found m) (size_of_period rule found m) rule.by_set_pos none
+    (counted_member (λ k. if nat_le k m then same_period rule m k else false) found i d lt test)
+    (count_le (λ k. if nat_le k m then same_period rule m k else false) (same_period rule m) found (λ k w. (both (nat_le k m) (same_period rule m k) w).1))
+    (few i d lt)))
+
+-- and of a rule whose periods have no more BYSETPOS picks nothing
 pub none_picked : (rule : Rule) (most : ℕ) → IsMostInPeriod rule most → is_empty rule.by_set_pos ≡ false → list_any (is_place_within most) rule.by_set_pos ≡ false → PicksNothing rule
 unfolding kept_from
-none_picked rule most is some none = λ start reading. rw some
-    (all_fail (λ m. some_names_place rule.by_set_pos (place_in_period rule (found_from rule start reading first_moment) m) (size_of_period rule (found_from rule start reading first_moment) m)) (found_from rule start reading first_moment)
-    (λ i d lt.
-    let m = get_or (found_from rule start reading first_moment) i d in
-    let test : (if nat_le m m then same_period rule m m else false) ≡ true = grind arith in
-    none_named most (place_in_period rule (found_from rule start reading first_moment) m) (size_of_period rule (found_from rule start reading first_moment) m) rule.by_set_pos none
-    (counted_member (λ k. if nat_le k m then same_period rule m k else false) (found_from rule start reading first_moment) i d lt test)
-    (count_le (λ k. if nat_le k m then same_period rule m k else false) (same_period rule m) (found_from rule start reading first_moment) (λ k w. (both (nat_le k m) (same_period rule m k) w).1))
-    (is start m reading)))
+none_picked rule most is some none = λ start reading.
+    none_placed rule most (found_from rule start reading first_moment) (λ i d lt. is start (get_or (found_from rule start reading first_moment) i d) reading) some none

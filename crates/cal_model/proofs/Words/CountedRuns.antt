@@ -15,7 +15,7 @@ count_in p a b = count_by p (numbers_between a b)
 pub count_in-cut : (p : ℕ → Bool) (a b c : ℕ) → a ≤ b → b ≤ c → count_in p a c ≡ count_in p a b + count_in p b c
 count_in-cut p a b c low high = ap (count_by p) (numbers_between-cut a b c low high) ∙ sum_by-append (λ x. cond (p x) 1 0) (numbers_between a b) (numbers_between b c)
 
-count_in-none : (p : ℕ → Bool) (a b : ℕ) → ((m : ℕ) → a ≤ m → m < b → p m ≡ false) → count_in p a b ≡ 0
+pub count_in-none : (p : ℕ → Bool) (a b : ℕ) → ((m : ℕ) → a ≤ m → m < b → p m ≡ false) → count_in p a b ≡ 0
 count_in-none p a b h = sym (length-filter p (numbers_between a b)) ∙ ap length (filter-none p a b h)
 
 -- where all that pass lie in a stretch, no more pass elsewhere

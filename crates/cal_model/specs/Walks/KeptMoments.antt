@@ -1,5 +1,5 @@
 -- What a rule gives from a moment on, one moment after the other. From RFC 5545, 3.3.10 and 3.8.5.3.
-use Rattle.std.specs.Prelude.{ℕ, ◌-◌, ◌*◌, ◌<◌, ◌&&◌, nat_le, nat_lt, List, [], ◌∷◌, if◌then◌else◌, filter, take, map, ℤ, Option, Some, None}
+use Rattle.std.specs.Prelude.{◌≡◌, ℕ, ◌-◌, ◌*◌, ◌<◌, ◌&&◌, nat_le, nat_lt, List, [], ◌∷◌, if◌then◌else◌, filter, take, map, ℤ, Option, Some, None}
 use Rattle.cal_moment.specs.Calendar.{seconds_since_1970}
 use Rattle.cal_moment.specs.declared.stamp.Local.{Local}
 use Rattle.cal_model.specs.declared.rule.Rule.{Rule}
@@ -52,6 +52,12 @@ wanted rule start reading low high left kept =
 -- no period lies on both sides of a moment
 abbrev pub IsPeriodFirst : Rule → ℕ → Type 0
 IsPeriodFirst rule a = (m : ℕ) → m < a → period_number rule.freq rule.week_start m < period_number rule.freq rule.week_start a
+
+-- the period of a moment ends at another: that is the first of a later one
+pub record EndsPeriod (rule : Rule) (m end : ℕ) : Type 0 where
+  pub later : m < end
+  pub last : number_of rule (end - 1) ≡ number_of rule m
+  pub next : number_of rule m < number_of rule end
 
 -- the starts of some moments: their instants, or their digits
 abbrev pub starts_by : Reading → List ℕ → List ℤ

@@ -7,6 +7,7 @@ use Rattle.cal_model.specs.declared.rule.Rule.{Rule}
 use Rattle.cal_model.specs.Words.Lists.{numbers_between}
 use Rattle.cal_model.specs.Recurrence.Passing.{period_number, day_passes}
 use Rattle.cal_model.specs.Recurrence.RecurrenceSet.{Reading, first_moment, size_of_period}
+use Rattle.cal_model.specs.Recurrence.NextPassing.{end_day}
 use Rattle.cal_model.specs.Walks.KeptMoments.{found_from, kept_from}
 
 -- a written number is one of the first or the last so many places
@@ -24,6 +25,10 @@ is_day_of rule start m day =
     if period_number rule.freq rule.week_start m == period_number rule.freq rule.week_start (86_400 * day)
     then day_passes rule (day_of_moment start) day
     else false
+
+-- how many days of the period of a moment pass
+abbrev pub days_of_period : Rule → ℕ → ℕ → ℕ
+days_of_period rule start m = count_by (is_day_of rule start m) (numbers_between 0 end_day)
 
 -- no period of a rule has more days that pass, whatever its start
 abbrev pub HasDaysAtMost : Rule → ℕ → Type 0

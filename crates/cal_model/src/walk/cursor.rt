@@ -18,7 +18,7 @@ use cal_moment::Local;
 use std::sync::ledger::Ledger;
 
 /// The end of 2101, where rules end.
-const END: Local = Local {
+pub const END: Local = Local {
     day: 48_212,
     second: 0,
 };

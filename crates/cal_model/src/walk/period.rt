@@ -1,10 +1,11 @@
 //! The period in which a moment lies (RFC 5545, 3.3.10).
-ghost use Rattle.std.specs.Prelude.{◌≡◌, ◌*◌, ◌<◌, ◌≤◌, false};
+ghost use Rattle.std.specs.Prelude.{◌≡◌, ◌⊎◌, ◌+◌, ◌*◌, ◌<◌, ◌≤◌, false};
 ghost use Rattle.cal_moment.specs.Calendar as cal;
-ghost use Rattle.cal_model.specs.Recurrence.NextPassing.{is_fine};
+ghost use Rattle.cal_model.specs.declared.rule.Freq.TheVariants.{Monthly, Yearly};
+ghost use Rattle.cal_model.specs.Recurrence.NextPassing.{end_day, is_fine};
 ghost use Rattle.cal_model.specs.Recurrence.RuleBounds.{IsWritten, IsUsable};
 ghost use Rattle.cal_model.specs.Values.LocalTimes.{moment_of_local};
-ghost use Rattle.cal_model.specs.Walks.KeptMoments.{number_of, IsPeriodFirst};
+ghost use Rattle.cal_model.specs.Walks.KeptMoments.{number_of, EndsPeriod, IsPeriodFirst};
 
 use crate::rule::{Freq, Rule};
 use crate::walk::until::moment_of;
@@ -19,6 +20,16 @@ fn month_of(day: i32) -> (u32, u32)
 {
     let (year, month, _) = fields_of(Day(day));
     (year as u32, month as u32)
+}
+
+/// The day of the month of a day.
+fn day_of_month(day: i32) -> u32
+    requires { cal.IsCalendarDay day }
+    ensures value { result ≡ cal.day_of_month (cal.day_number day) }
+    ensures bounds { (1 ≤ result) × (result ≤ 31) }
+{
+    let (_, _, of_month) = fields_of(Day(day));
+    of_month as u32
 }
 
 /// The number of a moment's period.
@@ -104,5 +115,59 @@ pub fn period_first(rule: &Rule, m: Local) -> Local
         Freq::Weekly => midnight(day - (day + 12 - rule.week_start as u32) % 7),
         Freq::Monthly | Freq::Yearly => midnight(year_begin(m.day).1),
         _ => midnight(day),
+    }
+}
+
+/// Every fourth year, but of the centuries only every fourth.
+fn is_leap(year: u32) -> bool
+    ensures { result ≡ cal.is_leap year }
+{
+    year % 4 == 0 && (year % 100 != 0 || year % 400 == 0)
+}
+
+/// The days of a month.
+fn month_length(year: u32, month: u32) -> u32
+    ensures value { result ≡ cal.month_length year month }
+    ensures bound { result ≤ 31 }
+{
+    match month {
+        2 => { if is_leap(year) { 29 } else { 28 } }
+        4 | 6 | 9 | 11 => 30,
+        _ => 31,
+    }
+}
+
+/// The day behind the month of a day.
+fn month_end(day: i32) -> u32
+    requires { cal.IsCalendarDay day }
+    ensures { result ≡ cal.day_of_date (cal.year_of (cal.day_number day)) (cal.month_of (cal.day_number day)) 1
+        + cal.month_length (cal.year_of (cal.day_number day)) (cal.month_of (cal.day_number day)) }
+{
+    let (year, month) = month_of(day);
+    let size = month_length(year, month);
+    day_number(day) + 1 + size - day_of_month(day)
+}
+
+/// The day behind the year of a day.
+fn year_end(day: i32) -> u32
+    requires { cal.IsCalendarDay day }
+    ensures { result ≡ cal.first_of_year (cal.year_of (cal.day_number day) + 1) }
+{
+    let (year, _) = month_of(day);
+    first_of_year(year + 1)
+}
+
+/// The first second behind the month or the year of a moment.
+pub fn period_end(rule: &Rule, m: Local) -> Local
+    requires written { IsWritten m }
+    requires early { moment_of_local m < 86400 * end_day }
+    requires long { (rule.now.freq ≡ Monthly) ⊎ (rule.now.freq ≡ Yearly) }
+    ensures written { IsWritten result }
+    ensures within { moment_of_local result ≤ 86400 * end_day }
+    ensures ends { EndsPeriod rule.now (moment_of_local m) (moment_of_local result) }
+{
+    match rule.freq {
+        Freq::Monthly => midnight(month_end(m.day)),
+        _ => midnight(year_end(m.day)),
     }
 }

@@ -1,25 +1,26 @@
 //! BYSETPOS: the moments of one period, and those of them that are picked (RFC 5545, 3.3.10).
-ghost use Rattle.std.specs.Prelude.{◌≡◌, ℕ, ◌+◌, ◌-◌, ◌*◌, ◌<◌, ◌≤◌, ◌^◌, true, false, ◌++◌, [], ◌∷◌, OnOk, if◌then◌else◌, All, AllPairs, length, drop, IfSome, MatchOption};
+ghost use Rattle.std.specs.Prelude.{◌≡◌, ◌⊎◌, ℕ, ◌+◌, ◌-◌, ◌*◌, ◌<◌, ◌≤◌, ◌^◌, true, false, ◌++◌, [], ◌∷◌, OnOk, IfOk, if◌then◌else◌, All, AllPairs, length, drop, IfSome, MatchOption};
 ghost use Rattle.cal_model.specs.Recurrence.NextPassing.{NonePasses, end_day, is_fine};
 ghost use Rattle.cal_model.specs.Recurrence.RuleBounds.{IsWritten, IsUsable};
 ghost use Rattle.cal_model.specs.Words.Lists as lists;
 ghost use Rattle.cal_model.specs.Values.LocalTimes.{moment_of_local};
-ghost use Rattle.cal_model.specs.declared.rule.Freq.TheVariants.{Hourly};
-ghost use Rattle.cal_model.specs.Recurrence.RecurrenceSet.{at_places};
+ghost use Rattle.cal_model.specs.declared.rule.Freq.TheVariants.{Hourly, Monthly, Yearly};
+ghost use Rattle.cal_model.specs.Recurrence.RecurrenceSet.{at_places, first_moment};
 ghost use Rattle.cal_model.specs.Walks.Budgets.{last_period, left_to_take};
 ghost use Rattle.cal_model.specs.Walks.Clocks.{reading_by, IsClock};
 ghost use Rattle.cal_model.specs.Walks.Cursors.{IsAt};
 ghost use Rattle.cal_model.specs.Walks.DayTimes.{times_of_day, AreTimes};
-ghost use Rattle.cal_model.specs.Walks.SetPlaces.{AreSetPlaces};
+ghost use Rattle.cal_model.specs.Walks.Places.{days_of_period};
+ghost use Rattle.cal_model.specs.Walks.SetPlaces.{AreSetPlaces, NeedsPlaces};
 ghost use Rattle.cal_model.specs.Walks.KeptMoments.{found_from, found_between, kept_from, moments_of, number_of};
 
 use crate::next_passing::ReadyRule;
 use crate::rule::{Freq, Rule};
 use crate::walk::clock::Clock;
-use crate::walk::cursor::{Cursor, is_dated, peek, second_after};
+use crate::walk::cursor::{Cursor, END, is_dated, peek, second_after};
 use crate::walk::day_times::find_times;
 use crate::walk::days::{keep_day, keep_if_there, next_midnight};
-use crate::walk::period::period_of;
+use crate::walk::period::{period_end, period_of};
 use crate::walk::set_places::SetPlaces;
 use cal_base::{List, NoMemory, Steps};
 use cal_moment::Local;
@@ -194,6 +195,8 @@ pub struct Picks {
     pub moments: List<Local>,
     /// How many of these were given.
     pub given: usize,
+    /// Whether some period may have one of the places was asked.
+    pub asked: bool,
 }
 
 /// Gives the next of the moments that were picked.
@@ -275,8 +278,133 @@ fn gather_period<R: ReadyRule, L: Ledger>(
     )
 }
 
+/// Whether no period has so many moments, where a day that passes has so many. It is asked once.
+fn none_has<R: ReadyRule>(
+    ready: &R,
+    rule: &Rule,
+    start: Local,
+    dated: bool,
+    times: u64,
+    least: u64,
+    asked: &mut bool,
+) -> bool
+    requires ready { R.IsReadyFor ready.now rule.now (moment_of_local start) dated }
+    requires start { IsWritten start }
+    requires rule { IsUsable rule.now }
+    requires coarse { is_fine rule.now.freq ≡ false }
+    ensures { result ≡ true → (m : ℕ) → first_moment ≤ m → m < 86400 * end_day → days_of_period rule.now (moment_of_local start) m * times < least }
+{
+    if *asked {
+        return false;
+    }
+    *asked = true;
+    !ready.some_period_has(rule, start, dated, times, least)
+}
+
+/// Steps over the period of the moment at hand where it has none of the places, or over all periods
+/// where none has one; says whether it did.
+fn step_over<R: ReadyRule>(
+    ready: &R,
+    rule: &Rule,
+    start: Local,
+    clock: &Clock,
+    times: &[u32],
+    least: u64,
+    asked: &mut bool,
+    cursor: &mut Cursor,
+) -> bool
+    requires ready { R.IsReadyFor ready.now rule.now (moment_of_local start) (reading_by clock.now).dated }
+    requires start { IsWritten start }
+    requires rule { IsUsable rule.now }
+    requires coarse { is_fine rule.now.freq ≡ false }
+    requires long { (rule.now.freq ≡ Monthly) ⊎ (rule.now.freq ≡ Yearly) }
+    requires some { lists.is_empty rule.now.by_set_pos ≡ false }
+    requires times { times.now ≡ times_of_day rule.now (moment_of_local start) (reading_by clock.now).dated }
+    requires least { NeedsPlaces rule.now.by_set_pos least }
+    requires cursor { IsAt rule.now (moment_of_local start) (reading_by clock.now).dated cursor.old }
+    requires taken { cursor.old.taken ≡ true }
+    ensures cursor { IsAt rule.now (moment_of_local start) (reading_by clock.now).dated cursor.new }
+    ensures steps { (end : ℕ) → left_to_take rule.now (moment_of_local start) (reading_by clock.now).dated end cursor.new ≤ left_to_take rule.now (moment_of_local start) (reading_by clock.now).dated end cursor.old }
+    ensures stays { result ≡ false → cursor.new ≡ cursor.old }
+    ensures forward { result ≡ true → moment_of_local cursor.old.at < moment_of_local cursor.new.at }
+    ensures kept { result ≡ true → kept_from rule.now (moment_of_local start) (reading_by clock.now) (moment_of_local cursor.old.at)
+        ≡ kept_from rule.now (moment_of_local start) (reading_by clock.now) (moment_of_local cursor.new.at) }
+{
+    let dated = is_dated(clock);
+    let count = times.len() as u64;
+    // A day that passes is at hand.
+    if least <= count {
+        return false;
+    }
+    if ready.period_has(rule, start, dated, cursor.at, count, least) {
+        return false;
+    }
+    if none_has(ready, rule, start, dated, count, least, asked) {
+        cursor.at = END;
+        cursor.taken = false;
+        return true;
+    }
+    cursor.at = period_end(rule, cursor.at);
+    cursor.taken = false;
+    true
+}
+
+/// Whether a period may have days enough that it pays to count them first.
+fn is_long(rule: &Rule) -> bool
+    ensures { result ≡ true → (rule.now.freq ≡ Monthly) ⊎ (rule.now.freq ≡ Yearly) }
+{
+    match rule.freq {
+        Freq::Monthly | Freq::Yearly => true,
+        _ => false,
+    }
+}
+
+/// Steps over the period of the moment at hand where it is known to have none of the places; says
+/// whether it did.
+fn step_if_none<R: ReadyRule>(
+    ready: &R,
+    rule: &Rule,
+    start: Local,
+    clock: &Clock,
+    picks: &mut Picks,
+) -> Result<bool, NoMemory>
+    requires ready { R.IsReadyFor ready.now rule.now (moment_of_local start) (reading_by clock.now).dated }
+    requires start { IsWritten start }
+    requires rule { IsUsable rule.now }
+    requires coarse { is_fine rule.now.freq ≡ false }
+    requires some { lists.is_empty rule.now.by_set_pos ≡ false }
+    requires cursor { IsAt rule.now (moment_of_local start) (reading_by clock.now).dated picks.old.cursor }
+    requires taken { picks.old.cursor.taken ≡ true }
+    requires times { AreTimes rule.now (moment_of_local start) (reading_by clock.now).dated picks.old.times }
+    requires places { AreSetPlaces rule.now.by_set_pos picks.old.places }
+    ensures cursor { IsAt rule.now (moment_of_local start) (reading_by clock.now).dated picks.new.cursor }
+    ensures times { OnOk result (AreTimes rule.now (moment_of_local start) (reading_by clock.now).dated picks.new.times) }
+    ensures places { picks.new.places ≡ picks.old.places }
+    ensures steps { (end : ℕ) → left_to_take rule.now (moment_of_local start) (reading_by clock.now).dated end picks.new.cursor ≤ left_to_take rule.now (moment_of_local start) (reading_by clock.now).dated end picks.old.cursor }
+    ensures stays { IfOk result (λ over. over ≡ false → picks.new.cursor ≡ picks.old.cursor) }
+    ensures forward { IfOk result (λ over. over ≡ true → moment_of_local picks.old.cursor.at < moment_of_local picks.new.cursor.at) }
+    ensures kept { IfOk result (λ over. over ≡ true → kept_from rule.now (moment_of_local start) (reading_by clock.now) (moment_of_local picks.old.cursor.at)
+        ≡ kept_from rule.now (moment_of_local start) (reading_by clock.now) (moment_of_local picks.new.cursor.at)) }
+{
+    if !is_long(rule) {
+        return Ok(false);
+    }
+    find_times(rule, start, is_dated(clock), &mut picks.times)?;
+    let over = step_over(
+        ready,
+        rule,
+        start,
+        clock,
+        picks.times.as_slice(),
+        picks.places.least,
+        &mut picks.asked,
+        &mut picks.cursor,
+    );
+    Ok(over)
+}
+
 /// Picks from the period of the moment at hand.
-pub fn refill<R: ReadyRule, L: Ledger>(
+fn fill<R: ReadyRule, L: Ledger>(
     ready: &R,
     rule: &Rule,
     start: Local,
@@ -312,4 +440,45 @@ pub fn refill<R: ReadyRule, L: Ledger>(
     picks.given = 0;
     pick(rule, &picks.places, &picks.found, &mut picks.moments)?;
     Ok(())
+}
+
+/// Picks from the period of the moment at hand, or goes on behind it where it is known to have none of
+/// the places.
+pub fn refill<R: ReadyRule, L: Ledger>(
+    ready: &R,
+    rule: &Rule,
+    start: Local,
+    clock: &Clock,
+    picks: &mut Picks,
+    end: Local,
+    steps: &mut Steps<L>,
+) -> Result<(), NoMemory>
+    requires ready { R.IsReadyFor ready.now rule.now (moment_of_local start) (reading_by clock.now).dated }
+    requires start { IsWritten start }
+    requires clock { IsClock clock.now }
+    requires rule { IsUsable rule.now }
+    requires coarse { is_fine rule.now.freq ≡ false }
+    requires some { lists.is_empty rule.now.by_set_pos ≡ false }
+    requires cursor { IsAt rule.now (moment_of_local start) (reading_by clock.now).dated picks.old.cursor }
+    requires taken { picks.old.cursor.taken ≡ true }
+    requires times { AreTimes rule.now (moment_of_local start) (reading_by clock.now).dated picks.old.times }
+    requires places { AreSetPlaces rule.now.by_set_pos picks.old.places }
+    requires begun { number_of rule.now (moment_of_local picks.old.cursor.at) ≤ last_period rule.now (moment_of_local end) }
+    ensures cursor { OnOk result (IsAt rule.now (moment_of_local start) (reading_by clock.now).dated picks.new.cursor) }
+    ensures times { OnOk result (AreTimes rule.now (moment_of_local start) (reading_by clock.now).dated picks.new.times) }
+    ensures places { OnOk result (AreSetPlaces rule.now.by_set_pos picks.new.places) }
+    ensures steps { steps.new + left_to_take rule.now (moment_of_local start) (reading_by clock.now).dated (moment_of_local end) picks.new.cursor ≤ steps.old + left_to_take rule.now (moment_of_local start) (reading_by clock.now).dated (moment_of_local end) picks.old.cursor }
+    ensures forward { OnOk result (moment_of_local picks.old.cursor.at < moment_of_local picks.new.cursor.at) }
+    ensures given { OnOk result (picks.new.given ≡ 0) }
+    ensures written { OnOk result (All (λ l. IsWritten l) picks.new.moments) }
+    ensures kept { OnOk result (kept_from rule.now (moment_of_local start) (reading_by clock.now) (moment_of_local picks.old.cursor.at)
+        ≡ moments_of picks.new.moments ++ kept_from rule.now (moment_of_local start) (reading_by clock.now) (moment_of_local picks.new.cursor.at)) }
+{
+    let over = step_if_none(ready, rule, start, clock, picks)?;
+    if over {
+        picks.moments.truncate(0);
+        picks.given = 0;
+        return Ok(());
+    }
+    fill(ready, rule, start, clock, picks, end, steps)
 }

@@ -215,6 +215,7 @@ pub fn begin_walk(alloc: Global, rule: &Rule, start: Local, low: Local) -> RuleW
             found: List::new(alloc),
             moments: List::new(alloc),
             given: 0,
+            asked: false,
         },
         left: less_one(rule.count),
     }

@@ -1,7 +1,8 @@
 //! The places of BYSETPOS as tables that are made once for a walk (RFC 5545, 3.3.10).
 ghost use Rattle.std.specs.Prelude.{◌≡◌, ℕ, ℤ, List, ◌+◌, ◌<◌, ◌≤◌, ◌==◌, ◌||◌, false, All, slice_index_or};
 ghost use Rattle.cal_model.specs.Recurrence.RuleBounds.{IsPlace};
-ghost use Rattle.cal_model.specs.Walks.SetPlaces.{AreSetPlaces, is_back, is_front};
+ghost use Rattle.cal_model.specs.Walks.Places.{is_place_within};
+ghost use Rattle.cal_model.specs.Walks.SetPlaces.{AreSetPlaces, NeedsPlaces, is_back, is_front};
 ghost use Rattle.cal_model.specs.Words.Integers.{some_names_place};
 
 use cal_base::List;
@@ -13,6 +14,8 @@ pub struct SetPlaces {
     pub front: [bool; 367],
     /// At `n` whether `-n - 1` is there: 0 is the last place.
     pub back: [bool; 367],
+    /// A period needs so many moments at least to have one of the places.
+    pub least: u64,
 }
 
 /// Whether a table marks a number.
@@ -43,6 +46,31 @@ fn mark_place(front: &mut [bool; 367], back: &mut [bool; 367], number: i16)
     }
 }
 
+/// How many moments a period needs to have the place that a number names.
+fn needed(number: i16) -> u64
+    ensures { (most : ℕ) → most < result → is_place_within most number ≡ false }
+{
+    if number >= 0 {
+        number as u64
+    } else {
+        (-(number as i32)) as u64
+    }
+}
+
+/// How many moments a period needs at least to have a place that one of the numbers names; where there
+/// is no number, more than any names.
+fn least_needed(numbers: &List<i16>) -> u64
+    ensures { NeedsPlaces numbers.now result }
+{
+    let size = numbers.len();
+    let mut least = 367u64;
+    for k in 0..size {
+        let number = numbers[k];
+        least = least.min(needed(number));
+    }
+    least
+}
+
 /// The places that the numbers of BYSETPOS name.
 pub fn set_places_of(numbers: &List<i16>) -> SetPlaces
     requires { All (IsPlace 366) numbers.now }
@@ -53,7 +81,8 @@ pub fn set_places_of(numbers: &List<i16>) -> SetPlaces
     for number in numbers.as_slice() {
         mark_place(&mut front, &mut back, *number);
     }
-    SetPlaces { front, back }
+    let least = least_needed(numbers);
+    SetPlaces { front, back, least }
 }
 
 impl SetPlaces {

@@ -7,5 +7,5 @@ returns c =
       plan = made.plan;
       begins = made.start;
       is_date = made.dated;
-      never = λ e m. let none = c.never_meets-never.ensures e m in rw (made.start, made.dated) at none;
+      never = λ e m from. let none = c.gives_nothing-never.ensures e m from in rw (made.start, made.dated) at none;
     }

@@ -4,7 +4,7 @@ use Rattle.cal_model.specs.Instances.Rows.{rows_in}
 use Rattle.rrule_sets.specs.declared.windows.Needed.{Needed}
 use Rattle.rrule_sets.specs.NeededDigits.{HasRange}
 use Rattle.rrule_sets.specs.SeveralWindows.{HasNeeded}
-use Rattle.rrule_sets.proofs.windows.rows_in_range.Given as goal
+use Rattle.rrule_sets.proofs.windows.rows_by_windows.Given as goal
 
 -- the rows so far, and those of the windows that are left
 abbrev pub invariant-windows : goal.invariant-windows

@@ -4,7 +4,7 @@ use Rattle.rrule_sets.specs.declared.windows.Needed.{Needed}
 use Rattle.rrule_sets.specs.NeededDigits.{HasRange}
 use Rattle.rrule_sets.specs.SeveralWindows.{HasNeeded}
 use Rattle.rrule_sets.proofs.AskedLemmas.{more}
-use Rattle.rrule_sets.proofs.windows.rows_in_range.Goals as goal
+use Rattle.rrule_sets.proofs.windows.rows_of_windows.Goals as goal
 
 pub put_window-requires-clause-needed : goal.put_window-requires-clause-needed
 put_window-requires-clause-needed c =
