@@ -10,8 +10,8 @@ use Rattle.rrule_sets.proofs.windows.rows_by_windows.Given as goal
 abbrev pub invariant-windows : goal.invariant-windows
 invariant-windows l = record {
   made : l.out ++ flat_map (rows_in l.object) (map (λ (n : Needed). n.window) l.rest) ≡ flat_map (rows_in l.object) (map (λ (n : Needed). n.window) l.each);
-  range : All (λ (n : Needed). HasRange l.range n.range) l.rest;
-  needed : All (HasNeeded l.object.zones l.ids l.object.components) l.rest;
+  range : All (λ (n : Needed). HasRange l.fn.range n.range) l.rest;
+  needed : All (HasNeeded l.object.zones l.fn.ids l.object.components) l.rest;
 }
 
 abbrev pub decreases-windows : goal.decreases-windows
