@@ -1,6 +1,7 @@
 //! How many days of a month and of a year pass, and the years that stand for all (RFC 5545, 3.3.10).
 ghost use Rattle.std.specs.Prelude.{◌≡◌, ℕ, ◌+◌, ◌*◌, ◌<◌, ◌≤◌, false, count_by, IfSome};
-ghost use Rattle.cal_model.specs.Recurrence.NextPassing.{IsUsable, IsWritten, end_day};
+ghost use Rattle.cal_model.specs.Recurrence.NextPassing.{end_day};
+ghost use Rattle.cal_model.specs.Recurrence.RuleBounds.{IsUsable, IsWritten};
 ghost use Rattle.cal_model.specs.Recurrence.Passing as spec;
 ghost use Rattle.cal_model.specs.Values.LocalTimes.{moment_of_local};
 ghost use Rattle.cal_model.specs.Walks.Places.{days_of_period};
