@@ -1,7 +1,7 @@
 //! The keeping of claims.
 ghost use Rattle.std.specs.Prelude.{◌≡◌, ◌<◌, ◌≤◌, length, IfOk};
 
-use cal_base::{List, NoMemory, Steps};
+use cal_base::{Arc, List, NoMemory, Steps};
 use cal_model::{Row, RowKind};
 use piece_claims::Claims;
 use std::alloc::Global;
@@ -10,7 +10,7 @@ use std::marker::Brand;
 use std::sync::ledger::{Blank, Ledger};
 
 /// So many rows.
-fn rows_of(alloc: Global, count: u16) -> Result<List<Row>, NoMemory>
+fn rows_of(alloc: Global, count: u16) -> Result<Arc<List<Row>>, NoMemory>
     ensures { IfOk result (λ rows. length rows ≤ 4_000_000) }
 {
     let mut rows = List::new(alloc);
@@ -24,7 +24,7 @@ fn rows_of(alloc: Global, count: u16) -> Result<List<Row>, NoMemory>
             kind: RowKind::Instant,
         })?;
     }
-    Ok(rows)
+    Arc::new(alloc, rows)
 }
 
 /// Claims for so many objects.

@@ -1,7 +1,7 @@
 //! The index of pieces.
 ghost use Rattle.std.specs.Prelude.{◌≡◌, ◌<◌};
 
-use cal_base::{List, NoMemory, Steps};
+use cal_base::{Arc, List, NoMemory, Steps};
 use cal_model::{Piece, Row, RowKind};
 use piece_index::Index;
 use std::alloc::Global;
@@ -25,7 +25,7 @@ fn piece(alloc: Global, origin: u64, window: i32, count: i64) -> Result<Piece, N
     Ok(Piece {
         origin,
         window,
-        rows,
+        rows: Arc::new(alloc, rows)?,
     })
 }
 

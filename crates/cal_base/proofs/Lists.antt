@@ -1,2 +1,3 @@
--- The map is seen as the list of its pairs.
+-- The map is seen as the list of its pairs, and is copied pair by pair.
 pub mod NameMapLemmas
+pub mod CopyLemmas

@@ -3,3 +3,4 @@
 pub mod Reserved
 pub mod NameMap
 pub mod NameMapLends
+pub mod SharedLends

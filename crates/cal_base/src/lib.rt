@@ -9,6 +9,7 @@
 
 pub mod arc;
 pub mod clock;
+pub mod copies;
 pub(crate) mod counted_stream;
 pub mod door;
 pub mod element;
@@ -29,6 +30,7 @@ pub mod no_memory;
 pub(crate) mod octet_supply;
 pub mod read_whole;
 pub mod reserved_list;
+pub mod shared;
 pub mod shared_list;
 pub mod stack;
 pub mod std_files;
@@ -43,6 +45,7 @@ pub mod write_whole;
 
 pub use arc::Arc;
 pub use clock::Clock;
+pub use copies::{Copies, copy_each};
 pub use door::{Door, Gate};
 pub use element::{Attr, Element, Item};
 pub use failed::Failed;
@@ -61,6 +64,7 @@ pub use name_map::NameMap;
 pub use no_memory::NoMemory;
 pub use read_whole::{ReadEnd, read_up_to};
 pub use reserved_list::ReservedList;
+pub use shared::Shared;
 pub use shared_list::SharedList;
 pub use stack::Stack;
 pub use std_files::StdFiles;

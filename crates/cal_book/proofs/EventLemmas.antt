@@ -27,9 +27,10 @@ use Rattle.cal_model.specs.State.ServerState.{Directory, ServerState, directory_
 use Rattle.cal_model.specs.Users.UsersFile.{Users}
 use Rattle.cal_model.proofs.History.EntryLaws.{accepted_keeps_legal}
 use Rattle.cal_model.proofs.History.ReplayLaws.{accepted-rows}
+use Rattle.cal_model.proofs.Sight.LookingAlikeLaws.{outcome-reading}
 use Rattle.piece_claims.specs.Boards.{Board}
 use Rattle.cal_book.specs.UpToDate.{work_with}
-use Rattle.cal_book.specs.EventSteps.{entries_by, entries_made, journal_after, state_behind, stepped, JournalsFollow}
+use Rattle.cal_book.specs.EventSteps.{entries_by, entries_made, journal_after, state_behind, stepped, JournalsFollow, ReadingsEnterNothing}
 
 -- Nothing is entered where an event leaves the state as it is
 
@@ -40,6 +41,10 @@ entries-none event (Some change) reply = refl
 pub entries-unchanged : (users : Users) (state : ServerState) (event : Event) (reply : Reply) → outcome (directory_of users) state event ≡ unchanged reply → entries_made users state event ≡ []
 entries-unchanged users state event reply e =
     ap (entries_by event (change_of (directory_of users) event.request)) e ∙ entries-none event (change_of (directory_of users) event.request) reply
+
+-- so a request that only reads enters nothing
+pub readings-enter_nothing : ReadingsEnterNothing
+readings-enter_nothing users state event reads = entries-unchanged users state event _ (outcome-reading (directory_of users) state event reads)
 
 -- one entry is, where it is accepted
 pub entries-accepted : (users : Users) (state after : ServerState) (event : Event) (status : ℕ) (change : Change) → change_of (directory_of users) event.request ≡ Some change

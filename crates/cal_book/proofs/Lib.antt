@@ -15,3 +15,4 @@ pub mod Answering
 pub mod Checking
 pub mod Moves
 pub mod CompletenessLaws
+pub mod GatherLemmas

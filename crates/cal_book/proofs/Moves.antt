@@ -2,7 +2,7 @@
 --
 -- Each type here holds only values that may go; the search for this stops at the tree of a calendar object, so it is said once for each.
 use denote.Builtin.{u8, u16, u32, u64, i64}
-use denote.Param.Send.{IsSend, IsSync, recorded_send, recorded_sync, enum_send, struct_send, struct_sync, view_send, sendable}
+use denote.Param.Send.{IsSend, IsSync, recorded_send, recorded_sync, enum_send, struct_send, struct_sync, view_send, view_sync, sendable}
 use denote.Enum.Declared as enums
 use denote.Struct.Declared as structs
 use Rattle.std.proofs.Crossing as heap
@@ -13,11 +13,14 @@ use Rattle.cal_base.proofs.line.Node.TheLaws.TheKnot as tree
 use Rattle.cal_base.proofs.list.List.TheSendSync as list
 use Rattle.cal_base.proofs.name_map.NameMap.TheSendSync as names
 use Rattle.cal_base.proofs.reserved_list.ReservedList.TheSendSync as reserved
+use Rattle.cal_base.proofs.shared.Shared.TheSendSync as shared
 use Rattle.cal_base.proofs.text.Name.TheSendSync as text
 use Rattle.cal_base.specs.contracts.arc.Arc.{the_row as arc_row}
 use Rattle.cal_base.specs.contracts.line.Line.{the_row as line_row}
 use Rattle.cal_base.specs.contracts.line.Node as Node
 use Rattle.cal_base.specs.contracts.list.List.{the_row as list_row}
+use Rattle.cal_base.specs.contracts.name_map.NameMap.{the_row as names_row}
+use Rattle.cal_base.specs.contracts.shared.Shared.{the_row as shared_row}
 use Rattle.cal_book.specs.contracts.book.Book as Book
 use Rattle.cal_book.specs.contracts.book.Book.TheInside as BookFields
 use Rattle.cal_book.specs.contracts.history.History as History
@@ -38,12 +41,21 @@ use Rattle.cal_model.specs.contracts.object.Component.{the_row as component_row}
 use Rattle.cal_model.specs.contracts.object.Object as Object
 use Rattle.cal_model.specs.contracts.privilege.Grant.{the_row as grant_row}
 use Rattle.cal_model.specs.contracts.property.PropSet.{the_row as setting_row}
+use Rattle.cal_model.specs.contracts.store.CalendarData.{the_row as kept_row}
 use Rattle.cal_model.specs.contracts.stored.Stored as Stored
 use Rattle.cal_model.specs.contracts.zone.ZoneTable.{the_row as zone_row}
 use Rattle.collections.proofs.zone_pool.ZonePool.TheSendSync as pool
 use Rattle.collections.specs.contracts.calendar.CalendarStore as CalendarStore
 use Rattle.collections.specs.contracts.calendar.CalendarStore.TheInside as CalendarFields
 use Rattle.collections.specs.contracts.home.KeptHome as KeptHome
+use Rattle.collections.specs.contracts.shown_calendar.ShownCalendar as ShownCalendar
+use Rattle.collections.specs.contracts.shown_calendar.ShownCalendar.TheInside as ShownCalendarFields
+use Rattle.collections.specs.contracts.shown_home.ShownHome as ShownHome
+use Rattle.collections.specs.contracts.shown_home.ShownHome.TheInside as ShownHomeFields
+use Rattle.collections.specs.contracts.shown_homes.ShownHomes as ShownHomes
+use Rattle.collections.specs.contracts.shown_homes.ShownHomes.TheInside as ShownHomesFields
+use Rattle.collections.specs.contracts.shown_state.ShownState as ShownState
+use Rattle.collections.specs.contracts.shown_state.ShownState.TheInside as ShownStateFields
 use Rattle.collections.specs.contracts.store.Store as Store
 use Rattle.collections.specs.contracts.store.Store.TheInside as StoreFields
 use Rattle.object_walk.specs.contracts.entry.ObjectEntry as ObjectEntry
@@ -172,12 +184,77 @@ store_send =
     (recorded_send StoreFields.the_field.row _ _ StoreFields.the_type.to_one
     (struct_send (structs.shape StoreFields.the_type) (global.the_field_send, (shared_users_send, (heap.Vec-send KeptHome.the_row home_send, (pool.the_field_send, tt))))))
 
+-- what looks share, which may also be looked at by several threads
+count_sync : IsSync u64
+count_sync = search sendable
+
+shared_object_sync : IsSync (arc_row Stored.the_row)
+shared_object_sync = arc.the_sync Stored.the_row stored_send stored_sync
+
+shared_name_sync : IsSync (arc_row (list_row u8))
+shared_name_sync = arc.the_sync (list_row u8) octets_send octets_sync
+
+object_entry_sync : IsSync ObjectEntry.the_row
+object_entry_sync =
+    recorded_sync ObjectEntry.the_field.row _ _ ObjectEntry.the_type.to_one
+    (struct_sync (structs.shape ObjectEntry.the_type) (shared_object_sync, (count_sync, tt)))
+
+shown_objects_send : IsSend (shared_row (names_row ObjectEntry.the_row))
+shown_objects_send = shared.the_send (names_row ObjectEntry.the_row) (names.the_send ObjectEntry.the_row object_entry_send) (names.the_sync ObjectEntry.the_row object_entry_sync)
+
+shown_objects_sync : IsSync (shared_row (names_row ObjectEntry.the_row))
+shown_objects_sync = shared.the_sync (names_row ObjectEntry.the_row) (names.the_send ObjectEntry.the_row object_entry_send) (names.the_sync ObjectEntry.the_row object_entry_sync)
+
+shown_calendar_send : IsSend ShownCalendar.the_row
+shown_calendar_send =
+    view_send ShownCalendarFields.the_row _ _ _ _
+    (recorded_send ShownCalendarFields.the_field.row _ _ ShownCalendarFields.the_type.to_one
+    (struct_send (structs.shape ShownCalendarFields.the_type) (shared_name_send, (arc.the_send kept_row kept.the_send kept.the_sync, (shown_objects_send, tt)))))
+
+shown_calendar_sync : IsSync ShownCalendar.the_row
+shown_calendar_sync =
+    view_sync ShownCalendarFields.the_row _ _ _ _
+    (recorded_sync ShownCalendarFields.the_field.row _ _ ShownCalendarFields.the_type.to_one
+    (struct_sync (structs.shape ShownCalendarFields.the_type) (shared_name_sync, (arc.the_sync kept_row kept.the_send kept.the_sync, (shown_objects_sync, tt)))))
+
+shown_calendars_send : IsSend (shared_row (names_row ShownCalendar.the_row))
+shown_calendars_send = shared.the_send (names_row ShownCalendar.the_row) (names.the_send ShownCalendar.the_row shown_calendar_send) (names.the_sync ShownCalendar.the_row shown_calendar_sync)
+
+shown_calendars_sync : IsSync (shared_row (names_row ShownCalendar.the_row))
+shown_calendars_sync = shared.the_sync (names_row ShownCalendar.the_row) (names.the_send ShownCalendar.the_row shown_calendar_send) (names.the_sync ShownCalendar.the_row shown_calendar_sync)
+
+shown_home_send : IsSend ShownHome.the_row
+shown_home_send =
+    view_send ShownHomeFields.the_row _ _ _ _
+    (recorded_send ShownHomeFields.the_field.row _ _ ShownHomeFields.the_type.to_one (struct_send (structs.shape ShownHomeFields.the_type) (count_send, (shown_calendars_send, tt))))
+
+shown_home_sync : IsSync ShownHome.the_row
+shown_home_sync =
+    view_sync ShownHomeFields.the_row _ _ _ _
+    (recorded_sync ShownHomeFields.the_field.row _ _ ShownHomeFields.the_type.to_one (struct_sync (structs.shape ShownHomeFields.the_type) (count_sync, (shown_calendars_sync, tt))))
+
+shown_homes_send : IsSend ShownHomes.the_row
+shown_homes_send =
+    view_send ShownHomesFields.the_row _ _ _ _
+    (recorded_send ShownHomesFields.the_field.row _ _ ShownHomesFields.the_type.to_one (struct_send (structs.shape ShownHomesFields.the_type) (heap.Vec-send ShownHome.the_row shown_home_send, tt)))
+
+shown_homes_sync : IsSync ShownHomes.the_row
+shown_homes_sync =
+    view_sync ShownHomesFields.the_row _ _ _ _
+    (recorded_sync ShownHomesFields.the_field.row _ _ ShownHomesFields.the_type.to_one (struct_sync (structs.shape ShownHomesFields.the_type) (heap.Vec-sync ShownHome.the_row shown_home_sync, tt)))
+
+shown_state_send : IsSend ShownState.the_row
+shown_state_send =
+    view_send ShownStateFields.the_row _ _ _ _
+    (recorded_send ShownStateFields.the_field.row _ _ ShownStateFields.the_type.to_one
+    (struct_send (structs.shape ShownStateFields.the_type) (global.the_field_send, (shared_users_send, (shared.the_send ShownHomes.the_row shown_homes_send shown_homes_sync, tt)))))
+
 -- the book
 history_send : IsSend History.the_row
 history_send =
     view_send HistoryFields.the_row _ _ _ _
     (recorded_send HistoryFields.the_field.row _ _ HistoryFields.the_type.to_one
-    (struct_send (structs.shape HistoryFields.the_type) (shared_users_send, (store_send, (journal_send, tt)))))
+    (struct_send (structs.shape HistoryFields.the_type) (shared_users_send, (store_send, (journal_send, (shown_state_send, (count_send, tt)))))))
 
 pub book_send : IsSend Book.the_row
 book_send =

@@ -1,13 +1,13 @@
 -- What an event makes of the journal, and of what claims depend on, where it is not answered 503 (RFC 9110, 9.3 and 15.3).
 -- Given: the users, a state or what claims depend on, and an event.
-use Rattle.std.specs.Prelude.{◌≡◌, List, [], ◌∷◌, ◌++◌, Option, Some}
+use Rattle.std.specs.Prelude.{◌≡◌, true, List, [], ◌∷◌, ◌++◌, Option, Some}
 use Rattle.cal_model.specs.declared.request.Event.{Event}
 use Rattle.cal_model.specs.History.Claims.{Work, latest_after}
 use Rattle.cal_model.specs.History.Journal.{Entry, entry_of, replay, IsLegal}
 use Rattle.cal_model.specs.History.RightPieces.{live_pieces}
 use Rattle.cal_model.specs.Requests.ContentBounds.{SizeIsTold}
 use Rattle.cal_model.specs.Serving.EventReplies.{reply_to, state_after}
-use Rattle.cal_model.specs.Serving.Outcomes.{Outcome, accepted, outcome}
+use Rattle.cal_model.specs.Serving.Outcomes.{Outcome, accepted, is_reading, outcome}
 use Rattle.cal_model.specs.State.Changes.{Change, change_of}
 use Rattle.cal_model.specs.State.ServerState.{ServerState, directory_of}
 use Rattle.cal_model.specs.Users.UsersFile.{Users}
@@ -46,3 +46,7 @@ JournalsFollow =
     (users : Users) (journal : List Entry) (event : Event) → IsLegal (directory_of users) journal → SizeIsTold event.request.size event.request.content
     → IsLegal (directory_of users) (journal_after users event journal)
     × (state_behind users (journal_after users event journal) ≡ state_after (directory_of users) (state_behind users journal) event)
+
+-- A request that only reads enters nothing.
+abbrev pub ReadingsEnterNothing : Type 0
+ReadingsEnterNothing = (users : Users) (state : ServerState) (event : Event) → is_reading event.request.method ≡ true → entries_made users state event ≡ []

@@ -20,6 +20,8 @@ ghost use Rattle.cal_book.specs.Showing.ShownStates.{shown_directory, shown_stat
 use crate::changing::change;
 use crate::claims::{Claim, Expanded, Publish};
 use crate::history::History;
+use crate::look::Look;
+use crate::looking::{is_reading, look_for};
 use crate::publishing::publish;
 use crate::reading::read;
 use crate::sharing::share;
@@ -59,19 +61,10 @@ impl Model for Book {
     ghost invariant = { λ b. IsBook b.history b.claims b.room };
 }
 
-/// Whether a method only reads (RFC 9110, 9.2.1).
-fn is_reading(method: Method) -> bool
-    ensures { result ≡ reads method }
-{
-    matches!(
-        method,
-        Method::Options | Method::Get | Method::Head | Method::Propfind | Method::Report
-    )
-}
-
 impl Book {
     ghost use Rattle.cal_book.specs.Cores.{Core, IsRightCore, directory_in, state_in};
     ghost use Rattle.cal_book.specs.EventSteps.{work_after, stepped};
+    ghost use Rattle.cal_book.specs.Looks.{IsLookAt};
     ghost use Rattle.cal_book.specs.Publishing.{IsClaimIn, IsPublished, pair_of_claim, claim_ended, piece_of};
 
     /// The book at the start: the opening state of its users, no entry, no piece and no claim.
@@ -170,8 +163,21 @@ impl Book {
         }
     }
 
-    /// A request came at a moment.
-    fn came_at(&mut self, moment: i64)
+    /// A look at the state and the pieces of now, for a request that only reads. There is none for one
+    /// that changes something, where there is no memory for it, and where more than 256 entries came since
+    /// the last look. Nothing that contracts see changes.
+    pub fn look(&mut self, alloc: Global, event: &Event) -> Option<Look>
+        requires bookable { IsBookable self.old.users event.now.who event.now.request }
+        requires from_1970 { pos 0 ≤ℤ event.now.moment }
+        requires to_9999 { event.now.moment ≤ℤ pos 253_402_300_799 }
+        ensures same { self.new ≡ self.old }
+        ensures at { IfSome result (IsLookAt self.old event.now) }
+    {
+        look_for(alloc, &mut self.history, &self.claims, event)
+    }
+
+    /// A request came at a moment, and was answered other than by 503.
+    pub fn came_at(&mut self, moment: i64)
         requires from_1970 { pos 0 ≤ℤ moment }
         requires to_9999 { moment ≤ℤ pos 253_402_300_799 }
         ensures users { self.new.users ≡ self.old.users }

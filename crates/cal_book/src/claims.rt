@@ -23,7 +23,7 @@ pub struct Claim {
 #[derive(Drop)]
 pub struct Expanded {
     pub claim: Claim,
-    pub rows: List<Row>,
+    pub rows: Arc<List<Row>>,
     ghost of_it: { rows ≡ rows_in claim.stored.object claim.window },
 }
 

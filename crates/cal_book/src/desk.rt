@@ -1,5 +1,5 @@
 //! What a session and a worker ask of the value under the lock.
-ghost use Rattle.std.specs.Prelude.{◌≡◌, ◌≢◌, ◌≤◌, ◌+◌, ◌≤ℤ◌, ℕ, Bool, List, pos, true, false, refl, length, option_map, Some, IfOk, IfSome, IsOk, OnOk, OnErr};
+ghost use Rattle.std.specs.Prelude.{◌≡◌, ◌≢◌, ◌≤◌, ◌+◌, ◌≤ℤ◌, ℕ, Bool, List, pos, true, false, refl, length, option_map, Some, IfOk, IfSome, IsOk, IsSome, OnOk, OnErr};
 ghost use Rattle.cal_base.specs.World.Outside.{Rose};
 ghost use Rattle.cal_model.specs.History.Claims.{next_claim};
 ghost use Rattle.cal_model.specs.History.Journal.{Entry as EntryData, IsLegal};
@@ -14,16 +14,18 @@ ghost use Rattle.cal_model.specs.State.ServerState.{ServerState, directory_of};
 ghost use Rattle.cal_model.specs.Users.UsersFile.{Users};
 ghost use Rattle.cal_model.specs.declared.reply.Reply.{Reply as Answer};
 ghost use Rattle.cal_model.specs.declared.request.Method.{Method};
-ghost use Rattle.piece_claims.specs.Boards.{gone_for, out_after};
+ghost use Rattle.piece_claims.specs.Boards.{gone_for, later, out_after};
 ghost use Rattle.cal_book.specs.Answering.ReadingCost.{reading_cost};
 ghost use Rattle.cal_book.specs.Cores.{Core, IsRightCore, directory_in, state_in};
 ghost use Rattle.cal_book.specs.Desks.{IfReply, WhereBroken, TellsBroken, IsLeftBroken};
 ghost use Rattle.cal_book.specs.EventSteps.{work_after};
 ghost use Rattle.cal_book.specs.LegalJournals.{is_legal, beginning_is_legal};
+ghost use Rattle.cal_book.specs.Looks.{IsLookAt};
 ghost use Rattle.cal_book.specs.Publishing.{IsClaimIn, IsPublished, pair_of_claim, claim_ended, piece_of};
 
 use crate::book::Book;
 use crate::claims::{Claim, Expanded, Publish};
+use crate::look::Look;
 use cal_base::{NoMemory, Steps};
 use cal_journal::Entry;
 use cal_model::{Event, Reply};
@@ -111,6 +113,28 @@ pub trait Desk: Keeps<Entry = JournalEntry, Base = Users> {
         ensures breaks { WhereBroken result (broken self.old ≡ false → Rose (faults self.old) (faults self.new) × IsLeftBroken (book self.old) event.now (book self.new)) }
         ensures never_falls { faults self.old ≤ faults self.new };
 
+    /// A look at its book for a request that only reads, which is answered from it while others have
+    /// their turns. There is none for a request that changes something, where there is no memory for it,
+    /// and where the desk is broken: then the desk is asked.
+    fn look(&mut self, alloc: Global, event: &Event) -> Option<Look>
+        requires bookable { IsBookable (book self.old).users event.now.who event.now.request }
+        requires from_1970 { pos 0 ≤ℤ event.now.moment }
+        requires to_9999 { event.now.moment ≤ℤ pos 253_402_300_799 }
+        ensures same { book self.new ≡ book self.old }
+        ensures at { IfSome result (IsLookAt (book self.old) event.now) }
+        ensures unbroken { IsSome result → broken self.old ≡ false }
+        ensures broken_kept { broken self.new ≡ broken self.old }
+        ensures never_falls { faults self.old ≤ faults self.new };
+
+    /// A request that was answered from a look, other than by 503, came at a moment.
+    fn came_at(&mut self, moment: i64)
+        requires from_1970 { pos 0 ≤ℤ moment }
+        requires to_9999 { moment ≤ℤ pos 253_402_300_799 }
+        ensures users { (book self.new).users ≡ (book self.old).users }
+        ensures work { (book self.new).work ≡ record (book self.old).work { latest = later (book self.old).work.latest moment } }
+        ensures broken_kept { broken self.new ≡ broken self.old }
+        ensures never_falls { faults self.old ≤ faults self.new };
+
     /// Claims the piece that is to be made next, if there is one. Without memory nothing is changed.
     fn claim(&mut self) -> Result<Option<Claim>, NoMemory>
         ensures users { (book self.new).users ≡ (book self.old).users }
@@ -189,6 +213,14 @@ impl Desk for Book {
         steps: &mut Steps<L>,
     ) -> Told<Never> {
         Told::Reply(self.request(alloc, event, steps))
+    }
+
+    fn look(&mut self, alloc: Global, event: &Event) -> Option<Look> {
+        Book::look(self, alloc, event)
+    }
+
+    fn came_at(&mut self, moment: i64) {
+        Book::came_at(self, moment);
     }
 
     fn claim(&mut self) -> Result<Option<Claim>, NoMemory> {

@@ -1,19 +1,24 @@
 //! The history of the server: its state, and the entries of the changes that led to it. The two are
-//! always in step.
-ghost use Rattle.std.specs.Prelude.{◌≡◌, ◌≤◌, ◌-◌, ℕ, List, [], ◌∷◌, ◌++◌, length, slice_get, Some, IsSome, IfOk, IsOk, OnOk, OnErr, option_map, false};
+//! always in step. Beside them stands the state that looks share, which follows the entries when a look
+//! is made.
+ghost use Rattle.std.specs.Prelude.{◌≡◌, ◌≤◌, ◌-◌, ℕ, List, [], ◌∷◌, ◌++◌, length, map, slice_get, Some, IsSome, IfOk, IsOk, OnOk, OnErr, option_map, false};
 ghost use Rattle.std.specs.Option.{option_copied};
 ghost use Rattle.cal_model.specs.History.KeptChanges.{kept_change, is_deletion};
-ghost use Rattle.cal_model.specs.History.Origins.{origins_after};
+ghost use Rattle.cal_model.specs.History.Journal.{replay, IsLegal};
+ghost use Rattle.cal_model.specs.History.Origins.{AreLive, origins_after};
 ghost use Rattle.cal_model.specs.State.Changes.{effect, delete_object as object_deleted, delete_calendar as calendar_deleted};
 ghost use Rattle.cal_model.specs.State.ServerState.{calendar_at, octets_at};
-ghost use Rattle.cal_journal.specs.KeptEntries.{kept_entry};
+ghost use Rattle.cal_model.specs.State.UserNames.{AreToldApart};
+ghost use Rattle.cal_journal.specs.Behind.{IsBehind};
+ghost use Rattle.cal_journal.specs.KeptEntries.{kept_entry, AreSound};
+ghost use Rattle.collections.specs.Kept.{state_of, users_of, origins_of};
 
 use crate::view::BookView;
 use cal_base::{Arc, NoMemory};
-use cal_journal::{Entry, Journal};
+use cal_journal::{Entry, Journal, follow};
 use cal_model::Change;
 use cal_model::view::Applies;
-use collections::Store;
+use collections::{ShownState, ShownView, Store};
 use privileges::Users;
 use std::alloc::Global;
 use std::marker::Model;
@@ -29,6 +34,9 @@ pub struct Asked {
     pub moment: i64,
 }
 
+/// How many entries one look follows at most, so that it never keeps its turn for long.
+const MOST_FOLLOWED: u64 = 256;
+
 /// The status of a deletion (RFC 9110, 9.3.5).
 const DELETED: u16 = 204;
 
@@ -39,22 +47,25 @@ pub struct History {
     users: Arc<Users>,
     store: Store,
     journal: Journal,
+    /// What looks share: the state at so many entries of the journal.
+    shown: ShownState,
+    followed: u64,
 }
 
 impl Model for History {
     ghost use Rattle.std.specs.Prelude.{map};
     ghost use Rattle.cal_journal.specs.KeptEntries.{kept_entry};
-    ghost use Rattle.cal_book.specs.Keeping.KeptHistories.{Kept, IsInStep};
+    ghost use Rattle.cal_book.specs.Keeping.KeptHistories.{Kept, IsHistory};
 
     ghost Value = { Kept };
 
     ghost view = { λ h. record { users = h.users; store = h.store; journal = map kept_entry h.journal.items; room = h.journal.room } };
 
-    ghost invariant = { λ h. IsInStep h.users h.store (map kept_entry h.journal.items) };
+    ghost invariant = { λ h. IsHistory h.users h.store (map kept_entry h.journal.items) h.shown h.followed };
 }
 
 impl History {
-    ghost use Rattle.cal_book.specs.Keeping.KeptHistories.{IsInStep, IsNext, users_in, directory_in, state_in, origins_in};
+    ghost use Rattle.cal_book.specs.Keeping.KeptHistories.{IsInStep, IsNext, IsShownNow, users_in, directory_in, state_in, origins_in};
     ghost use Rattle.cal_book.specs.Keeping.Deletions.{asked_entry};
     ghost use Rattle.cal_book.specs.Showing.ShownStates.{shown_directory, shown_state, shown_origins};
 
@@ -66,11 +77,17 @@ impl History {
     {
         // A look at how many they are, which tells a proof that their names tell them apart.
         let _count = users.len();
-        let store = Store::new(alloc, Arc::try_clone(&users)?)?;
+        let journal = Journal::new(alloc);
+        let shown_users = Arc::try_clone(&users)?;
+        let shown = ShownState::new(alloc, shown_users)?;
+        let store_users = Arc::try_clone(&users)?;
+        let store = Store::new(alloc, store_users)?;
         Ok(History {
             users,
             store,
-            journal: Journal::new(alloc),
+            journal,
+            shown,
+            followed: 0,
         })
     }
 
@@ -112,6 +129,23 @@ impl History {
     {
         let _journal = &self.journal;
         BookView::new(&self.store)
+    }
+
+    /// The users, shared once more. Takes no memory; it fails only where 2^63 share them.
+    pub fn share_users(&self) -> Result<Arc<Users>, NoMemory>
+        ensures { IfOk result (λ users. users ≡ users_in self.now) }
+    {
+        Arc::try_clone(&self.users)
+    }
+
+    /// A look at the state of now, whatever becomes of it later. What looks share follows the entries
+    /// that came since the last look, at most 256: where more are left, or there is no memory for it,
+    /// there is no look, and the next call goes on from there. Nothing that contracts see changes.
+    pub fn look(&mut self) -> Result<ShownView, NoMemory>
+        ensures same { self.new ≡ self.old }
+        ensures at { IfOk result (IsShownNow self.old) }
+    {
+        look_behind(&self.journal, &mut self.shown, &mut self.followed)
     }
 
     /// Makes room for one entry more. Where there is room already it cannot fail; without memory all
@@ -178,6 +212,34 @@ impl History {
         self.journal
             .push(deletion(asked, Change::DeleteCalendar(home, kept_name)));
     }
+}
+
+/// A look at what follows a journal, once it has followed all of its entries. Where it followed fewer, it
+/// is behind these all the same.
+fn look_behind(
+    journal: &Journal,
+    shown: &mut ShownState,
+    followed: &mut u64,
+) -> Result<ShownView, NoMemory>
+    requires users { AreToldApart (users_of shown.old) }
+    requires legal { IsLegal (users_of shown.old) (map kept_entry journal.now.items) }
+    requires sound { AreSound (users_of shown.old) (map kept_entry journal.now.items) }
+    requires behind { IsBehind (users_of shown.old) (map kept_entry journal.now.items) followed.old (state_of shown.old) (origins_of shown.old) }
+    ensures users { users_of shown.new ≡ users_of shown.old }
+    ensures behind { IsBehind (users_of shown.old) (map kept_entry journal.now.items) followed.new (state_of shown.new) (origins_of shown.new) }
+    ensures directory { IfOk result (λ look. users_of look ≡ users_of shown.old) }
+    ensures state { IfOk result (λ look. state_of look ≡ replay (users_of shown.old) (map kept_entry journal.now.items)) }
+    ensures origins { IfOk result (λ look. AreLive (map kept_entry journal.now.items) (origins_of look)) }
+{
+    follow(journal, shown, followed, MOST_FOLLOWED)?;
+    let count = journal.len();
+    if *followed < count {
+        return Err(NoMemory);
+    }
+    let state = shown.look()?;
+    // A look at the users, which tells a proof that each object has an origin.
+    let _users = state.users();
+    Ok(ShownView::of(state))
 }
 
 /// The entry of a deletion.

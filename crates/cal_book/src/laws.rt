@@ -5,7 +5,7 @@ ghost use Rattle.cal_model.specs.History.Journal.{Entry};
 ghost use Rattle.cal_model.specs.Serving.ServingLaws.{AcceptedHasItsEffect, StatesStaySound, NoReplyWantsMemory, ShownRunsAreTheCalendars};
 ghost use Rattle.cal_model.specs.Sight.SightLaws.{RepliesAreAlike, ReadingChangesNothing, HiddenIsAbsent, ViewsDecide};
 ghost use Rattle.cal_book.specs.Answering.HeldReadings.{HeldReadingsAreFree};
-ghost use Rattle.cal_book.specs.EventSteps.{JournalsFollow};
+ghost use Rattle.cal_book.specs.EventSteps.{JournalsFollow, ReadingsEnterNothing};
 ghost use Rattle.cal_book.specs.LegalJournals.{LegalIsTold};
 ghost use Rattle.cal_book.specs.Publishing.{IsClaimIn};
 ghost use Rattle.cal_book.specs.ReplyReasons.{RepliesHaveReasons};
@@ -15,6 +15,11 @@ ghost use Rattle.cal_book.specs.declared.claims.Claim.{Claim};
 /// The journal after an event is legal, and leads to the state after the event.
 pub fn journals_follow()
     ensures { JournalsFollow }
+{}
+
+/// A request that only reads enters nothing in any journal.
+pub fn readings_enter_nothing()
+    ensures { ReadingsEnterNothing }
 {}
 
 /// A claim stays one of the journal's objects, whatever is entered behind it.

@@ -14,8 +14,11 @@ mod claims;
 mod desk;
 mod ending;
 mod expanding;
+mod gathering;
 mod history;
 mod laws;
+mod look;
+mod looking;
 mod making;
 mod publishing;
 mod reading;
@@ -29,6 +32,7 @@ pub use desk::{Desk, JournalEntry, Never, Told};
 pub use expanding::expand;
 pub use laws::{
     claims_stay, held_readings_are_free, history_laws, journals_are_told, journals_follow,
-    replies_have_reasons, requests_are_complete, sight_laws,
+    readings_enter_nothing, replies_have_reasons, requests_are_complete, sight_laws,
 };
+pub use look::Look;
 pub use view::BookView;

@@ -4,7 +4,7 @@ use Rattle.cal_model.specs.declared.privilege.Grant.{Grant}
 use Rattle.cal_model.specs.declared.privilege.Who.{Who}
 use Rattle.cal_model.specs.declared.privilege.Who.TheVariants.{Everyone, Owner, Principal, Group}
 use Rattle.cal_model.specs.Words.Namespaces.{dav, caldav}
-use Rattle.cal_model.specs.Access.Privileges.{privileges, all, united, set_named, privileges_held, has_all, is_visible, is_home_visible, read, write, read_free_busy}
+use Rattle.cal_model.specs.Access.Privileges.{privileges, all, united, set_named, privileges_held, has_all, read, write, read_free_busy}
 use Rattle.cal_model.specs.State.ServerState.{Directory, groups_of, is_member}
 
 -- a grant of a sum of bits
@@ -29,15 +29,10 @@ of_each : (privileges_held [] shared alice alice ≡ 511) × (privileges_held []
 unfolding privileges_held
 of_each = (refl, refl, refl)
 
--- so bob may ask when she is busy and may not read, and carol sees neither the calendar nor the home
+-- so bob may ask when she is busy and may not read
 asks : (has_all (privileges_held [] shared alice bob) read_free_busy ≡ true) × (has_all (privileges_held [] shared alice bob) read ≡ false)
 unfolding privileges_held
 asks = (refl, refl)
-
-sees : (is_visible [] shared alice bob ≡ true) × (is_visible [] shared alice carol ≡ false) × (is_home_visible [] ([] ∷ shared ∷ []) alice bob ≡ true)
-    × (is_home_visible [] ([] ∷ shared ∷ []) alice carol ≡ false) × (is_home_visible [] [] alice alice ≡ true)
-unfolding privileges_held
-sees = (refl, refl, refl, refl, refl)
 
 -- grants are united, those to everyone among them; one to the owner adds nothing
 several : (privileges_held [] (grant Everyone 1 ∷ grant (Principal bob) 68 ∷ grant Owner 2 ∷ grant (Principal carol) 8 ∷ grant (Principal bob) 65 ∷ []) alice bob ≡ 69)

@@ -12,6 +12,7 @@ use Rattle.cal_model.specs.History.Origins.{Origins, origins_after, AreLive}
 use Rattle.cal_model.proofs.History.JournalLaws.{replay_from-append}
 use Rattle.cal_model.proofs.History.OriginLaws.{AreLive-push}
 use Rattle.cal_journal.specs.declared.entries.Entry.{Entry as KeptEntry}
+use Rattle.cal_journal.specs.Behind.{IsBehind}
 use Rattle.cal_journal.specs.KeptEntries.{kept_entry, AreSound}
 use Rattle.cal_journal.proofs.OwnChanges.{asked_is_own, state_after-effect}
 
@@ -22,11 +23,6 @@ accepted_from directory state [] n other legal within = absurd (omega (arith, wi
 accepted_from directory state (entry ∷ entries) zero other legal within = legal.0
 accepted_from directory state (entry ∷ entries) (suc n) other legal within =
     accepted_from directory (state_after directory state (asked directory entry)) entries n other legal.1 (omega (arith, within))
-
--- what a store has behind the first entries of a journal
-pub record IsBehind (directory : Directory) (entries : List KeptEntry) (n : ℕ) (state : ServerState) (origins : Origins) : Type 0 where
-  pub state_is : state ≡ replay directory (take n (map kept_entry entries))
-  pub live : AreLive (take n (map kept_entry entries)) origins
 
 get_or-kept : (entries : List KeptEntry) (n : ℕ) (entry : KeptEntry) → n < length entries → entry ≡ get_or entries n entry → get_or (map kept_entry entries) n (kept_entry entry) ≡ kept_entry entry
 get_or-kept [] n entry within is = absurd (omega (arith, within))
@@ -47,7 +43,7 @@ module _ (directory : Directory) (entries : List KeptEntry) (n : ℕ) (entry : K
       (accepted_from directory (opening_state directory) (map kept_entry entries) n kept legal (omega (arith, within, length-map entries kept_entry)))
 
   -- the change of the next entry may be made
-  pub IsAcceptable-next : (state : ServerState) (origins : Origins) → IsBehind directory entries n state origins → IsAcceptable directory state kept.change
+  pub IsAcceptable-next : (state : ServerState) (origins : Origins) → IsBehind directory (map kept_entry entries) n state origins → IsAcceptable directory state kept.change
   IsAcceptable-next state origins behind =
       let done : IsAcceptedAt directory state kept = subst (λ s. IsAcceptedAt directory s kept) (sym behind.state_is) accepted_here in
       record {
@@ -66,13 +62,14 @@ module _ (directory : Directory) (entries : List KeptEntry) (n : ℕ) (entry : K
       take_more (map kept_entry entries) n kept (omega (arith, within, length-map entries kept_entry)) ∙ ap (λ e. take n (map kept_entry entries) ++ e ∷ []) here
 
   -- and then the store has what it has behind that entry
-  pub IsBehind-next : (state : ServerState) (origins origins' : Origins) → IsBehind directory entries n state origins
+  pub IsBehind-next : (state : ServerState) (origins origins' : Origins) → IsBehind directory (map kept_entry entries) n state origins
       → ((home : ℕ) (calendar object : List ℕ) → origins' home calendar object ≡ origins_after kept.change n origins home calendar object)
-      → IsBehind directory entries (n + 1) (effect kept.change state) origins'
+      → IsBehind directory (map kept_entry entries) (n + 1) (effect kept.change state) origins'
   IsBehind-next state origins origins' behind made =
       let front = take n (map kept_entry entries) in
       let size : length front ≡ n = length-take-le n (map kept_entry entries) (omega (arith, within, length-map entries kept_entry)) in
       record {
+        within = omega (arith, within, length-map entries kept_entry);
         state_is =
             ap (effect kept.change) behind.state_is
             ∙ sym (state_after-effect directory (replay directory front) kept told accepted_here)

@@ -1,9 +1,10 @@
 //! The state that a journal leads to.
-ghost use Rattle.std.specs.Prelude.{◌≡◌, [], map, IfOk, OnOk};
+ghost use Rattle.std.specs.Prelude.{◌≡◌, ◌≤◌, ◌+◌, [], length, map, min, IfOk, OnOk};
 ghost use Rattle.cal_model.specs.State.ServerState.{opening_state};
 ghost use Rattle.cal_model.specs.State.UserNames.{AreToldApart};
 ghost use Rattle.cal_model.specs.History.Journal.{replay as state_behind, IsLegal};
 ghost use Rattle.cal_model.specs.History.Origins.{AreLive};
+ghost use Rattle.cal_journal.specs.Behind.{IsBehind};
 ghost use Rattle.cal_journal.specs.KeptEntries.{kept_entry, AreSound};
 
 use crate::entries::{Entry, Journal};
@@ -24,25 +25,71 @@ pub fn replay<S: Applies + Drop>(journal: &Journal, store: S) -> Result<S, NoMem
     ensures origins { IfOk result (λ made. AreLive (map kept_entry journal.now.items) (S.origins made)) }
 {
     let mut made = store;
-    match apply_all(journal.entries(), &mut made) {
+    let mut place = 0;
+    match follow(journal, &mut made, &mut place, journal.len()) {
         Ok(()) => Ok(made),
         Err(NoMemory) => Err(NoMemory),
     }
 }
 
-/// Makes the changes of all entries in their order.
-fn apply_all<S: Applies>(entries: &[Entry], store: &mut S) -> Result<(), NoMemory>
+/// Makes the changes of the entries from a place on, at most so many, in a store that is behind those
+/// before it, and moves the place behind the last that was made. Without memory some of them may have
+/// been made, as the place tells, and the store is behind these; the next call goes on from there.
+pub fn follow<S: Applies>(
+    journal: &Journal,
+    store: &mut S,
+    place: &mut u64,
+    most: u64,
+) -> Result<(), NoMemory>
     requires users { AreToldApart (S.directory store.old) }
-    requires opening { S.state store.old ≡ opening_state (S.directory store.old) }
-    requires no_objects { AreLive [] (S.origins store.old) }
+    requires legal { IsLegal (S.directory store.old) (map kept_entry journal.now.items) }
+    requires sound { AreSound (S.directory store.old) (map kept_entry journal.now.items) }
+    requires behind { IsBehind (S.directory store.old) (map kept_entry journal.now.items) place.old (S.state store.old) (S.origins store.old) }
+    ensures users { S.directory store.new ≡ S.directory store.old }
+    ensures behind { IsBehind (S.directory store.old) (map kept_entry journal.now.items) place.new (S.state store.new) (S.origins store.new) }
+    ensures forward { place.old ≤ place.new }
+    ensures most { place.new ≤ place.old + most }
+    ensures ok { OnOk result (place.new ≡ min (place.old + most) (length journal.now.items)) }
+{
+    let end = end_of(*place, most, journal.len());
+    apply_up_to(journal.entries(), store, place, end)
+}
+
+/// The place behind at most so many entries from a place on.
+fn end_of(place: u64, most: u64, count: u64) -> u64
+    requires { place ≤ count }
+    ensures { result ≡ min (place + most) count }
+{
+    if most < count - place {
+        place + most
+    } else {
+        count
+    }
+}
+
+/// Makes the changes of the entries from a place up to another in their order.
+fn apply_up_to<S: Applies>(
+    entries: &[Entry],
+    store: &mut S,
+    place: &mut u64,
+    end: u64,
+) -> Result<(), NoMemory>
+    requires users { AreToldApart (S.directory store.old) }
     requires legal { IsLegal (S.directory store.old) (map kept_entry entries.now) }
     requires sound { AreSound (S.directory store.old) (map kept_entry entries.now) }
-    ensures users { OnOk result (S.directory store.new ≡ S.directory store.old) }
-    ensures state { OnOk result (S.state store.new ≡ state_behind (S.directory store.old) (map kept_entry entries.now)) }
-    ensures origins { OnOk result (AreLive (map kept_entry entries.now) (S.origins store.new)) }
+    requires behind { IsBehind (S.directory store.old) (map kept_entry entries.now) place.old (S.state store.old) (S.origins store.old) }
+    requires from { place.old ≤ end }
+    requires within { end ≤ length entries.now }
+    ensures users { S.directory store.new ≡ S.directory store.old }
+    ensures behind { IsBehind (S.directory store.old) (map kept_entry entries.now) place.new (S.state store.new) (S.origins store.new) }
+    ensures forward { place.old ≤ place.new }
+    ensures most { place.new ≤ end }
+    ensures ok { OnOk result (place.new ≡ end) }
 {
-    for (number, entry) in entries.iter().enumerate() {
-        store.apply(&entry.change, number as u64)?;
+    'entries: while *place < end {
+        let at = *place as usize;
+        store.apply(&entries[at].change, *place)?;
+        *place += 1;
     }
     Ok(())
 }

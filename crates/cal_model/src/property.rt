@@ -2,7 +2,7 @@
 
 ghost use Rattle.std.specs.Prelude.{◌≡◌, IfOk};
 
-use cal_base::{List, NoMemory, Octets};
+use cal_base::{Copies, List, NoMemory, Octets};
 use std::alloc::Global;
 
 /// The name of a property.
@@ -54,4 +54,10 @@ pub fn copy_setting(alloc: Global, set: &PropSet) -> Result<PropSet, NoMemory>
         None => None,
     };
     Ok(PropSet { name, value })
+}
+
+impl Copies for PropSet {
+    fn copied(&self, alloc: Global) -> Result<PropSet, NoMemory> {
+        copy_setting(alloc, self)
+    }
 }

@@ -1,5 +1,5 @@
 //! What holds a state of the server and shows it, and what a change is made in.
-ghost use Rattle.std.specs.Prelude.{◌≡◌, ◌<◌, ℕ, false, List, length, Option, Some, ℤ, IfSome, OnOk, OnErr};
+ghost use Rattle.std.specs.Prelude.{◌≡◌, ◌<◌, ℕ, List, length, Option, Some, ℤ, IfSome, OnOk, OnErr};
 ghost use Rattle.std.specs.Borrow.{Bor};
 ghost use Rattle.std.specs.Option.{option_copied, option_map};
 ghost use Rattle.cal_model.specs.State.ServerState.{Directory, ServerState, octets_at, user_name as name_of_user, user_number, group_name as name_of_group, group_number, is_member as is_in};
@@ -8,7 +8,7 @@ ghost use Rattle.cal_model.specs.State.SoundStates.{IsSound, IsSoundChange};
 ghost use Rattle.cal_model.specs.State.UserNames.{AreToldApart};
 ghost use Rattle.cal_model.specs.State.StoredData.{data_at, next_calendar, next_object};
 ghost use Rattle.cal_model.specs.History.Origins.{Origins, AreOrigins, origins_after};
-ghost use Rattle.cal_model.specs.History.KeptChanges.{kept_change, is_deletion, IsAtPlace, IsAcceptable};
+ghost use Rattle.cal_model.specs.History.KeptChanges.{kept_change, IsAtPlace, IsAcceptable};
 ghost use Rattle.cal_model.specs.declared.store.CalendarData.{CalendarData as Data};
 ghost use Rattle.cal_model.specs.declared.stored.Stored.{Stored as Kept};
 ghost use Rattle.cal_model.specs.declared.row.Row.{Row as RowSpec};
@@ -105,14 +105,13 @@ pub trait Applies {
 
     /// Makes a change that is accepted in this state, as the entry of a number: one that names what
     /// can be named, and grants to users and groups that there are. After `NoMemory` nothing is
-    /// changed. A deletion takes no memory and succeeds.
+    /// changed. Where a deletion takes no memory, the type in which it is made says so.
     fn apply(&mut self, change: &Change, origin: u64) -> Result<(), NoMemory>
         requires acceptable { IsAcceptable (directory self.old) (state self.old) (kept_change change.now) }
         requires sound { IsSoundChange (directory self.old) (kept_change change.now) }
         ensures users { directory self.new ≡ directory self.old }
         ensures state { OnOk result (state self.new ≡ effect (kept_change change.now) (state self.old)) }
         ensures origins { OnOk result ((home : ℕ) (calendar object : List ℕ) → origins self.new home calendar object ≡ origins_after (kept_change change.now) origin (origins self.old) home calendar object) }
-        ensures err_only_where_it_adds { OnErr result (is_deletion (kept_change change.now) ≡ false) }
         ensures unchanged { OnErr result (self.new ≡ self.old) };
 }
 

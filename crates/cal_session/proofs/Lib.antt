@@ -3,6 +3,7 @@ pub mod TurnLaws
 pub mod StepLemmas
 pub mod SessionLaws
 pub mod StartLaws
+pub mod EndLaws
 pub mod AskingLemmas
 pub mod AnswerLaws
 pub mod ReplyLemmas

@@ -1,10 +1,14 @@
 -- A session under way: all that the octets so far complete in front of a place was answered.
 -- Given: as in Sessions; and the wire, or what is left of the octets behind the requests that were answered.
-use Rattle.std.specs.Prelude.{◌≡◌, ◌⊎◌, ℕ, ◌≤◌, true, List, length, Result, Ok, Err, Option, Some, None}
+use Rattle.std.specs.Prelude.{◌≡◌, ◌⊎◌, ℕ, ◌≤◌, true, List, ◌++◌, length, Result, Ok, Err, Option, Some, None}
+use Rattle.turn_lock.specs.Passes.{PassState}
 use Rattle.http_wire.specs.Wires.{Stands}
 use Rattle.http_wire.specs.declared.wire.Wire.{Wire}
+use Rattle.cal_model.specs.History.Journal.{Entry}
 use Rattle.cal_model.specs.Streams.StreamRequests.{Spells, Front, front, idle, cut}
 use Rattle.cal_model.specs.Transcripts.ConnectionAnswers.{is_open}
+use Rattle.cal_model.specs.Users.UsersFile.{Users}
+use Rattle.cal_session.specs.AskedTurns.{IsLater}
 use Rattle.cal_session.specs.Connections.{requests_of}
 use Rattle.cal_session.specs.SessionStates.{Environment, SessionState, HasSeenMore}
 use Rattle.cal_session.specs.Sessions.{whole_exchange, HasRun, HasServed, HasBroken}
@@ -51,6 +55,18 @@ EndsIn environment before after turns how = HasServed environment before after (
 abbrev pub StopsSo : {X : Type 0} → Environment → SessionState → SessionState → List Served → Stop X → Type 0
 StopsSo environment before after turns (Ended how) = EndsIn environment before after turns how
 StopsSo environment before after turns (Broken fault) = HasBroken environment before after turns
+
+-- a pass had turns, or none, in which it added nothing
+pub record HasOnlyLooked (old new : PassState Entry Users) : Type 0 where
+  pub pass : HasSeenMore old new
+  pub others : IsLater old new.seen
+  pub looks : List ℕ
+  pub grown : new.looks ≡ old.looks ++ looks
+
+-- so it was behind the end of a session; one whose desk broke had none
+abbrev pub HasLastTurn : {X : Type 0} → Stop X → PassState Entry Users → PassState Entry Users → Type 0
+HasLastTurn (Ended how) old new = HasOnlyLooked old new
+HasLastTurn (Broken fault) old new = new ≡ old
 
 -- the end of a session that stopped so, with the turns that were noted
 abbrev pub IsEndWith : {X : Type 0} → Stop X → List Served → OnEnd X → Type 0

@@ -14,10 +14,11 @@ ghost use Rattle.http_wire.specs.Wires.{Stands};
 ghost use Rattle.turn_lock.specs.Passes.{PassState};
 
 use crate::context::Context;
+use crate::counts::Counts;
 use crate::served::{How, Served};
 use crate::turn::ask_once;
 use crate::writing::{send_fault, send_reply};
-use cal_base::{Clock, Link, ReservedList, Steps};
+use cal_base::{Clock, Gate, Link, ReservedList};
 use cal_book::{Desk, Told, replies_have_reasons};
 use cal_model::{Event, Reply};
 use dav_request::{Asked, read_request};
@@ -36,14 +37,14 @@ pub(crate) enum Stop<X> {
 
 /// Answers one after the other the requests that are whole, until one closes the connection, or
 /// nothing more is whole.
-pub(crate) fn answer_due<B: Desk, L: Link, C: Clock, R: Wait, G: Ledger>(
-    context: &Context<'_, R, B>,
+pub(crate) fn answer_due<B: Desk, L: Link, C: Clock, R: Wait, T: Gate, G: Ledger>(
+    context: &Context<'_, R, B, T>,
     pass: &mut Pass<B>,
     wire: &mut Wire,
     turns: &mut ReservedList<Served>,
     link: &mut L,
     clock: &mut C,
-    steps: &mut Steps<G>,
+    counts: &mut Counts<G>,
 ) -> Result<(), Stop<B::Fault>>
     requires same { pass.old.lock ≡ context.now.lock.now }
     requires free { pass.old.holds_turn ≡ false }
@@ -58,7 +59,7 @@ pub(crate) fn answer_due<B: Desk, L: Link, C: Clock, R: Wait, G: Ledger>(
     ensures never_falls { L.faults link.old ≤ L.faults link.new }
 {
     'due: loop {
-        match answer_next(context, pass, wire, turns, link, clock, steps) {
+        match answer_next(context, pass, wire, turns, link, clock, counts) {
             Due::Answered => {}
             Due::Waits => return Ok(()),
             Due::Stops(stop) => return Err(stop),
@@ -76,14 +77,14 @@ enum Due<X> {
 }
 
 /// Answers the next request, if it is whole.
-fn answer_next<B: Desk, L: Link, C: Clock, R: Wait, G: Ledger>(
-    context: &Context<'_, R, B>,
+fn answer_next<B: Desk, L: Link, C: Clock, R: Wait, T: Gate, G: Ledger>(
+    context: &Context<'_, R, B, T>,
     pass: &mut Pass<B>,
     wire: &mut Wire,
     turns: &mut ReservedList<Served>,
     link: &mut L,
     clock: &mut C,
-    steps: &mut Steps<G>,
+    counts: &mut Counts<G>,
 ) -> Due<B::Fault>
     requires same { pass.old.lock ≡ context.now.lock.now }
     requires free { pass.old.holds_turn ≡ false }
@@ -104,7 +105,7 @@ fn answer_next<B: Desk, L: Link, C: Clock, R: Wait, G: Ledger>(
         Next::NoMemory => Due::Stops(Stop::Ended(How::NoMemory)),
         Next::Fault(why) => Due::Stops(Stop::Ended(refuse(context, why, link, clock))),
         Next::Request(request) => {
-            let answered = answer_request(context, pass, &request, turns, link, clock, steps);
+            let answered = answer_request(context, pass, &request, turns, link, clock, counts);
             drop(request);
             match answered {
                 Ok(()) => Due::Answered,
@@ -115,8 +116,8 @@ fn answer_next<B: Desk, L: Link, C: Clock, R: Wait, G: Ledger>(
 }
 
 /// Writes the reply to a fault of the octets, behind which nothing is read.
-fn refuse<B: Desk, L: Link, C: Clock, R>(
-    context: &Context<'_, R, B>,
+fn refuse<B: Desk, L: Link, C: Clock, R, T>(
+    context: &Context<'_, R, B, T>,
     why: WireFault,
     link: &mut L,
     clock: &mut C,
@@ -134,14 +135,14 @@ fn refuse<B: Desk, L: Link, C: Clock, R>(
 }
 
 /// Answers one request: notes its turn, and writes its reply.
-fn answer_request<B: Desk, L: Link, C: Clock, R: Wait, G: Ledger>(
-    context: &Context<'_, R, B>,
+fn answer_request<B: Desk, L: Link, C: Clock, R: Wait, T: Gate, G: Ledger>(
+    context: &Context<'_, R, B, T>,
     pass: &mut Pass<B>,
     wire: &WireRequest,
     turns: &mut ReservedList<Served>,
     link: &mut L,
     clock: &mut C,
-    steps: &mut Steps<G>,
+    counts: &mut Counts<G>,
 ) -> Result<(), Stop<B::Fault>>
     requires same { pass.old.lock ≡ context.now.lock.now }
     requires free { pass.old.holds_turn ≡ false }
@@ -158,7 +159,7 @@ fn answer_request<B: Desk, L: Link, C: Clock, R: Wait, G: Ledger>(
     ensures never_falls { L.faults link.old ≤ L.faults link.new }
 {
     let moment = clock.now();
-    match reply_to(context, pass, wire, moment, steps) {
+    match reply_to(context, pass, wire, moment, counts) {
         Err(fault) => Err(Stop::Broken(fault)),
         Ok((at, reply)) => {
             let before = turns.len();
@@ -180,12 +181,12 @@ fn answer_request<B: Desk, L: Link, C: Clock, R: Wait, G: Ledger>(
 /// The reply to a request, and how many entries there were when it was answered; or the fault of a
 /// desk that broke. The request is read before the turn. One that is refused as it stands needs no
 /// turn, and is answered at what the pass has seen.
-fn reply_to<B: Desk, R: Wait, G: Ledger>(
-    context: &Context<'_, R, B>,
+fn reply_to<B: Desk, R: Wait, T: Gate, G: Ledger>(
+    context: &Context<'_, R, B, T>,
     pass: &mut Pass<B>,
     wire: &WireRequest,
     moment: i64,
-    steps: &mut Steps<G>,
+    counts: &mut Counts<G>,
 ) -> Result<(u64, Reply), B::Fault>
     requires same { pass.old.lock ≡ context.now.lock.now }
     requires free { pass.old.holds_turn ≡ false }
@@ -205,7 +206,7 @@ fn reply_to<B: Desk, R: Wait, G: Ledger>(
                 moment,
                 request,
             };
-            let (at, told) = ask_once(context, pass, &event, steps);
+            let (at, told) = ask_once(context, pass, &event, counts);
             drop(event);
             match told {
                 Told::Reply(reply) => Ok((at, reply)),

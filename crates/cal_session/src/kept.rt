@@ -9,7 +9,7 @@ ghost use Rattle.cal_session.specs.KeptBooks.{IsKeptOf};
 ghost use Rattle.cal_session.specs.KeptSteps.{HasKept};
 
 use cal_base::{Failed, NoMemory, Steps};
-use cal_book::{Book, Claim, Desk, Expanded, JournalEntry, Publish, Told, journals_are_told};
+use cal_book::{Book, Claim, Desk, Expanded, JournalEntry, Look, Publish, Told, journals_are_told};
 use cal_keeper::{Disk, DiskFault, Keeper, file_laws};
 use cal_model::Event;
 use privileges::Users;
@@ -131,6 +131,18 @@ impl<D: Disk> Desk for Kept<D> {
                 Told::Broken(fault)
             }
         }
+    }
+
+    /// A look shows what is in the file already: an entry is made and appended in one turn.
+    fn look(&mut self, alloc: Global, event: &Event) -> Option<Look> {
+        if let Some(_) = self.keeper.fault() {
+            return None;
+        }
+        self.book.look(alloc, event)
+    }
+
+    fn came_at(&mut self, moment: i64) {
+        self.book.came_at(moment);
     }
 
     fn claim(&mut self) -> Result<Option<Claim>, NoMemory> {

@@ -13,8 +13,10 @@ ghost use Rattle.turn_lock.specs.Passes.{PassState};
 
 use crate::answering::{Stop, answer_due};
 use crate::context::Context;
+use crate::counts::Counts;
 use crate::served::{Ended, How, OnEnd, Served};
-use cal_base::{Clock, Link, NoMemory, ReservedList, Steps};
+use crate::turn::tell_at_end;
+use cal_base::{Clock, Gate, Link, NoMemory, OpenGate, ReservedList, Steps};
 use cal_book::{Desk, journals_are_told};
 use http_wire::{REQUEST_LIMIT, Wire};
 use privileges::Users;
@@ -27,8 +29,9 @@ use turn_lock::{Pass, TurnLock};
 /// How many octets are asked for at a time.
 const PIECE: usize = 16_384;
 
-/// Serves a connection: reads its requests, and answers each in a turn of its own at the desk, until
-/// the connection ends. A request is read before its turn and its reply is written after it.
+/// Serves a connection: reads its requests, and answers each by a turn of its own at the desk, until
+/// the connection ends. A request is read before its turn and its reply is written after it. One that
+/// only reads is answered from a look at the desk, once the turn was given back, where there is one.
 ///
 /// The replies are those of the users' one history, each at the place that its turn tells, or 503 for
 /// want of memory; what the session changed stands there once each, under the pass's number. What was
@@ -53,22 +56,47 @@ pub fn serve_on<B: Desk, L: Link, C: Clock, R: Wait>(
     ensures clock { C.moment clock.new ≡ C.moment clock.old }
     ensures never_falls { L.faults link.old ≤ L.faults link.new }
 {
+    serve_behind(rt, alloc, lock, pass, users, link, clock, &OpenGate::new())
+}
+
+/// The same, where a gate is passed with its place before a request is answered from a look, so that a
+/// test can hold the answer.
+pub fn serve_behind<B: Desk, L: Link, C: Clock, R: Wait, T: Gate>(
+    rt: &R,
+    alloc: Global,
+    lock: &TurnLock<B>,
+    pass: &mut Pass<B>,
+    users: &Users,
+    link: &mut L,
+    clock: &mut C,
+    gate: &T,
+) -> OnEnd<B::Fault>
+    requires same { pass.old.lock ≡ lock.now }
+    requires free { pass.old.holds_turn ≡ false }
+    requires users { pass.old.base ≡ Some users.now }
+    ensures pass { pass.new ≡ record pass.old { seen = pass.new.seen; looks = pass.new.looks } }
+    ensures session { HasServedOn (environment_of C.Clock users.now clock.old) (session_state L.Link pass.old link.old) (session_state L.Link pass.new link.new) result }
+    ensures legal { IsLegal (directory_of users.now) pass.new.seen }
+    ensures clock { C.moment clock.new ≡ C.moment clock.old }
+    ensures never_falls { L.faults link.old ≤ L.faults link.new }
+{
     let context = Context {
         rt,
         alloc,
         lock,
         users,
+        gate,
     };
-    let end = serve_under::<B, L, C, R, Brand>(&context, pass, link, clock, Blank::new(1));
+    let end = serve_under::<B, L, C, R, T, Brand>(&context, pass, link, clock, Blank::new(1));
     // A look at what was seen, and the law of the test that it passes, tell a proof that it is legal.
     let _seen = pass.seen_len();
     journals_are_told();
     end
 }
 
-/// The same, with a ledger for the steps of expansion, which are not counted here.
-fn serve_under<B: Desk, L: Link, C: Clock, R: Wait, G: Ledger>(
-    context: &Context<'_, R, B>,
+/// The same, with a ledger for the steps of expansion, of which nothing is told.
+fn serve_under<B: Desk, L: Link, C: Clock, R: Wait, T: Gate, G: Ledger>(
+    context: &Context<'_, R, B, T>,
     pass: &mut Pass<B>,
     link: &mut L,
     clock: &mut C,
@@ -85,24 +113,31 @@ fn serve_under<B: Desk, L: Link, C: Clock, R: Wait, G: Ledger>(
     ensures clock { C.moment clock.new ≡ C.moment clock.old }
     ensures never_falls { L.faults link.old ≤ L.faults link.new }
 {
-    let mut steps = Steps::<G>::open(blank);
+    let mut counts = Counts::new(Steps::<G>::open(blank));
     let mut turns = ReservedList::new(context.alloc);
     let mut wire = Wire::new(context.alloc);
     let stop = serve_new(
-        context, pass, &mut wire, &mut turns, link, clock, &mut steps,
+        context,
+        pass,
+        &mut wire,
+        &mut turns,
+        link,
+        clock,
+        &mut counts,
     );
+    tell_at_end(context, pass, &stop, &mut counts);
     end_with(stop, turns)
 }
 
 /// Serves a connection of which nothing was read yet, where there is memory for its turns and reads.
-fn serve_new<B: Desk, L: Link, C: Clock, R: Wait, G: Ledger>(
-    context: &Context<'_, R, B>,
+fn serve_new<B: Desk, L: Link, C: Clock, R: Wait, T: Gate, G: Ledger>(
+    context: &Context<'_, R, B, T>,
     pass: &mut Pass<B>,
     wire: &mut Wire,
     turns: &mut ReservedList<Served>,
     link: &mut L,
     clock: &mut C,
-    steps: &mut Steps<G>,
+    counts: &mut Counts<G>,
 ) -> Stop<B::Fault>
     requires same { pass.old.lock ≡ context.now.lock.now }
     requires free { pass.old.holds_turn ≡ false }
@@ -117,22 +152,22 @@ fn serve_new<B: Desk, L: Link, C: Clock, R: Wait, G: Ledger>(
     match prepare(context.alloc, turns) {
         Ok(mut piece) => {
             let piece = piece.as_mut_slice();
-            serve_all(context, pass, wire, piece, turns, link, clock, steps)
+            serve_all(context, pass, wire, piece, turns, link, clock, counts)
         }
         Err(NoMemory) => Stop::Ended(How::NoMemory),
     }
 }
 
 /// Reads and answers until the session stops.
-fn serve_all<B: Desk, L: Link, C: Clock, R: Wait, G: Ledger>(
-    context: &Context<'_, R, B>,
+fn serve_all<B: Desk, L: Link, C: Clock, R: Wait, T: Gate, G: Ledger>(
+    context: &Context<'_, R, B, T>,
     pass: &mut Pass<B>,
     wire: &mut Wire,
     piece: &mut [u8],
     turns: &mut ReservedList<Served>,
     link: &mut L,
     clock: &mut C,
-    steps: &mut Steps<G>,
+    counts: &mut Counts<G>,
 ) -> Stop<B::Fault>
     requires same { pass.old.lock ≡ context.now.lock.now }
     requires free { pass.old.holds_turn ≡ false }
@@ -147,7 +182,7 @@ fn serve_all<B: Desk, L: Link, C: Clock, R: Wait, G: Ledger>(
     ensures never_falls { L.faults link.old ≤ L.faults link.new }
 {
     'reading: loop {
-        match answer_due(context, pass, wire, turns, link, clock, steps) {
+        match answer_due(context, pass, wire, turns, link, clock, counts) {
             Err(stop) => return stop,
             Ok(()) => match take_piece(context.alloc, wire, piece, link) {
                 Some(how) => return Stop::Ended(how),

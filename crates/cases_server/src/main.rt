@@ -23,6 +23,7 @@ mod journal_threads;
 mod journals;
 mod kept;
 mod kept_runs;
+mod looks;
 mod passes;
 mod props;
 mod props_texts;

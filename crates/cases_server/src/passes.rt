@@ -4,9 +4,9 @@ ghost use Rattle.std.specs.Prelude.{◌≡◌, false, Some, IfOk};
 
 use crate::runs::{ALL, MOMENT, link_of};
 use crate::texts::print_octets;
-use cal_base::{FixedClock, MemoryLink, NoMemory, OpenGate};
+use cal_base::{FixedClock, Gate, MemoryLink, NoMemory, OpenGate};
 use cal_book::{Book, Desk};
-use cal_session::{Ended, OnEnd, serve_on};
+use cal_session::{Ended, OnEnd, serve_behind};
 use expansion_workers::work;
 use privileges::Users;
 use std::alloc::Global;
@@ -38,7 +38,41 @@ fn first_status(ended: &Ended) -> u16 {
     }
 }
 
-/// Serves a connection of one request, and gives the status of its reply and the link with what was written.
+/// Serves a connection of one request behind a gate, and gives the status of its reply and the link with what
+/// was written.
+pub fn asked_behind<B: Desk, R: Wait, T: Gate>(
+    rt: &R,
+    server: &Server<'_, B>,
+    pass: &mut Pass<B>,
+    octets: &[u8],
+    gate: &T,
+) -> Result<(u16, MemoryLink), NoMemory>
+    requires same { pass.old.lock ≡ server.now.lock.now }
+    requires free { pass.old.holds_turn ≡ false }
+    requires users { pass.old.base ≡ Some server.now.users.now }
+    ensures { pass.new ≡ record pass.old { seen = pass.new.seen; looks = pass.new.looks } }
+{
+    let alloc = server.alloc;
+    let mut clock = FixedClock::new(MOMENT);
+    let mut link = link_of(alloc, octets, None, ALL)?;
+    let end = serve_behind(
+        rt,
+        alloc,
+        server.lock,
+        pass,
+        server.users,
+        &mut link,
+        &mut clock,
+        gate,
+    );
+    let status = match end {
+        OnEnd::Ended(ended) => first_status(&ended),
+        OnEnd::Broken(..) => 0,
+    };
+    Ok((status, link))
+}
+
+/// The same with no gate.
 pub fn asked<B: Desk, R: Wait>(
     rt: &R,
     server: &Server<'_, B>,
@@ -50,23 +84,7 @@ pub fn asked<B: Desk, R: Wait>(
     requires users { pass.old.base ≡ Some server.now.users.now }
     ensures { pass.new ≡ record pass.old { seen = pass.new.seen; looks = pass.new.looks } }
 {
-    let alloc = server.alloc;
-    let mut clock = FixedClock::new(MOMENT);
-    let mut link = link_of(alloc, octets, None, ALL)?;
-    let end = serve_on(
-        rt,
-        alloc,
-        server.lock,
-        pass,
-        server.users,
-        &mut link,
-        &mut clock,
-    );
-    let status = match end {
-        OnEnd::Ended(ended) => first_status(&ended),
-        OnEnd::Broken(..) => 0,
-    };
-    Ok((status, link))
+    asked_behind(rt, server, pass, octets, &OpenGate::new())
 }
 
 /// Serves a connection of one request, and gives the status of its reply.

@@ -1,6 +1,7 @@
 //! Sessions and workers that share a server, each time one without entries.
 ghost use Rattle.std.specs.Prelude.{◌≡◌, false, Some};
 
+use crate::looks::{print_beside, print_claims_later};
 use crate::passes::{Server, print_split, print_work, split_off};
 use crate::runs::service;
 use crate::threads::{print_gate, print_race};
@@ -12,7 +13,7 @@ use std::sync::Wait;
 use std::thread::Threads;
 use turn_lock::Pass;
 
-/// What is shown of two passes.
+/// What is shown of two passes, or of a third beside them.
 #[derive(Clone, Copy)]
 enum Scene {
     /// What a session sees that another pass put.
@@ -23,10 +24,21 @@ enum Scene {
     Race,
     /// That a query is answered while the expansion of a worker is held.
     Gate,
+    /// What a report shows that is held while it is worked out, and what others put and read meanwhile.
+    Beside,
+    /// How many pieces are claimed behind a report of a later year.
+    Later,
 }
 
 /// All of it, in the order in which it is printed.
-const SCENES: [Scene; 4] = [Scene::Split, Scene::Work, Scene::Race, Scene::Gate];
+const SCENES: [Scene; 6] = [
+    Scene::Split,
+    Scene::Work,
+    Scene::Race,
+    Scene::Gate,
+    Scene::Beside,
+    Scene::Later,
+];
 
 /// Prints what is shown of the first pass of a server and of one that is split from it.
 fn print_at<R: Threads + Wait + Sync + Print>(
@@ -44,6 +56,8 @@ fn print_at<R: Threads + Wait + Sync + Print>(
             Scene::Work => print_work(rt, server, first, second),
             Scene::Race => print_race(rt, server, first, second),
             Scene::Gate => print_gate(rt, server, first, second),
+            Scene::Beside => print_beside(rt, server, first, second),
+            Scene::Later => print_claims_later(rt, server, first, second),
         },
         Err(NoMemory) => println!(rt; "out of memory"),
     }

@@ -152,7 +152,9 @@ fn print_run<R: Print>(rt: &R, run: &Run) -> io::Result<()> {
 /// of its own, of which is printed how many there were, and how many of them were cut without an entry
 /// and without a reply. Behind the cases: what a session sees that another pass put, with the reply;
 /// what a worker does; what two sessions in two threads are answered that change one object by one tag;
-/// and that a query is answered while the expansion of a worker is held.
+/// that a query is answered while the expansion of a worker is held; what a report shows that is held while
+/// it is worked out, and what others put and read meanwhile; and how many pieces are claimed behind a report
+/// of a later year, whose moment is told at the end of its session.
 pub fn print_sessions<R: Threads + Wait + Sync + Print>(
     rt: &R,
     alloc: Global,

@@ -18,11 +18,22 @@ use turn_lock::Pass;
 const CHANGE: &[u8] =
     b"PUT /calendars/alice/calendar/one.ics HTTP/1.1\r\nHost: h\r\nAuthorization: Basic YWxpY2U6YWJj\r\nContent-Type: text/calendar\r\nIf-Match: \"e2b908a58297f6090922388fbe2f52e0c09d7f6986555b4ac3424e3347f2b4e5\"\r\nContent-Length: 173\r\n\r\nBEGIN:VCALENDAR\r\nVERSION:2.0\r\nPRODID:-//a//EN\r\nBEGIN:VEVENT\r\nUID:one\r\nDTSTAMP:20250101T000000Z\r\nDTSTART:20250310T110000Z\r\nDTEND:20250310T120000Z\r\nEND:VEVENT\r\nEND:VCALENDAR\r\n";
 
-/// A gate that holds a worker, which has its claim by then, until it is opened.
+/// A gate that holds who comes to it until it is opened: a worker, which has its claim by then, or a
+/// session, which has its look and has given its turn back.
 #[derive(Drop)]
-struct ShutGate {
-    is_held: AtomicU64,
-    is_open: AtomicU64,
+pub struct ShutGate {
+    pub is_held: AtomicU64,
+    pub is_open: AtomicU64,
+}
+
+impl ShutGate {
+    /// A gate to which nobody came.
+    pub fn new() -> ShutGate {
+        ShutGate {
+            is_held: AtomicU64::new(0),
+            is_open: AtomicU64::new(0),
+        }
+    }
 }
 
 impl Gate for ShutGate {
@@ -33,7 +44,7 @@ impl Gate for ShutGate {
 }
 
 /// Waits until a flag is set.
-fn await_flag<R: Wait>(rt: &R, flag: &AtomicU64) {
+pub fn await_flag<R: Wait>(rt: &R, flag: &AtomicU64) {
     'looks: for _ in rt.forever() {
         if flag.load(Ordering::SeqCst) == 1 {
             return;
@@ -193,10 +204,7 @@ pub fn print_gate<R: Threads + Wait + Sync + Print>(
 {
     let mut first = first;
     answer(rt, server, &mut first, PUT);
-    let gate = ShutGate {
-        is_held: AtomicU64::new(0),
-        is_open: AtomicU64::new(0),
-    };
+    let gate = ShutGate::new();
     let ((worked, first), (status, second)) = answer_beside(rt, server, first, second, &gate);
     let _entries = joined(server, first, second);
     println!(rt;

@@ -16,7 +16,7 @@ use Rattle.cal_model.specs.Refusals.Preconditions.{has_uid, uid_of, holder}
 use Rattle.object_walk.specs.declared.entry.ObjectEntry.{ObjectEntry}
 use Rattle.collections.specs.KeptCalendars.{KeptObject, KeptCalendar, each_value}
 use Rattle.collections.specs.Objects.{IsIndexed, IsAlone, ArePlaced}
-use Rattle.collections.specs.Calendars.{kept_entry, kept_with, IsCalendar}
+use Rattle.collections.specs.Calendars.{kept_entry, kept_with, IsCalendar, IsShownCalendar}
 use Rattle.collections.specs.Settings.{texts_of}
 use Rattle.cal_model.specs.State.PropertyTexts.{prop_order, as_settings}
 use Rattle.cal_model.specs.State.ServerState.{own_zone}
@@ -60,11 +60,32 @@ there by_name name octets at = by (value_at by_name name) refl (sym (octets_at-i
 octets_of_there : (by_name : Named ObjectEntry) (name : List ℕ) (entry : ObjectEntry) → value_at by_name name ≡ Some entry → value_at (octets_in by_name) name ≡ Some entry.stored.octets
 octets_of_there by_name name entry is = octets_at-in by_name name ∙ ap (option_map entry_octets) is
 
-module _ (name : List ℕ) (kept : CalendarData) (by_name : Named ObjectEntry) (by_uid : Named Stored) (calendar : IsCalendar name kept by_name by_uid) (shown : KeptCalendar) (is : kept_with name kept by_name ≡ shown) where
+-- A calendar with its index, and the same without it
+
+pub without_index : {name : List ℕ} {kept : CalendarData} {by_name : Named ObjectEntry} {by_uid : Named Stored} → IsCalendar name kept by_name by_uid → IsShownCalendar name kept by_name
+without_index calendar = record {
+  zone = calendar.zone;
+  set = calendar.set;
+  in_order = calendar.in_order;
+  names_in_order = calendar.indexed.names_in_order;
+  named = calendar.indexed.named;
+  placed = calendar.placed;
+}
+
+pub with_index : {name : List ℕ} {kept : CalendarData} {by_name : Named ObjectEntry} {by_uid : Named Stored} → IsShownCalendar name kept by_name → IsIndexed by_name by_uid → IsCalendar name kept by_name by_uid
+with_index calendar indexed = record {
+  zone = calendar.zone;
+  set = calendar.set;
+  in_order = calendar.in_order;
+  indexed = indexed;
+  placed = calendar.placed;
+}
+
+module _ (name : List ℕ) (kept : CalendarData) (by_name : Named ObjectEntry) (calendar : IsShownCalendar name kept by_name) (shown : KeptCalendar) (is : kept_with name kept by_name ≡ shown) where
   pub place_shown : (object : List ℕ) (entry : ObjectEntry) → value_at by_name object ≡ Some entry → IsAtPlace shown.home shown.name object entry.stored.path
   place_shown object entry at =
       subst (λ (k : KeptCalendar). IsAtPlace k.home k.name object entry.stored.path) is
-      (record { home_is = (calendar.placed object entry at).0; calendar_is = (calendar.placed object entry at).1; object_is = calendar.indexed.named object entry at })
+      (record { home_is = (calendar.placed object entry at).0; calendar_is = (calendar.placed object entry at).1; object_is = calendar.named object entry at })
 
   pub object_shown : (object : List ℕ) → option_map kept_entry (value_at by_name object) ≡ value_at shown.objects object
   object_shown object = sym (value_at-each kept_entry by_name object) ∙ ap (λ (k : KeptCalendar). value_at k.objects object) is
@@ -74,10 +95,10 @@ module _ (name : List ℕ) (kept : CalendarData) (by_name : Named ObjectEntry) (
 
   -- the next object stands at its own name
   pub next_there : (above_name key : List ℕ) (entry : ObjectEntry) → next_above by_name above_name ≡ Some (key, entry) → value_at by_name key ≡ Some entry
-  next_there above_name key entry next = next_found by_name above_name key entry calendar.indexed.names_in_order next
+  next_there above_name key entry next = next_found by_name above_name key entry calendar.names_in_order next
 
   pub next_named : (above_name key : List ℕ) (entry : ObjectEntry) → next_above by_name above_name ≡ Some (key, entry) → key ≡ entry.stored.path.object
-  next_named above_name key entry next = sym (calendar.indexed.named key entry (next_there above_name key entry next))
+  next_named above_name key entry next = sym (calendar.named key entry (next_there above_name key entry next))
 
   -- so it is found again by its own name
   pub next_again : (above_name key : List ℕ) (entry : ObjectEntry) → next_above by_name above_name ≡ Some (key, entry) → value_at by_name entry.stored.path.object ≡ Some entry
@@ -179,7 +200,7 @@ module _ (by_name : Named ObjectEntry) (in_order : IsInOrder by_name) (stored : 
       }
 
 -- what is put is in the calendar, as what was there
-placed_put : (home : ℕ) (calendar : List ℕ) (by_name : Named ObjectEntry) (entry : ObjectEntry) → ArePlaced home calendar by_name → entry.stored.path.home ≡ home → entry.stored.path.calendar ≡ calendar
+pub placed_put : (home : ℕ) (calendar : List ℕ) (by_name : Named ObjectEntry) (entry : ObjectEntry) → ArePlaced home calendar by_name → entry.stored.path.home ≡ home → entry.stored.path.calendar ≡ calendar
     → ArePlaced home calendar (with_value by_name entry.stored.path.object entry)
 placed_put home calendar by_name entry placed home_is calendar_is name found at = elim (same_or_not name entry.stored.path.object) [
   | inl here ↦

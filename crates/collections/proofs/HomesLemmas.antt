@@ -91,7 +91,7 @@ module _ (home : KeptHome) (name : List ℕ) (change : KeptCalendar → KeptCale
   home_with None = home
   home_with (Some kept) = record { accepted = home.accepted; calendars = with_changed home.calendars name (change kept) }
 
-  as_in_calendar : (found : Option KeptCalendar) → value_at home.calendars name ≡ found → in_calendar name change home ≡ home_with found
+  pub as_in_calendar : (found : Option KeptCalendar) → value_at home.calendars name ≡ found → in_calendar name change home ≡ home_with found
   as_in_calendar found is = rw (is, in_calendar) (by found) where
     by : (o : Option KeptCalendar) → (elim o [ None ↦ home | Some kept ↦ record home { calendars = with_changed home.calendars name (change kept) } ]) ≡ home_with o
     by None = refl

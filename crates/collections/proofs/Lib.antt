@@ -15,3 +15,5 @@ pub mod OpeningLemmas
 pub mod StoreLemmas
 pub mod SameOnsets
 pub mod WalkLemmas
+pub mod ShownLemmas
+pub mod FollowingLemmas

@@ -9,12 +9,11 @@ use Rattle.std.proofs.lemmas.Map.Keys.{IsDistinct-from_sorted}
 use Rattle.std.proofs.lemmas.Map.Views.{lookup-from_Contains}
 use Rattle.cal_base.specs.Lists.NameMap.{Named, name_order, IsInOrder, value_at}
 use Rattle.cal_model.specs.declared.store.CalendarData.{CalendarData}
-use Rattle.cal_model.specs.declared.stored.Stored.{Stored}
 use Rattle.cal_model.specs.History.KeptChanges.{IsAtPlace}
 use Rattle.cal_model.proofs.Words.ListTests.{each_of}
 use Rattle.object_walk.specs.declared.entry.ObjectEntry.{ObjectEntry}
 use Rattle.object_walk.specs.WalkedObjects.{AreInCalendar, HaveOriginsOf, named_octets}
-use Rattle.collections.specs.Calendars.{kept_entry, shown_object, kept_with, IsCalendar}
+use Rattle.collections.specs.Calendars.{kept_entry, shown_object, kept_with, IsShownCalendar}
 use Rattle.collections.specs.KeptCalendars.{KeptObject, KeptCalendar, each_value}
 use Rattle.collections.proofs.CalendarLemmas.{place_shown, object_shown}
 
@@ -37,23 +36,23 @@ values_shown : (Q : List ℕ × ObjectEntry → Type 0) → ((pair : List ℕ ×
 values_shown Q f [] all = refl
 values_shown Q f (pair ∷ pairs) all = λ i. (f pair all.0 i, kept_entry pair.1) ∷ values_shown Q f pairs all.1 i
 
-module _ (name : List ℕ) (kept : CalendarData) (by_name : Named ObjectEntry) (by_uid : Named Stored) (calendar : IsCalendar name kept by_name by_uid) (shown : KeptCalendar) (is : kept_with name kept by_name ≡ shown) where
+module _ (name : List ℕ) (kept : CalendarData) (by_name : Named ObjectEntry) (calendar : IsShownCalendar name kept by_name) (shown : KeptCalendar) (is : kept_with name kept by_name ≡ shown) where
   found : AllByRecursion (IsFound by_name) by_name
-  found = all_found by_name calendar.indexed.names_in_order
+  found = all_found by_name calendar.names_in_order
 
   pub objects_shown : map shown_object (values_of by_name) ≡ shown.objects
-  objects_shown = values_shown (IsFound by_name) (λ pair at. calendar.indexed.named pair.0 pair.1 at) by_name found ∙ ap (λ (k : KeptCalendar). k.objects) is
+  objects_shown = values_shown (IsFound by_name) (λ pair at. calendar.named pair.0 pair.1 at) by_name found ∙ ap (λ (k : KeptCalendar). k.objects) is
 
   pub objects_there : AllByRecursion (λ (entry : ObjectEntry). value_at shown.objects entry.stored.path.object ≡ Some (kept_entry entry)) (values_of by_name)
   objects_there = all_values (λ (entry : ObjectEntry). value_at shown.objects entry.stored.path.object ≡ Some (kept_entry entry)) (IsFound by_name)
       (λ pair at.
-      sym (object_shown name kept by_name by_uid calendar shown is pair.1.stored.path.object)
-      ∙ ap (option_map kept_entry) (ap (value_at by_name) (calendar.indexed.named pair.0 pair.1 at) ∙ at)) by_name found
+      sym (object_shown name kept by_name calendar shown is pair.1.stored.path.object)
+      ∙ ap (option_map kept_entry) (ap (value_at by_name) (calendar.named pair.0 pair.1 at) ∙ at)) by_name found
 
   pub objects_placed : AreInCalendar shown.home shown.name (values_of by_name)
   objects_placed = all_values (λ (entry : ObjectEntry). IsAtPlace shown.home shown.name entry.stored.path.object entry.stored.path) (IsFound by_name)
       (λ pair at.
-      let place = place_shown name kept by_name by_uid calendar shown is pair.0 pair.1 at in
+      let place = place_shown name kept by_name calendar shown is pair.0 pair.1 at in
       record { home_is = place.home_is; calendar_is = place.calendar_is; object_is = refl }) by_name found
 
 -- The objects of a calendar of a store

@@ -1,9 +1,9 @@
 -- A calendar that is kept: how contracts see it, and what holds of it.
 -- Given: its parts.
-use Rattle.std.specs.Prelude.{◌≡◌, ℕ, List}
+use Rattle.std.specs.Prelude.{◌≡◌, ℕ, List, Some}
 use Rattle.std.specs.List.Sorted.{IsStrictlySortedBy}
 use Rattle.std.specs.Map.{keys_of}
-use Rattle.cal_base.specs.Lists.NameMap.{Named}
+use Rattle.cal_base.specs.Lists.NameMap.{Named, IsInOrder, value_at}
 use Rattle.cal_model.specs.declared.stored.Stored.{Stored}
 use Rattle.cal_model.specs.declared.store.CalendarData.{CalendarData}
 use Rattle.cal_model.specs.State.PropertyTexts.{prop_order, as_settings}
@@ -36,4 +36,13 @@ pub record IsCalendar (name : List ℕ) (kept : CalendarData) (by_name : Named O
   pub set : kept.texts ≡ as_settings (texts_of kept.texts)
   pub in_order : IsStrictlySortedBy prop_order (keys_of (texts_of kept.texts))
   pub indexed : IsIndexed by_name by_uid
+  pub placed : ArePlaced kept.owner name by_name
+
+-- The same without the index, as looks share it.
+pub record IsShownCalendar (name : List ℕ) (kept : CalendarData) (by_name : Named ObjectEntry) : Type 0 where
+  pub zone : kept.zone ≡ own_zone (texts_of kept.texts)
+  pub set : kept.texts ≡ as_settings (texts_of kept.texts)
+  pub in_order : IsStrictlySortedBy prop_order (keys_of (texts_of kept.texts))
+  pub names_in_order : IsInOrder by_name
+  pub named : (object : List ℕ) (entry : ObjectEntry) → value_at by_name object ≡ Some entry → entry.stored.path.object ≡ object
   pub placed : ArePlaced kept.owner name by_name

@@ -5,8 +5,9 @@ use Rattle.cal_model.specs.Words.Limits.{home_limit, change_cost}
 use Rattle.cal_model.specs.Refusals.Preconditions.{holder}
 use Rattle.cal_model.specs.State.ServerState.{Calendar, Home, ServerState, home_at, calendar_at, octets_at}
 use Rattle.cal_model.specs.State.SoundStates.{IsSound}
-use Rattle.cal_model.specs.History.Origins.{Origins}
-use Rattle.collections.specs.Kept.{Kept, state_of, users_of}
+use Rattle.cal_model.specs.State.UserNames.{AreToldApart}
+use Rattle.cal_model.specs.History.Origins.{Origins, AreOrigins}
+use Rattle.collections.specs.Kept.{Kept, state_of, users_of, origins_of}
 use Rattle.collections.specs.Homes.{AreHomes}
 
 -- the state is sound, and each calendar is kept in its home under its name
@@ -28,3 +29,9 @@ pub record MayBePut (state : ServerState) (home : ℕ) (calendar object octets :
   pub within : Calendar
   pub there : calendar_at state home calendar ≡ Some within
   pub alone : holder within.objects object octets ≡ None
+
+-- what everybody may look at who answers: the users are told apart, the state is sound, and each of its objects has an origin of its own
+pub record IsLookedAt (kept : Kept) : Type 0 where
+  pub told : AreToldApart (users_of kept)
+  pub sound : IsSound (users_of kept) (state_of kept)
+  pub origins : AreOrigins (state_of kept) (origins_of kept)

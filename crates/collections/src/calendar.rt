@@ -16,22 +16,14 @@ ghost use Rattle.collections.specs.Settings.{last_zone, IsShort};
 ghost use Rattle.collections.specs.UidHolders.{with_uid, IsAloneWith};
 ghost use Rattle.object_walk.specs.WalkedObjects.{AreInCalendar};
 
-use crate::kinds::kinds_behind;
+use crate::calendar_data::set_data;
 use crate::objects::{put_object, take_object};
-use crate::settings::set_texts;
-use crate::zone::zone_behind;
+use crate::shown_calendar::ShownCalendar;
 use cal_base::{Arc, List as Items, NameMap, NoMemory, Octets};
-use cal_model::{Acl, CalendarData, Grant, PropSet, Stored, ZoneTable};
+use cal_model::{Acl, CalendarData, Grant, PropSet, Stored};
 use object_walk::{ObjectEntry, ObjectWalk};
 use std::alloc::Global;
 use std::marker::Model;
-
-/// Puts a zone, or none, in the place of another.
-fn replace_zone(kept: &mut Option<ZoneTable>, zone: Option<ZoneTable>)
-    ensures { kept.new ≡ zone }
-{
-    *kept = zone;
-}
 
 /// A calendar with its objects by their names and by their UIDs. Contracts see of each object the
 /// octets and the origin.
@@ -109,6 +101,19 @@ impl CalendarStore {
             by_uid: _by_uid,
         } = self;
         name
+    }
+
+    /// The same calendar for looks to share, without the index.
+    pub(crate) fn into_shown(self, alloc: Global) -> Result<ShownCalendar, NoMemory>
+        ensures { IfOk result (λ shown. shown ≡ self) }
+    {
+        let CalendarStore {
+            name,
+            kept,
+            by_name,
+            by_uid: _by_uid,
+        } = self;
+        ShownCalendar::of(alloc, name, kept, by_name)
     }
 
     /// The object of a name.
@@ -192,12 +197,7 @@ impl CalendarStore {
         ensures ok { OnOk result (self.new ≡ record self.old { texts = texts_after_all self.old.texts sets.now; kinds = kinds_after_all self.old.kinds sets.now }) }
         ensures err { OnErr result (self.new ≡ self.old) }
     {
-        let zone = zone_behind(alloc, sets)?;
-        set_texts(alloc, &mut self.kept.texts, sets)?;
-        self.kept.kinds = kinds_behind(self.kept.kinds, sets);
-        if let Some(zone) = zone {
-            replace_zone(&mut self.kept.zone, zone);
-        }
+        set_data(alloc, &mut self.kept, sets)?;
         Ok(())
     }
 }

@@ -40,7 +40,7 @@ fn first_setting(alloc: Global) -> Result<List<PropSet>, NoMemory>
 }
 
 /// The calendar of the name `calendar` that a home has at the start.
-fn first_calendar(alloc: Global, number: u32) -> Result<CalendarStore, NoMemory>
+pub(crate) fn first_calendar(alloc: Global, number: u32) -> Result<CalendarStore, NoMemory>
     ensures { IfOk result (λ kept. kept ≡ record (empty_calendar number first_name) { texts = (displayname, first_name) ∷ [] }) }
 {
     let name = Arc::new(alloc, Octets::of(alloc, b"calendar")?)?;

@@ -1,10 +1,10 @@
-//! The objects of a calendar by their names, and the index of their UIDs.
+//! The objects of a calendar by their names, and the index of their UIDs; and objects that looks share.
 ghost use Rattle.std.specs.Prelude.{◌≡◌, OnOk, OnErr, option_map};
 ghost use Rattle.cal_base.specs.Lists.NameMap.{value_at, with_value, without};
 ghost use Rattle.collections.specs.Objects.{IsIndexed, IsAlone};
 ghost use Rattle.object_walk.specs.declared.entry.ObjectEntry.{ObjectEntry as Entry};
 
-use cal_base::{Arc, NameMap, NoMemory, Octets};
+use cal_base::{Arc, NameMap, NoMemory, Octets, Shared};
 use cal_model::Stored;
 use object_walk::ObjectEntry;
 use std::alloc::Global;
@@ -64,5 +64,46 @@ pub(crate) fn take_object(
             Some(stored)
         }
         None => None,
+    }
+}
+
+/// Puts an object under its name into objects that looks share, in the place of the one that was there.
+/// The looks keep what they have; without memory all stays as it was.
+pub(crate) fn put_in_shown(
+    alloc: Global,
+    objects: &mut Shared<NameMap<ObjectEntry>>,
+    stored: &Arc<Stored>,
+    origin: u64,
+) -> Result<(), NoMemory>
+    ensures ok { OnOk result (objects.new ≡ with_value objects.old stored.now.path.object (record { stored = stored.now; origin = origin })) }
+    ensures err { OnErr result (objects.new ≡ objects.old) }
+{
+    let name = Octets::of(alloc, stored.path.object.as_slice())?;
+    let entry = ObjectEntry {
+        stored: Arc::try_clone(stored)?,
+        origin,
+    };
+    match objects.make_own(alloc) {
+        Ok(own) => own.insert(name, entry),
+        Err(NoMemory) => Err(NoMemory),
+    }
+}
+
+/// Takes the object of a name out of objects that looks share, if it is there. The looks keep it;
+/// without memory all stays as it was.
+pub(crate) fn take_from_shown(
+    alloc: Global,
+    objects: &mut Shared<NameMap<ObjectEntry>>,
+    name: &[u8],
+) -> Result<(), NoMemory>
+    ensures ok { OnOk result (objects.new ≡ without objects.old name.now) }
+    ensures err { OnErr result (objects.new ≡ objects.old) }
+{
+    match objects.make_own(alloc) {
+        Ok(own) => {
+            let _gone = own.remove(name);
+            Ok(())
+        }
+        Err(NoMemory) => Err(NoMemory),
     }
 }

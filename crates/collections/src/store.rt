@@ -1,10 +1,10 @@
 //! The store: the homes of all users.
-ghost use Rattle.std.specs.Prelude.{◌≡◌, ◌≤◌, ℕ, List, [], Some, None, OnOk, OnErr, IfOk, IfSome, IsSome, length, map, option_map};
+ghost use Rattle.std.specs.Prelude.{◌≡◌, ◌≤◌, ℕ, false, List, [], Some, None, OnOk, OnErr, IfOk, IfSome, IsSome, length, map, option_map};
 ghost use Rattle.std.specs.Option.{option_copied, option_map_or};
 ghost use Rattle.std.specs.Borrow.{Bor};
 ghost use Rattle.cal_model.specs.declared.stored.Stored.{Stored as StoredData};
 ghost use Rattle.cal_model.specs.declared.store.CalendarData.{CalendarData as Data};
-ghost use Rattle.cal_model.specs.History.KeptChanges.{IsAtPlace};
+ghost use Rattle.cal_model.specs.History.KeptChanges.{kept_change, is_deletion, IsAtPlace, IsAcceptable};
 ghost use Rattle.cal_model.specs.History.Origins.{AreLive, origins_after};
 ghost use Rattle.cal_model.specs.State.Changes.{effect, put, delete_object, delete_calendar, make, patch, acl};
 ghost use Rattle.cal_model.specs.State.ServerState.{Home, opening_state, directory_of, home_at, calendar_at, octets_at};
@@ -322,7 +322,17 @@ impl Applies for Store {
 
     ghost origins = { origins_of };
 
-    fn apply(&mut self, change: &Change, origin: u64) -> Result<(), NoMemory> {
+    /// Makes a change that is accepted in this state, as the entry of a number. After `NoMemory`
+    /// nothing is changed. A deletion takes no memory and succeeds.
+    fn apply(&mut self, change: &Change, origin: u64) -> Result<(), NoMemory>
+        requires acceptable { IsAcceptable (users_of self.old) (state_of self.old) (kept_change change.now) }
+        requires sound { IsSoundChange (users_of self.old) (kept_change change.now) }
+        ensures users { users_of self.new ≡ users_of self.old }
+        ensures state { OnOk result (state_of self.new ≡ effect (kept_change change.now) (state_of self.old)) }
+        ensures origins { OnOk result ((home : ℕ) (calendar object : List ℕ) → origins_of self.new home calendar object ≡ origins_after (kept_change change.now) origin (origins_of self.old) home calendar object) }
+        ensures err_only_where_it_adds { OnErr result (is_deletion (kept_change change.now) ≡ false) }
+        ensures unchanged { OnErr result (self.new ≡ self.old) }
+    {
         // A look at a field, which tells a proof what holds of the state.
         let _users = &self.users;
         match change {

@@ -38,11 +38,7 @@ impl Looked<'_> {
 }
 
 /// The windows of an object that a report of some ranges may need.
-pub(crate) fn windows_for(
-    alloc: Global,
-    object: &Object,
-    ranges: &[Range],
-) -> Result<List<i32>, NoMemory>
+pub fn windows_for(alloc: Global, object: &Object, ranges: &[Range]) -> Result<List<i32>, NoMemory>
     requires { IsKept object.now }
     ensures { IfOk result (λ windows. windows ≡ filter (counts object.now ranges.now) stated_windows) }
 {

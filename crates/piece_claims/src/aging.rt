@@ -60,7 +60,7 @@ fn drop_oldest(
     let Some(piece) = index.drop_oldest() else {
         return;
     };
-    counts.take(first, piece.window, piece.rows.len() as u64);
+    counts.take(first, piece.window, piece.row_count());
     let alive = live.contains(piece.origin);
     lanes.refresh_at(first, alive, index, out, piece.origin, piece.window);
 }

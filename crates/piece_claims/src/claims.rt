@@ -12,7 +12,7 @@ use crate::aging::{make_room, put_in};
 use crate::claimed::end;
 use crate::counts::{Counts, count};
 use crate::lanes::{Lanes, refresh_all};
-use cal_base::{List, NoMemory, Steps};
+use cal_base::{Arc, List, NoMemory, Steps};
 use cal_model::view::Pieces;
 use cal_model::{Piece, Row};
 use number_set::NumberSet;
@@ -172,6 +172,13 @@ impl Claims {
             .refresh(self.first, false, &self.index, &self.out, origin);
     }
 
+    /// The greatest moment of a request so far, in seconds since 1970; 0 before the first.
+    pub fn latest(&self) -> i64
+        ensures { result ≡ self.now.latest }
+    {
+        self.latest
+    }
+
     /// A request came at a moment: where it is the greatest so far, the horizon is that about it. The
     /// windows of the horizon move only forward. Takes no memory, and goes over the entries only where
     /// the horizon moves.
@@ -290,7 +297,7 @@ impl Claims {
     {
         let origin = piece.origin;
         let window = piece.window;
-        let rows = piece.rows.len() as u64;
+        let rows = piece.row_count();
         put_in(&mut self.index, piece)?;
         self.counts.add(self.first, window, rows);
         self.lanes
@@ -315,7 +322,7 @@ impl Claims {
         &mut self,
         origin: u64,
         window: i32,
-        rows: List<Row>,
+        rows: Arc<List<Row>>,
         steps: &mut Steps<L>,
     ) -> Result<(), NoMemory>
         requires live { has self.old.live origin ≡ true }
@@ -340,6 +347,17 @@ impl Claims {
         )
     }
 
+    /// The rows of an object in a window, shared, where there is a piece of them: who has them keeps them,
+    /// whatever becomes of the piece. Takes no memory; it fails only where 2^63 share them.
+    pub fn share(&self, origin: u64, window: i32) -> Result<Option<Arc<List<Row>>>, NoMemory>
+        ensures { IfOk result (λ found. found ≡ rows_at origin window self.now.pieces) }
+    {
+        match self.index.get(origin, window) {
+            Some(rows) => Ok(Some(Arc::try_clone(rows)?)),
+            None => Ok(None),
+        }
+    }
+
     /// How many rows the pieces have in all: no more than 4,000,000. No two pieces are of one object
     /// and window, and each is of an object that is still there.
     pub fn row_count(&self) -> u64
@@ -351,6 +369,13 @@ impl Claims {
     }
 }
 
+/// The list that is shared.
+fn list_of(rows: &Arc<List<Row>>) -> &List<Row>
+    ensures { result.now ≡ rows.now }
+{
+    rows
+}
+
 impl Pieces for Claims {
     ghost use Rattle.cal_model.specs.Pieces.PieceLists.{rows_at};
     ghost use Rattle.piece_claims.specs.Boards.{Board};
@@ -358,6 +383,9 @@ impl Pieces for Claims {
     ghost held = { λ (c : Board) origin window. rows_at origin window c.pieces };
 
     fn rows(&self, origin: u64, window: i32) -> Option<&List<Row>> {
-        self.index.get(origin, window)
+        match self.index.get(origin, window) {
+            Some(rows) => Some(list_of(rows)),
+            None => None,
+        }
     }
 }

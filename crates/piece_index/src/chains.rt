@@ -17,7 +17,7 @@ ghost use Rattle.piece_index.specs.Firsts.{first_at};
 
 use crate::links::{link, unlink};
 use crate::node::Node;
-use cal_base::{List, Steps};
+use cal_base::{Arc, List, Steps};
 use cal_model::{Piece, Row};
 use slab::Slab;
 use std::alloc::Global;
@@ -96,7 +96,7 @@ fn is_of_window(node: &Node, window: i32) -> bool
 }
 
 /// The rows of the first piece of a window, from a node on along its object's chain. Takes no memory.
-fn rows_from(nodes: &Slab<Node>, first: Option<usize>, window: i32) -> Option<&List<Row>>
+fn rows_from(nodes: &Slab<Node>, first: Option<usize>, window: i32) -> Option<&Arc<List<Row>>>
     requires { IsWalked (next nodes.now) (slab_len nodes.now) first }
     ensures { option_copied result ≡ rows_of_window window (entries_from nodes.now first) }
 {
@@ -143,7 +143,7 @@ impl Chains {
     }
 
     /// The rows of an object's piece in a window. Takes no memory.
-    pub(crate) fn find(&self, origin: u64, window: i32) -> Option<&List<Row>>
+    pub(crate) fn find(&self, origin: u64, window: i32) -> Option<&Arc<List<Row>>>
         ensures { option_copied result ≡ rows_at origin window (map (λ (e : ℕ × Piece). e.1) self.now) }
     {
         let first = self.firsts.get(&origin).copied();
@@ -227,7 +227,7 @@ impl Chains {
         let mut left = rows;
         while left > u128::from(budget) {
             match self.take_oldest() {
-                Some(piece) => left -= piece.rows.len() as u128,
+                Some(piece) => left -= u128::from(piece.row_count()),
                 None => unreachable!(),
             }
         }
@@ -245,7 +245,7 @@ impl Chains {
     {
         let mut left = rows;
         while let Some(piece) = self.take_first_of(origin) {
-            left -= piece.rows.len() as u64;
+            left -= piece.row_count();
             steps.tick();
         }
         left

@@ -5,7 +5,7 @@ ghost use Rattle.cal_model.specs.Pieces.PieceLists.{rows_at, rows_in, is_piece_o
 ghost use Rattle.cal_model.specs.Pieces.KeptPieces.{IsWithinBudget};
 
 use crate::chains::Chains;
-use cal_base::{List, Steps};
+use cal_base::{Arc, List, Steps};
 use cal_model::{Piece, Row};
 use std::alloc::Global;
 use std::marker::Model;
@@ -69,7 +69,7 @@ impl Index {
     /// The rows of the piece of an object in a window, found along the object's chain. Takes no memory.
     ///
     /// A window outside those of all pieces is answered at once.
-    pub fn get(&self, origin: u64, window: i32) -> Option<&List<Row>>
+    pub fn get(&self, origin: u64, window: i32) -> Option<&Arc<List<Row>>>
         ensures { option_copied result ≡ rows_at origin window self.now.pieces }
     {
         if window < self.least_window || window > self.greatest_window {
@@ -94,7 +94,7 @@ impl Index {
         ensures added { IsAdded self.old piece self.new result }
         ensures found { result ≡ Added.Done → rows_at piece.origin piece.window self.new.pieces ≡ Some piece.rows }
     {
-        let needed = piece.rows.len() as u64;
+        let needed = piece.row_count();
         if needed > self.budget {
             return Added::Full(piece);
         }
@@ -118,7 +118,7 @@ impl Index {
         let Some(piece) = self.chains.take_oldest() else {
             return None;
         };
-        self.rows -= piece.rows.len() as u64;
+        self.rows -= piece.row_count();
         Some(piece)
     }
 

@@ -8,7 +8,7 @@ use Rattle.cal_model.specs.State.ServerState.{Directory, ServerState, user_numbe
 use Rattle.slot_finder.specs.FreeTimes.{free_times}
 use Rattle.slot_times.specs.SlotCalendars.{AreCalendarsOf, times_of}
 use Rattle.slot_times.specs.SlotAnswers.{IsSeenAs, IsTextOf}
-use Rattle.slot_times.specs.SlotTimes.{Asked, first_hidden, is_free_in, printed, refused_word, times_seen, times_text}
+use Rattle.slot_times.specs.SlotTimes.{Asked, first_unseen, is_free_in, printed, refused_word, times_seen, times_text}
 use Rattle.slot_times.specs.declared.slot_calendars.CalendarPlace.{CalendarPlace}
 use Rattle.slot_times.specs.declared.slot_calendars.Unseen.{Unseen}
 use Rattle.slot_times.specs.declared.slot_calendars.Unseen.TheVariants.{Word, NoMemory}
@@ -17,10 +17,10 @@ use Rattle.slot_times.proofs.SlotPaths.{same_classes}
 module _ (directory : Directory) (state : ServerState) (asked : Asked) where
   -- where no user has the name
   pub no_user : None ≡ user_number directory asked.user → refused_word directory state asked ≡ Some 0
-  no_user none = sym (ap (λ (user : Option ℕ). option_map_or (λ who. first_hidden directory (seen_by directory state who) who asked.paths) user (Some 0)) none)
+  no_user none = sym (ap (λ (user : Option ℕ). option_map_or (λ who. first_unseen directory (seen_by directory state who) who asked.paths) user (Some 0)) none)
 
-  word_by : (who : ℕ) → user_number directory asked.user ≡ Some who → refused_word directory state asked ≡ first_hidden directory (seen_by directory state who) who asked.paths
-  word_by who known = ap (λ (user : Option ℕ). option_map_or (λ who. first_hidden directory (seen_by directory state who) who asked.paths) user (Some 0)) known
+  word_by : (who : ℕ) → user_number directory asked.user ≡ Some who → refused_word directory state asked ≡ first_unseen directory (seen_by directory state who) who asked.paths
+  word_by who known = ap (λ (user : Option ℕ). option_map_or (λ who. first_unseen directory (seen_by directory state who) who asked.paths) user (Some 0)) known
 
   printed_by : (who : ℕ) → user_number directory asked.user ≡ Some who → printed directory state asked ≡ times_text (times_seen directory (seen_by directory state who) who asked)
   printed_by who known = ap (λ (user : Option ℕ). option_map_or (λ who. times_text (times_seen directory (seen_by directory state who) who asked)) user []) known

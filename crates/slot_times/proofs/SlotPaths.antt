@@ -8,7 +8,7 @@ use Rattle.cal_model.specs.declared.object.Class.{Class}
 use Rattle.cal_model.specs.Sight.Views.{seen_by, served_class}
 use Rattle.cal_model.specs.State.ServerState.{Directory, ServerState, calendar_at}
 use Rattle.slot_times.specs.SlotCalendars.{AreCalendarsOf, IsCalendarOf, IsPut, IsThere, classes_of}
-use Rattle.slot_times.specs.SlotTimes.{busy_seen, classes_seen, first_hidden}
+use Rattle.slot_times.specs.SlotTimes.{busy_seen, classes_seen, first_unseen}
 use Rattle.slot_times.specs.declared.slot_calendars.CalendarPlace.{CalendarPlace}
 use Rattle.slot_times.specs.declared.slot_calendars.Unseen.{Unseen}
 use Rattle.slot_times.specs.declared.slot_calendars.Unseen.TheVariants.{Word, NoMemory}
@@ -56,7 +56,7 @@ module _ (directory : Directory) (state : ServerState) (who : ℕ) where
   path_refused T NoMemory paths rest behind path text found more number told is said so same put = tt
 
   pub paths_end : (paths rest : List (List ℕ)) (found : List CalendarPlace) (number : ℕ) → rest ≡ [] → AreFoundSo paths rest found number
-      → (first_hidden directory (seen_by directory state who) who paths ≡ None) × AllZip IsOf paths found
+      → (first_unseen directory (seen_by directory state who) who paths ≡ None) × AllZip IsOf paths found
   paths_end paths rest found number none so = (
     so.numbered ∙ ap (position_from hidden number) none,
     subst (AllZip IsOf paths) (append-nil found) (so.placed [] (subst (λ (xs : List (List ℕ)). AllZip IsOf xs []) (sym none) tt)),

@@ -16,7 +16,7 @@ use Rattle.cal_model.specs.Words.Limits.{first_date, last_date}
 use Rattle.freebusy.specs.declared.busy.Run.{Run}
 use Rattle.freebusy.specs.Times.{time_of_run}
 use Rattle.slot_finder.specs.FreeTimes.{free_times}
-use Rattle.slot_times.specs.SlotTimes.{busy_seen, calendar_seen, first_hidden, is_free_in}
+use Rattle.slot_times.specs.SlotTimes.{busy_seen, calendar_seen, first_unseen, is_free_in}
 use Rattle.slot_times.specs.declared.slot_calendars.CalendarPlace.{CalendarPlace}
 use Rattle.slot_times.specs.declared.slot_calendars.Unseen.{Unseen}
 use Rattle.slot_times.specs.declared.slot_calendars.Unseen.TheVariants.{Word, NoMemory}
@@ -62,8 +62,8 @@ IsPut directory state who text number old new (Err NoMemory) = Unit {0}
 -- the calendars of some paths, each in the place of its path; or the number of the first path that has none
 abbrev pub AreCalendarsOf : Directory → ServerState → ℕ → List (List ℕ) → Result (List CalendarPlace) Unseen → Type 0
 AreCalendarsOf directory state who paths (Ok places) =
-    (first_hidden directory (seen_by directory state who) who paths ≡ None) × AllZip (λ text place. IsCalendarOf directory state who text (Some place)) paths places
-AreCalendarsOf directory state who paths (Err (Word number)) = first_hidden directory (seen_by directory state who) who paths ≡ Some number
+    (first_unseen directory (seen_by directory state who) who paths ≡ None) × AllZip (λ text place. IsCalendarOf directory state who text (Some place)) paths places
+AreCalendarsOf directory state who paths (Err (Word number)) = first_unseen directory (seen_by directory state who) who paths ≡ Some number
 AreCalendarsOf directory state who paths (Err NoMemory) = Unit {0}
 
 -- Runs and times

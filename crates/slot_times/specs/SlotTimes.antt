@@ -33,14 +33,14 @@ abbrev pub busy_seen : Directory → View → ℕ → List ℕ → Option (ℤ �
 busy_seen directory view who text =
     option_and_then (λ (sight : Sight). sight.busy) (option_and_then (calendar_seen directory view who) (target_path text))
 
--- the number of the first path, counted from 1, of whose calendar the user may not see that
-abbrev pub first_hidden : Directory → View → ℕ → List (List ℕ) → Option ℕ
-first_hidden directory view who paths = position_from (λ text. is_none (busy_seen directory view who text)) 1 paths
+-- the number of the first path, counted from 1, that is of no calendar of which the user may see that
+abbrev pub first_unseen : Directory → View → ℕ → List (List ℕ) → Option ℕ
+first_unseen directory view who paths = position_from (λ text. is_none (busy_seen directory view who text)) 1 paths
 
--- The first word that is refused: 0 where no user has the name, and else the first path of a calendar that is hidden. A calendar that is hidden is refused as one that is not there.
+-- The first word that is refused: 0 where no user has the name, and else the number of the first path that is of no calendar which the user may see as busy or free. A calendar that may not be seen so is refused as one that is not there.
 abbrev pub refused_word : Directory → ServerState → Asked → Option ℕ
 refused_word directory state asked =
-    option_map_or (λ who. first_hidden directory (seen_by directory state who) who asked.paths) (user_number directory asked.user) (Some 0)
+    option_map_or (λ who. first_unseen directory (seen_by directory state who) who asked.paths) (user_number directory asked.user) (Some 0)
 
 -- the classes of those that are seen
 abbrev pub classes_seen : Directory → View → ℕ → List (List ℕ) → List (ℤ → Option Class)

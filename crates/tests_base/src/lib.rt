@@ -22,6 +22,8 @@ mod objects;
 #[cfg(test)]
 mod outside;
 #[cfg(test)]
+mod shared_values;
+#[cfg(test)]
 mod streams;
 #[cfg(test)]
 mod tcp;

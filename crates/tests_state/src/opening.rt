@@ -1,9 +1,10 @@
-//! What no clause says: that a store is made where there is memory, and what it has at the start.
+//! What no clause says: that a store, and a state for looks to share, are made where there is memory, and
+//! what they have at the start.
 
 use cal_base::Arc;
 use cal_journal::{Journal, replay};
 use cal_model::CalendarData;
-use collections::Store;
+use collections::{ShownState, Store};
 use privileges::read_users;
 use std::alloc::Global;
 use std::test::Fail;
@@ -113,5 +114,24 @@ fn replayed(alloc: Global) -> Result<Store, Fail> {
 fn no_entries_lead_to_the_start(rt: HostRuntime) -> Result<(), Fail> {
     let store = replayed(rt.alloc())?;
     assert!(rt; is_at_start(&store) && has_no_objects(&store));
+    Ok(())
+}
+
+/// Whether a look at the state of the start shows the calendars of the two homes, and no object.
+fn shows_the_start(alloc: Global) -> Result<bool, Fail> {
+    let users = read_users(alloc, USERS)?;
+    let shown = ShownState::new(alloc, Arc::new(alloc, users)?)?;
+    let look = shown.look()?;
+    let calendar = match look.calendar(1, NAME) {
+        Some(data) => is_first(data, 1),
+        None => false,
+    };
+    let others = look.calendar(2, NAME).is_some() || look.calendar_after(0, NAME).is_some();
+    Ok(calendar && !others && look.object_after(0, NAME, b"").is_none())
+}
+
+#[test]
+fn a_look_shows_the_start(rt: HostRuntime) -> Result<(), Fail> {
+    assert!(rt; shows_the_start(rt.alloc())?);
     Ok(())
 }

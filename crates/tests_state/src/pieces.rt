@@ -2,7 +2,7 @@
 ghost use Rattle.std.specs.Prelude.{◌≡◌, ◌<◌};
 
 use crate::plain_list::PlainList;
-use cal_base::{List, NoMemory, Steps};
+use cal_base::{Arc, List, NoMemory, Steps};
 use cal_model::{Piece, Row, RowKind};
 use piece_index::{Added, Index};
 use std::alloc::Global;
@@ -28,7 +28,7 @@ fn answer_of(added: &Added) -> Adding {
     }
 }
 
-fn rows(alloc: Global, count: i64) -> Result<List<Row>, NoMemory> {
+fn rows(alloc: Global, count: i64) -> Result<Arc<List<Row>>, NoMemory> {
     let mut rows = List::new(alloc);
     for start in 0..count {
         rows.push(Row {
@@ -40,7 +40,7 @@ fn rows(alloc: Global, count: i64) -> Result<List<Row>, NoMemory> {
             kind: RowKind::Instant,
         })?;
     }
-    Ok(rows)
+    Arc::new(alloc, rows)
 }
 
 /// Adds a piece of so many rows, where there is none of its object and window yet.

@@ -4,7 +4,7 @@ ghost use Rattle.std.specs.Option.{option_copied};
 ghost use Rattle.cal_model.specs.Pieces.PieceLists.{rows_at, rows_in, is_piece_of, is_other_piece, is_piece_at, newest_within};
 ghost use Rattle.cal_model.specs.Pieces.KeptPieces.{IsWithinBudget};
 
-use cal_base::{List, Steps};
+use cal_base::{Arc, List, Steps};
 use cal_model::{Piece, Row};
 use piece_index::Added;
 use std::alloc::Global;
@@ -39,7 +39,7 @@ fn is_at(piece: &Piece, origin: u64, window: i32) -> bool
 }
 
 /// The rows of the piece of an object in a window.
-fn rows_of(pieces: &[Piece], origin: u64, window: i32) -> Option<&List<Row>>
+fn rows_of(pieces: &[Piece], origin: u64, window: i32) -> Option<&Arc<List<Row>>>
     ensures { option_copied result ≡ rows_at origin window pieces.now }
 {
     for piece in pieces {
@@ -58,7 +58,7 @@ fn rows_of_others(pieces: &[Piece], origin: u64) -> u64
     let mut rows = 0;
     for piece in pieces {
         if piece.origin != origin {
-            rows += piece.rows.len() as u64;
+            rows += piece.row_count();
         }
     }
     rows
@@ -113,7 +113,7 @@ fn shrink(pieces: &mut Vec<Piece>, rows: u64, room: u64) -> u64
     let mut left = rows;
     while left > room {
         match take_front(pieces) {
-            Some(oldest) => left -= oldest.rows.len() as u64,
+            Some(oldest) => left -= oldest.row_count(),
             None => unreachable!(),
         }
     }
@@ -135,7 +135,7 @@ impl PlainList {
     }
 
     /// The rows of the piece of an object in a window.
-    pub fn get(&self, origin: u64, window: i32) -> Option<&List<Row>>
+    pub fn get(&self, origin: u64, window: i32) -> Option<&Arc<List<Row>>>
         ensures { option_copied result ≡ rows_at origin window self.now.pieces }
     {
         rows_of(self.pieces.as_slice(), origin, window)
@@ -155,7 +155,7 @@ impl PlainList {
         ensures added { IsAdded self.old piece self.new result }
         ensures found { result ≡ Added.Done → rows_at piece.origin piece.window self.new.pieces ≡ Some piece.rows }
     {
-        let needed = piece.rows.len() as u64;
+        let needed = piece.row_count();
         if needed > self.budget {
             return Added::Full(piece);
         }

@@ -7,6 +7,7 @@ use Rattle.cal_model.specs.State.ServerState.{Directory, ServerState, directory_
 use Rattle.cal_model.specs.State.SoundStates.{IsSoundChange}
 use Rattle.cal_model.specs.State.UserNames.{AreToldApart}
 use Rattle.cal_model.specs.Users.UsersFile.{Users}
+use Rattle.cal_journal.specs.Behind.{IsBehind}
 use Rattle.cal_journal.specs.KeptEntries.{AreSound}
 use Rattle.collections.specs.Kept.{Kept as KeptStore, state_of, users_of, origins_of}
 
@@ -37,6 +38,22 @@ pub record IsInStep (users : Users) (store : KeptStore) (journal : List Entry) :
   pub sound : AreSound (directory_of users) journal
   pub state_is : state_of store ≡ replay (directory_of users) journal
   pub live : AreLive journal (origins_of store)
+
+-- What looks share is the state behind so many of the entries.
+pub record IsShownAt (users : Users) (shown : KeptStore) (followed : ℕ) (journal : List Entry) : Type 0 where
+  pub same : users_of shown ≡ directory_of users
+  pub behind : IsBehind (directory_of users) journal followed (state_of shown) (origins_of shown)
+
+-- Both hold of each history that is kept.
+pub record IsHistory (users : Users) (store : KeptStore) (journal : List Entry) (shown : KeptStore) (followed : ℕ) : Type 0 where
+  pub step : IsInStep users store journal
+  pub shown_at : IsShownAt users shown followed journal
+
+-- What is shown is the state of now, with its users, and the origins are those of the objects that the entries left.
+pub record IsShownNow (kept : Kept) (shown : KeptStore) : Type 0 where
+  pub directory : users_of shown ≡ directory_in kept
+  pub state : state_of shown ≡ state_in kept
+  pub origins : AreLive kept.journal (origins_of shown)
 
 -- an entry may come next: its request is accepted, and it names what can be named
 pub record IsNext (directory : Directory) (state : ServerState) (entry : Entry) : Type 0 where

@@ -1,7 +1,7 @@
 -- The privileges on a calendar: which there are and what each contains, and which of them a user holds (RFC 3744, 3, 5.3 and 5.5; RFC 4791, 6.1.1).
 -- A set of privileges is a sum of their bits, and what is held is a union over all grants, whatever their order. Who asks is the number of a user and the numbers
 -- of the groups that the user is in (RFC 3744, 2).
-use Rattle.std.specs.Prelude.{ℕ, Bool, true, false, not, ◌&&◌, ◌||◌, ◌==◌, if◌then◌else◌, List, [], ◌∷◌, ◌++◌, map, filter, fold, bit_and, bit_or, bytes_eq, Option, Some, None, codes}
+use Rattle.std.specs.Prelude.{ℕ, Bool, true, false, ◌&&◌, ◌==◌, if◌then◌else◌, List, [], ◌∷◌, ◌++◌, map, filter, fold, bit_and, bit_or, bytes_eq, Option, Some, None, codes}
 use Rattle.std.specs.List.{list_any}
 use Rattle.cal_model.specs.declared.privilege.Grant.{Grant}
 use Rattle.cal_model.specs.declared.privilege.Who.{Who}
@@ -106,13 +106,3 @@ privileges_held groups grants owner user = if owner == user then all else grante
 -- a set has all of some privileges
 abbrev pub has_all : ℕ → ℕ → Bool
 has_all set wanted = bit_and set wanted == wanted
-
--- What is seen
-
--- a calendar is visible to a user who holds some privilege on it
-abbrev pub is_visible : List ℕ → List Grant → ℕ → ℕ → Bool
-is_visible groups grants owner user = not (privileges_held groups grants owner user == 0)
-
--- a home is visible to its owner, and to others with one of its calendars
-abbrev pub is_home_visible : List ℕ → List (List Grant) → ℕ → ℕ → Bool
-is_home_visible groups calendars owner user = (owner == user) || list_any (λ grants. is_visible groups grants owner user) calendars

@@ -1,6 +1,7 @@
 -- The instances of an object as rows: overrides, ids, order, and the rows of a window. From RFC 5545, 3.2.13 and 3.8.4.4, and RFC 4791, 4.1.
 -- One list of all rows. A window is a filter over it; that a part of the instances is enough to find the rows of one window is `merged-part` (`proofs/Instances/MergedParts`). Each definition takes the list of moments over which rules are taken: the rows themselves are those over `every_moment`.
 -- A section, `module _`, says once what its definitions stand beside. From outside they take that first.
+-- In all of them `ids` is the one stamp beside which the ids of the object are aligned (`ids_start`), `all` are all starts of the object, `r` is one of them, and `n` a component with its number.
 use Rattle.std.specs.Prelude.{ℕ, ◌+◌, Bool, true, false, not, ◌&&◌, nat_le, if◌then◌else◌, List, [], ◌∷◌, ◌++◌, map, filter, filter_map, flat_map, option_to_list, option_and_then, slice_get, ℤ, pos, ◌+ℤ◌, ◌-ℤ◌, int_le, int_lt, Option, Some, None, is_some, is_none}
 use Rattle.std.specs.Int.{int_div_euclid}
 use Rattle.std.specs.List.{list_any}

@@ -1,6 +1,6 @@
 -- Replies with a response for each of several resources (RFC 4918, 9.1, 9.2.1, 13 and 14.16 to 14.24): which properties stand in it, by their statuses.
 -- Given: who asks, a resource, and what is asked of it; or what became of settings.
-use Rattle.std.specs.Prelude.{ℕ, Bool, not, ◌==◌, if◌then◌else◌, List, [], ◌∷◌, map, filter, flat_map, Option, Some, None, codes}
+use Rattle.std.specs.Prelude.{ℕ, Bool, not, ◌==◌, if◌then◌else◌, List, [], ◌∷◌, map, filter, flat_map, Option, is_some, codes}
 use Rattle.std.specs.List.{list_any}
 use Rattle.cal_base.specs.Xml.CanonicalXml.{named_element}
 use Rattle.cal_model.specs.declared.path.Path.{Path}
@@ -66,9 +66,8 @@ multistatus_reply responses = xml_reply 207 (multistatus responses)
 -- Settings
 
 abbrev pub is_refused : List (PropName × Option Refusal) → PropName → Bool
-is_refused faults name = list_any (λ (entry : PropName × Option Refusal). same_name entry.0 name) (filter has_fault faults) where
-  has_fault : PropName × Option Refusal → Bool
-  has_fault entry = elim entry.1 [ None ↦ not (0 == 0) | Some refusal ↦ 0 == 0 ]
+is_refused faults name =
+    list_any (λ (entry : PropName × Option Refusal). same_name entry.0 name) (filter (λ (entry : PropName × Option Refusal). is_some entry.1) faults)
 
 -- RFC 4918, 9.2.1: where some setting is refused its property has 403 and each other 424; else all have 200. No element has content.
 abbrev pub setting_answers : List (PropName × Option Refusal) → ℕ → List Answer

@@ -1,5 +1,6 @@
 -- Calendar data limited to a range: limit-recurrence-set and limit-freebusy-set (RFC 4791, 9.6.6 and 9.6.7).
 -- What stays is a filter over all components and over all periods. The rows are given, in the order of `Rows`.
+-- As there `ids` is the one stamp beside which the ids of the object are aligned, and `n` a component with its number.
 use Rattle.std.specs.Prelude.{ℕ, ◌==◌, Bool, not, if◌then◌else◌, List, [], ◌∷◌, ◌++◌, map, take, filter, flat_map, option_to_list, bytes_eq, codes, ℤ}
 use Rattle.std.specs.List.{list_any, enumerate_from, join_with_byte}
 use Rattle.cal_base.specs.declared.line.Line.{Line}

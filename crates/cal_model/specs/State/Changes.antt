@@ -40,7 +40,7 @@ without_calendar name home = record home { calendars = without home.calendars na
 abbrev pub with_new_calendar : List ℕ → Calendar → Home → Home
 with_new_calendar name calendar home = record home { calendars = with_value home.calendars name calendar }
 
--- The state after a change. Deletions cost nothing; all else costs the body of its request.
+-- The state after a change. Deletions cost nothing; all else costs the home the body of its request and 256 octets (`change_cost`).
 unfoldable pub effect : Change → ServerState → ServerState
 effect (put home calendar object octets) state =
     with_home state home (λ h. charged (length octets) (with_calendar calendar (with_octets object octets) h))

@@ -2,10 +2,7 @@ use Rattle.std.proofs.Common.{◌≡◌, ℕ, sym, ap, ◌∙◌, subst}
 use Rattle.std.specs.Prelude.{ℤ, IfOk, ◌≤◌, ◌+◌}
 use Rattle.cal_model.specs.declared.reply.Reply.{Reply}
 use Rattle.cal_model.specs.Pieces.PieceLists.{rows_at}
-use Rattle.cal_model.specs.Serving.EventReplies.{reply_of}
-use Rattle.cal_model.specs.Serving.Outcomes.{scene_by}
-use Rattle.cal_model.specs.Serving.ReadingReplies.{reading_reply}
-use Rattle.cal_model.specs.Sight.Views.{sight_of}
+use Rattle.cal_model.specs.Serving.EventReplies.{reply_to}
 use Rattle.cal_model.proofs.Sight.LookingAlikeLaws.{outcome-reading}
 use Rattle.cal_book.specs.Showing.ShownStates.{shown_state}
 use Rattle.dav_reports.specs.CalendarObjects.{AreHeldRight}
@@ -18,8 +15,8 @@ use Rattle.cal_book.proofs.EventLemmas.{stepped-unchanged}
 use Rattle.cal_book.proofs.HistoryLemmas.{step-octets, step-sound}
 use Rattle.cal_book.proofs.reading.read.Goals as goal
 
-pub answer_reading-answer-requires-clause-right : goal.answer_reading-answer-requires-clause-right
-answer_reading-answer-requires-clause-right g c home calendar =
+pub read_shown-requires-clause-right : goal.read_shown-requires-clause-right
+read_shown-requires-clause-right g c home calendar =
     let history = c.args.history.now in
     let step = c.entries-entries.ensures.step in
     let right = AreHeldRight-right history.journal (origins_in history) (state_in history) c.args.claims.now.pieces step.live (step-octets history.users history.store history.journal step) c.requires.kept.right
@@ -34,10 +31,9 @@ returns-clause-reply g c =
     let view = c.view-view.ensures in
     let step = c.entries-entries.ensures.step in
     let answered =
-    ap (λ d. reading_reply (scene_by sight_of d (shown_state c.view-view.result) event) event.moment event.request) view.directory
-    ∙ ap (λ s. reading_reply (scene_by sight_of (directory_in history) s event) event.moment event.request) (view.state ∙ step.state_is)
-    ∙ sym (ap (reply_of event.request) (outcome-reading (directory_in history) (state_behind (users_in history) history.journal) event c.requires.reading)) in
-    subst (λ told. IfOk c.answer_reading-answer.result (λ (reply : Reply). reply ≡ told)) answered c.answer_reading-answer.ensures.reply
+    ap (λ d. reply_to d (shown_state c.view-view.result) event) view.directory
+    ∙ ap (λ s. reply_to (directory_in history) s event) (view.state ∙ step.state_is) in
+    subst (λ told. IfOk c.read_shown.result (λ (reply : Reply). reply ≡ told)) answered c.read_shown.ensures.reply
 
 pub returns-clause-work : goal.returns-clause-work
 returns-clause-work g c =
@@ -53,7 +49,7 @@ returns-clause-steps g c origins live =
     let view = c.view-view.ensures in
     let step = c.entries-entries.ensures.step in
     let same = AreLive-same history.journal (origins_in history) origins step.live live in
-    subst (λ n. c.answer_reading-answer.new.steps ≤ c.args.steps.now + n)
+    subst (λ n. c.read_shown.new.steps ≤ c.args.steps.now + n)
     ((λ i. reading_cost (λ (origin : ℕ) (window : ℤ). rows_at origin window c.args.claims.now.pieces) (view.origins i) (view.directory i) (view.state i) event)
     ∙ (λ i. reading_cost (λ (origin : ℕ) (window : ℤ). rows_at origin window c.args.claims.now.pieces) (same i) (directory_in history) (step.state_is i) event))
-    c.answer_reading-answer.ensures.steps
+    c.read_shown.ensures.steps

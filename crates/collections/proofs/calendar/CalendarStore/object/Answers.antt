@@ -1,19 +1,19 @@
 use Rattle.std.proofs.Common.{◌∙◌, ap, sym}
 use Rattle.std.specs.Prelude.{option_map}
 use Rattle.collections.specs.Calendars.{kept_entry}
-use Rattle.collections.proofs.CalendarLemmas.{place_shown, object_shown}
+use Rattle.collections.proofs.CalendarLemmas.{without_index, place_shown, object_shown}
 use Rattle.collections.proofs.calendar.CalendarStore.object.Goals as goal
 
 pub returns-in-Some-clause-object : goal.returns-in-Some-clause-object
 returns-in-Some-clause-object c =
     ap (option_map kept_entry) c.in-Some.ensures
-    ∙ object_shown c.self.inside.name c.self.inside.kept c.self.inside.by_name c.self.inside.by_uid c.self.invariant c.args.self.now c.self.view_is c.args.name.now
+    ∙ object_shown c.self.inside.name c.self.inside.kept c.self.inside.by_name (without_index c.self.invariant) c.args.self.now c.self.view_is c.args.name.now
 
 pub returns-in-Some-clause-place : goal.returns-in-Some-clause-place
 returns-in-Some-clause-place c =
-    place_shown c.self.inside.name c.self.inside.kept c.self.inside.by_name c.self.inside.by_uid c.self.invariant c.args.self.now c.self.view_is c.args.name.now c.in-Some.entry.now (sym c.in-Some.ensures)
+    place_shown c.self.inside.name c.self.inside.kept c.self.inside.by_name (without_index c.self.invariant) c.args.self.now c.self.view_is c.args.name.now c.in-Some.entry.now (sym c.in-Some.ensures)
 
 pub returns-in-None-clause-object : goal.returns-in-None-clause-object
 returns-in-None-clause-object c =
     ap (option_map kept_entry) c.in-None.ensures
-    ∙ object_shown c.self.inside.name c.self.inside.kept c.self.inside.by_name c.self.inside.by_uid c.self.invariant c.args.self.now c.self.view_is c.args.name.now
+    ∙ object_shown c.self.inside.name c.self.inside.kept c.self.inside.by_name (without_index c.self.invariant) c.args.self.now c.self.view_is c.args.name.now

@@ -2,29 +2,29 @@ use Rattle.std.proofs.Common.{◌∙◌, ℕ, List, Some, ap, sym}
 use Rattle.std.specs.Prelude.{option_map}
 use Rattle.object_walk.specs.declared.entry.ObjectEntry.{ObjectEntry}
 use Rattle.collections.specs.Calendars.{kept_entry}
-use Rattle.collections.proofs.CalendarLemmas.{place_shown, object_shown, next_shown, next_named, next_again}
+use Rattle.collections.proofs.CalendarLemmas.{without_index, place_shown, object_shown, next_shown, next_named, next_again}
 use Rattle.collections.proofs.calendar.CalendarStore.object_after.Goals as goal
 
 pub returns-in-Some-clause-object : goal.returns-in-Some-clause-object
 returns-in-Some-clause-object c =
     let entry = c.in-Some.entry.now in
-    ap (λ name. Some (name, kept_entry entry)) (sym (next_named c.self.inside.name c.self.inside.kept c.self.inside.by_name c.self.inside.by_uid c.self.invariant c.args.self.now c.self.view_is c.args.name.now c.in-Some.field-0-0.now entry (sym c.in-Some.ensures)))
+    ap (λ name. Some (name, kept_entry entry)) (sym (next_named c.self.inside.name c.self.inside.kept c.self.inside.by_name (without_index c.self.invariant) c.args.self.now c.self.view_is c.args.name.now c.in-Some.field-0-0.now entry (sym c.in-Some.ensures)))
     ∙ (ap (option_map (λ (e : List ℕ × ObjectEntry). (e.0, kept_entry e.1))) c.in-Some.ensures
-    ∙ next_shown c.self.inside.name c.self.inside.kept c.self.inside.by_name c.self.inside.by_uid c.self.invariant c.args.self.now c.self.view_is c.args.name.now)
+    ∙ next_shown c.self.inside.name c.self.inside.kept c.self.inside.by_name (without_index c.self.invariant) c.args.self.now c.self.view_is c.args.name.now)
 
 pub returns-in-Some-clause-there : goal.returns-in-Some-clause-there
 returns-in-Some-clause-there c =
     let entry = c.in-Some.entry.now in
-    sym (object_shown c.self.inside.name c.self.inside.kept c.self.inside.by_name c.self.inside.by_uid c.self.invariant c.args.self.now c.self.view_is entry.stored.path.object)
-    ∙ ap (option_map kept_entry) (next_again c.self.inside.name c.self.inside.kept c.self.inside.by_name c.self.inside.by_uid c.self.invariant c.args.self.now c.self.view_is c.args.name.now c.in-Some.field-0-0.now entry (sym c.in-Some.ensures))
+    sym (object_shown c.self.inside.name c.self.inside.kept c.self.inside.by_name (without_index c.self.invariant) c.args.self.now c.self.view_is entry.stored.path.object)
+    ∙ ap (option_map kept_entry) (next_again c.self.inside.name c.self.inside.kept c.self.inside.by_name (without_index c.self.invariant) c.args.self.now c.self.view_is c.args.name.now c.in-Some.field-0-0.now entry (sym c.in-Some.ensures))
 
 pub returns-in-Some-clause-place : goal.returns-in-Some-clause-place
 returns-in-Some-clause-place c =
     let entry = c.in-Some.entry.now in
-    place_shown c.self.inside.name c.self.inside.kept c.self.inside.by_name c.self.inside.by_uid c.self.invariant c.args.self.now c.self.view_is entry.stored.path.object entry
-    (next_again c.self.inside.name c.self.inside.kept c.self.inside.by_name c.self.inside.by_uid c.self.invariant c.args.self.now c.self.view_is c.args.name.now c.in-Some.field-0-0.now entry (sym c.in-Some.ensures))
+    place_shown c.self.inside.name c.self.inside.kept c.self.inside.by_name (without_index c.self.invariant) c.args.self.now c.self.view_is entry.stored.path.object entry
+    (next_again c.self.inside.name c.self.inside.kept c.self.inside.by_name (without_index c.self.invariant) c.args.self.now c.self.view_is c.args.name.now c.in-Some.field-0-0.now entry (sym c.in-Some.ensures))
 
 pub returns-in-None-clause-object : goal.returns-in-None-clause-object
 returns-in-None-clause-object c =
     ap (option_map (λ (e : List ℕ × ObjectEntry). (e.0, kept_entry e.1))) c.in-None.ensures
-    ∙ next_shown c.self.inside.name c.self.inside.kept c.self.inside.by_name c.self.inside.by_uid c.self.invariant c.args.self.now c.self.view_is c.args.name.now
+    ∙ next_shown c.self.inside.name c.self.inside.kept c.self.inside.by_name (without_index c.self.invariant) c.args.self.now c.self.view_is c.args.name.now

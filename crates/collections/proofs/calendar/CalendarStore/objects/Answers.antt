@@ -4,6 +4,7 @@ use Rattle.cal_base.specs.Lists.NameMap.{value_at}
 use Rattle.object_walk.specs.declared.entry.ObjectEntry.{ObjectEntry}
 use Rattle.object_walk.specs.WalkedObjects.{AreInCalendar}
 use Rattle.collections.specs.Calendars.{kept_entry, shown_object}
+use Rattle.collections.proofs.CalendarLemmas.{without_index}
 use Rattle.collections.proofs.WalkLemmas.{objects_shown, objects_there, objects_placed}
 use Rattle.collections.proofs.calendar.CalendarStore.objects.Goals as goal
 
@@ -11,9 +12,9 @@ pub returns : goal.returns
 returns c =
     let shown = c.args.self.now in
     record {
-      objects = ap (map shown_object) c.of.ensures ∙ objects_shown c.self.inside.name c.self.inside.kept c.self.inside.by_name c.self.inside.by_uid c.self.invariant shown c.self.view_is;
+      objects = ap (map shown_object) c.of.ensures ∙ objects_shown c.self.inside.name c.self.inside.kept c.self.inside.by_name (without_index c.self.invariant) shown c.self.view_is;
       there = subst (AllByRecursion (λ (entry : ObjectEntry). value_at shown.objects entry.stored.path.object ≡ Some (kept_entry entry))) (sym c.of.ensures)
-          (objects_there c.self.inside.name c.self.inside.kept c.self.inside.by_name c.self.inside.by_uid c.self.invariant shown c.self.view_is);
+          (objects_there c.self.inside.name c.self.inside.kept c.self.inside.by_name (without_index c.self.invariant) shown c.self.view_is);
       places = subst (AreInCalendar shown.home shown.name) (sym c.of.ensures)
-          (objects_placed c.self.inside.name c.self.inside.kept c.self.inside.by_name c.self.inside.by_uid c.self.invariant shown c.self.view_is);
+          (objects_placed c.self.inside.name c.self.inside.kept c.self.inside.by_name (without_index c.self.invariant) shown c.self.view_is);
     }

@@ -4,7 +4,7 @@ use Rattle.cal_base.specs.Lists.NameMap.{value_at}
 use Rattle.cal_model.specs.declared.stored.Stored.{Stored}
 use Rattle.cal_model.specs.History.KeptChanges.{IsAtPlace}
 use Rattle.collections.specs.KeptCalendars.{KeptObject}
-use Rattle.collections.proofs.CalendarLemmas.{place_shown, object_shown, placed_left, taken_shown, octets_taken, place_taken, there_or_not}
+use Rattle.collections.proofs.CalendarLemmas.{without_index, place_shown, object_shown, placed_left, taken_shown, octets_taken, place_taken, there_or_not}
 use Rattle.collections.proofs.calendar.CalendarStore.take.Goals as goal
 
 pub invariant_of-self : goal.invariant_of-self
@@ -20,13 +20,13 @@ pub returns-clause-octets : goal.returns-clause-octets
 returns-clause-octets c =
     ap (option_map (λ (stored : Stored). stored.octets)) c.take_object.ensures.object
     ∙ (octets_taken (value_at c.self.inside.by_name c.args.name.now)
-    ∙ ap (option_map (λ (object : KeptObject). object.octets)) (object_shown c.self.inside.name c.self.inside.kept c.self.inside.by_name c.self.inside.by_uid c.self.invariant c.args.self.now c.self.view_is c.args.name.now))
+    ∙ ap (option_map (λ (object : KeptObject). object.octets)) (object_shown c.self.inside.name c.self.inside.kept c.self.inside.by_name (without_index c.self.invariant) c.args.self.now c.self.view_is c.args.name.now))
 
 pub returns-clause-place : goal.returns-clause-place
 returns-clause-place c =
     rw c.take_object.ensures.object
     (place_taken (value_at c.self.inside.by_name c.args.name.now) (λ entry. value_at c.self.inside.by_name c.args.name.now ≡ Some entry) (λ (stored : Stored). IsAtPlace c.args.self.now.home c.args.self.now.name c.args.name.now stored.path)
-    (λ entry at. place_shown c.self.inside.name c.self.inside.kept c.self.inside.by_name c.self.inside.by_uid c.self.invariant c.args.self.now c.self.view_is c.args.name.now entry at)
+    (λ entry at. place_shown c.self.inside.name c.self.inside.kept c.self.inside.by_name (without_index c.self.invariant) c.args.self.now c.self.view_is c.args.name.now entry at)
     (there_or_not (value_at c.self.inside.by_name c.args.name.now)))
 
 pub returns-clause-rest : goal.returns-clause-rest

@@ -18,7 +18,7 @@ use Rattle.piece_claims.proofs.claims.Claims.keep.Goals as goal
 
 pub add-requires : goal.add-requires
 add-requires g c =
-    record { fits = λ k below. (let few = count_within c.self.inside.index c.self.inside.first c.self.inside.live c.self.inside.counts c.self.invariant.1 k below in let rows = c.len-rows.ensures in let small = c.requires.few in omega (arith, few, rows, small)) }
+    record { fits = λ k below. (let few = count_within c.self.inside.index c.self.inside.first c.self.inside.live c.self.inside.counts c.self.invariant.1 k below in let rows = c.row_count-rows.ensures in let small = c.requires.few in omega (arith, few, rows, small)) }
 
 pub refresh_at-requires : goal.refresh_at-requires
 refresh_at-requires g c =
@@ -60,7 +60,7 @@ make_room-requires-clause-counted g c =
     (counted_snoc c.self.inside.counts c.add.new.self c.self.inside.first c.args.piece c.self.inside.index.pieces c.self.invariant.1.counted
     (subst (λ (f : ℤ). HasMoreIn c.self.inside.counts c.add.new.self f c.args.piece.window (length c.args.piece.rows)) first_is
     (subst (λ (w : ℤ). HasMoreIn c.self.inside.counts c.add.new.self (to_z w32 (of_z w32 c.self.inside.first)) w (length c.args.piece.rows)) whole
-    (subst (λ (n : ℕ). HasMoreIn c.self.inside.counts c.add.new.self (to_z w32 (of_z w32 c.self.inside.first)) (to_z w32 (of_z w32 c.args.piece.window)) n) c.len-rows.ensures c.add.ensures)))))
+    (subst (λ (n : ℕ). HasMoreIn c.self.inside.counts c.add.new.self (to_z w32 (of_z w32 c.self.inside.first)) (to_z w32 (of_z w32 c.args.piece.window)) n) c.row_count-rows.ensures c.add.ensures)))))
 
 pub invariant_of-self-2 : goal.invariant_of-self-2
 invariant_of-self-2 g c =

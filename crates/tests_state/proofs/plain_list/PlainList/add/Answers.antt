@@ -7,7 +7,7 @@ use Rattle.tests_state.proofs.plain_list.PlainList.add.Goals as goal
 
 pub invariant_of-self-2 : goal.invariant_of-self-2
 invariant_of-self-2 c =
-    let room = c.self.inside.budget - c.len-needed.result in
+    let room = c.self.inside.budget - c.row_count-needed.result in
     let shrunk = c.shrink-left.ensures.pieces ∙ ap (newest_within room) c.reserve.ensures.items in
     let new : rows_at c.args.piece.origin c.args.piece.window c.self.inside.pieces.items ≡ None =
     ap (λ s. rows_at c.args.piece.origin c.args.piece.window s.pieces) c.self.view_is ∙ c.requires in
@@ -20,7 +20,7 @@ invariant_of-self-2 c =
 
 pub returns-clause-found : goal.returns-clause-found
 returns-clause-found c done =
-    let room = c.self.inside.budget - c.len-needed.result in
+    let room = c.self.inside.budget - c.row_count-needed.result in
     let shrunk = c.shrink-left.ensures.pieces ∙ ap (newest_within room) c.reserve.ensures.items in
     let new : rows_at c.args.piece.origin c.args.piece.window c.self.inside.pieces.items ≡ None =
     ap (λ s. rows_at c.args.piece.origin c.args.piece.window s.pieces) c.self.view_is ∙ c.requires in
