@@ -10,8 +10,9 @@ only a test refuses it. This program tries each of them:
 - each public call of the server's crates that may answer want of memory: it always does;
 - each call of a source, sink, link, file or door that may fail, and each that tells so: it always does;
 - the commands with each of their statuses, the book with 503, a session with each of its faults;
-- workers that never claim, or that expand a piece while they hold the turn; connections that are let go at once; frames
-  of a script's workers that do nothing.
+- workers that never claim, or that expand a piece while they hold the turn; sessions that answer from a look while they
+  hold it, or that count no moment of such an answer; connections that are let go at once; frames of a script's workers
+  that do nothing.
 
 The repository's crates are copied, and each wrong body is put into the copy in front of the right one, behind a look at
 a number that a C function gives. So a test crate is built once, unproved, by `rt try`, and then run once for each body
@@ -87,6 +88,14 @@ HELD = """let Held { mut value } = lock.take(rt, pass);
         };
         lock.give(pass, Held { value });
         return turn;"""
+LOOKED = """let Held { mut value } = context.lock.take(context.rt, pass);
+        let at = begin_turn(&mut value, counts);
+        let told = match value.look(context.alloc, event) {
+            Some(look) => Told::Reply(answer_from(context, look, at, event, counts)),
+            None => value.ask(context.alloc, event, &mut counts.steps),
+        };
+        context.lock.give(pass, Held { value });
+        return (at, told);"""
 ENDED = "return crate::served::Ended { how: crate::served::How::%s, turns: cal_base::List::new(alloc) };"
 BY_HAND = [
     *[("a script ends with status %d" % status, "cal_script/src/command.rt", "run_script", "return without_place(%d);" % status) for status in (4, 5, 6, 7)],
@@ -94,6 +103,10 @@ BY_HAND = [
     *[("frames at a desk end with %s" % end, "cal_script/src/running.rt", "frames_on", "return FramesOn::End(FrameEnd::%s);" % end) for end in ("Input", "Output", "Frame { place: 0 }", "NoMemory")],
     ("frames of workers do nothing", "cal_script/src/slots.rt", "act", "return;"),
     ("the book answers 503", "cal_book/src/book.rt", "request", "return bare_reply(alloc, 503);"),
+    ("the book gives no look", "cal_book/src/book.rt", "look", "return None;"),
+    ("a session answers from a look while it holds the turn", "cal_session/src/turn.rt", "ask_once", LOOKED),
+    ("a session notes no moment", "cal_session/src/counts.rt", "note", "return;"),
+    ("a session that ends tells no moment", "cal_session/src/turn.rt", "tell_at_end", "return;"),
     ("a session ends with its read failed", "cal_session/src/service.rt", "serve_connection", ENDED % "ReadFault"),
     ("a session ends with its write failed", "cal_session/src/service.rt", "serve_connection", ENDED % "WriteFault"),
     ("a session ends without memory", "cal_session/src/service.rt", "serve_connection", ENDED % "NoMemory"),
