@@ -257,7 +257,9 @@ def started(options, users):
     port = listener.getsockname()[1]
     listener.close()
     words = [options.program, "serve", "--users", users, "--listen", f"127.0.0.1:{port}", "--sessions", str(options.sessions)]
-    process = subprocess.Popen(words, stdin=subprocess.DEVNULL, stderr=subprocess.PIPE)
+    # as docs/RUNNING.md starts it: the C library otherwise keeps for each thread what answers side by side had at once
+    settings = {**os.environ, "MALLOC_ARENA_MAX": "1"}
+    process = subprocess.Popen(words, stdin=subprocess.DEVNULL, stderr=subprocess.PIPE, env=settings)
     line = process.stderr.readline()
     if not line.startswith(b"listening"):
         sys.exit(f"the server said {line!r}")
@@ -286,15 +288,17 @@ def main():
 
 
 def warmed(port, sessions):
-    """All sessions have served the largest answer once, a few times over, and some of them what is dear."""
+    """All sessions have served the largest answer a few times over, and what is dear side by side, as reports are answered."""
     for octets in DEAR_ASKED:
         ask(port, octets)
     for _ in range(3):
-        crowd = [threading.Thread(target=ask, args=(port, WHOLE)) for _ in range(sessions)]
-        for one in crowd:
-            one.start()
-        for one in crowd:
-            one.join()
+        asked = [WHOLE] * (sessions - len(DEAR_ASKED)) + DEAR_ASKED
+        for some in (asked, [WHOLE] * sessions):
+            crowd = [threading.Thread(target=ask, args=(port, octets)) for octets in some]
+            for one in crowd:
+                one.start()
+            for one in crowd:
+                one.join()
 
 
 def run(options, seed, process, port):
