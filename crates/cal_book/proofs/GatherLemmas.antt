@@ -16,6 +16,7 @@ use Rattle.cal_model.specs.declared.request.Request.{Request}
 use Rattle.cal_model.specs.declared.row.Range.{Range}
 use Rattle.cal_model.specs.declared.row.Row.{Row}
 use Rattle.cal_model.specs.History.Origins.{Origins}
+use Rattle.cal_model.specs.Instances.HappensOnce.{happens_once}
 use Rattle.cal_model.specs.Objects.ObjectReading.{Unread, first_there, read_object}
 use Rattle.cal_model.specs.Pieces.KeptPieces.{KeptPieces}
 use Rattle.cal_model.specs.Pieces.PieceLists.{is_piece_at, rows_at}
@@ -96,12 +97,12 @@ gathered-later held fewer more origin windows h = weaker (IsGathered held fewer 
 
 -- and the windows that a report needs of an object are those that the ranges which it names may need
 pub entry_gathered : (held : Held) (pieces later : List Piece) (report : ReportRequest) (origin_of : OriginOf) (entry : List ℕ × List ℕ) (origin : ℕ) (object : Object) (ranges : List Range) → ranges ≡ ranges_named report → HoldAll pieces later
-    → origin_of entry.0 ≡ Some origin → read_object entry.1 ≡ Ok object → AllByRecursion (IsGathered held pieces origin) (filter (counts object ranges) stated_windows) → IsEntryGathered held later report origin_of entry
-entry_gathered held pieces later report origin_of entry origin object ranges named more at reading all o x at_o reading_x =
+    → origin_of entry.0 ≡ Some origin → read_object entry.1 ≡ Ok object → (happens_once object ≡ false → AllByRecursion (IsGathered held pieces origin) (filter (counts object ranges) stated_windows)) → IsEntryGathered held later report origin_of entry
+entry_gathered held pieces later report origin_of entry origin object ranges named more at reading all o x at_o reading_x recurs =
     let one : o ≡ origin = ap (λ (k : Option ℕ). unwrap_or k o) (sym at_o ∙ at) in
     let two : Some x ≡ Some object = ap result_ok (sym reading_x ∙ reading) in
     let same : x ≡ object = ap (λ (k : Option Object). unwrap_or k x) two in
-    let here = gathered-later held pieces later origin (windows_needed object report) more (subst (λ (r : List Range). AllByRecursion (IsGathered held pieces origin) (filter (counts object r) stated_windows)) named all) in
+    let here = gathered-later held pieces later origin (windows_needed object report) more (subst (λ (r : List Range). AllByRecursion (IsGathered held pieces origin) (filter (counts object r) stated_windows)) named (all (sym (ap happens_once same) ∙ recurs))) in
     subst (λ (k : ℕ). AllByRecursion (IsGathered held later k) (windows_needed x report)) (sym one) (subst (λ (y : Object). AllByRecursion (IsGathered held later origin) (windows_needed y report)) (sym same) here)
 
 -- without a range no window is needed
@@ -112,7 +113,7 @@ nothing_counts object (w ∷ windows) = nothing_counts object windows
 pub gathered_without : (held : Held) (pieces : List Piece) (report : ReportRequest) (origin_of : OriginOf) (entries : Named (List ℕ)) → ranges_named report ≡ [] → AllByRecursion (IsEntryGathered held pieces report origin_of) entries
 gathered_without held pieces report origin_of [] none = tt
 gathered_without held pieces report origin_of (entry ∷ entries) none = (
-  (λ origin object at reading.
+  (λ origin object at reading recurs.
       let empty : windows_needed object report ≡ [] = ap (λ (ranges : List Range). filter (counts object ranges) stated_windows) none ∙ nothing_counts object stated_windows in
       subst (AllByRecursion (IsGathered held pieces origin)) (sym empty) tt),
   gathered_without held pieces report origin_of entries none,
@@ -148,12 +149,18 @@ windows_less held pieces origin object windows all =
     (weaker (IsGathered held pieces origin) (λ w. window_cost (held_in pieces) origin object w ≤ window_cost held origin object w) windows
     (λ w is. less_by (is_some (rows_at origin w pieces)) (is_some (held origin w)) (cost object w) is) all)
 
+needed_less : (once : Bool) (less more : ℕ) → (once ≡ false → less ≤ more) → (if once then 0 else less) ≤ (if once then 0 else more)
+needed_less true less more h = omega arith
+needed_less false less more h = h refl
+
 object_less : (held : Held) (pieces : List Piece) (report : ReportRequest) (origin : Option ℕ) (object : Option Object)
-    → ((n : ℕ) (o : Object) → origin ≡ Some n → object ≡ Some o → AllByRecursion (IsGathered held pieces n) (windows_needed o report))
+    → ((n : ℕ) (o : Object) → origin ≡ Some n → object ≡ Some o → happens_once o ≡ false → AllByRecursion (IsGathered held pieces n) (windows_needed o report))
     → object_cost (held_in pieces) report origin object ≤ object_cost held report origin object
 object_less held pieces report None object there = omega arith
 object_less held pieces report (Some n) None there = omega arith
-object_less held pieces report (Some n) (Some o) there = windows_less held pieces n o (windows_needed o report) (there n o refl refl)
+object_less held pieces report (Some n) (Some o) there =
+    needed_less (happens_once o) (windows_cost (held_in pieces) n o (windows_needed o report)) (windows_cost held n o (windows_needed o report))
+    (λ recurs. windows_less held pieces n o (windows_needed o report) (there n o refl refl recurs))
 
 read_whole : (reading : Result Object Unread) (object : Object) → result_ok reading ≡ Some object → reading ≡ Ok object
 read_whole (Ok o) object is = ap (λ (found : Option Object). Ok (unwrap_or found o)) is

@@ -1,9 +1,10 @@
 //! The pieces that a look holds: of those that the book has, the ones that the look's event may need.
-ghost use Rattle.std.specs.Prelude.{◌≡◌, ◌<◌, ◌≤◌, ◌++◌, ◌∷◌, [], List, ℕ, IfOk, IfSome, None, Some, OnOk, OnErr, filter, if◌then◌else◌, length, option_map};
+ghost use Rattle.std.specs.Prelude.{◌≡◌, ◌<◌, ◌≤◌, ◌++◌, ◌∷◌, [], List, ℕ, false, IfOk, IfSome, None, Some, OnOk, OnErr, filter, if◌then◌else◌, length, option_map};
 ghost use Rattle.std.specs.Borrow.{Bor};
 ghost use Rattle.std.specs.List.{AllByRecursion};
 ghost use Rattle.std.specs.Option.{option_copied};
 ghost use Rattle.cal_model.specs.declared.report.ReportRequest.{ReportRequest as Asked};
+ghost use Rattle.cal_model.specs.Instances.HappensOnce.{happens_once, has_one_start, is_plain};
 ghost use Rattle.cal_model.specs.Pieces.PieceLists.{rows_at};
 ghost use Rattle.cal_model.specs.Reports.NamedRanges.{ranges_named};
 ghost use Rattle.cal_model.specs.Reports.NeededWindows.{counts, stated_windows};
@@ -18,9 +19,10 @@ ghost use Rattle.object_walk.specs.WalkedObjects.{objects_at};
 ghost use Rattle.request_checks.specs.Sightings.{user_seen};
 
 use cal_base::NoMemory;
-use cal_model::{Content, Event, Object, Path, Piece, Range, ReportRequest, Seen};
+use cal_model::{Component, Content, Event, Object, Path, Piece, Range, ReportRequest, Seen};
 use dav_reports::{ranges_of_report, windows_for};
 use object_walk::Walks;
+use override_merge::starts::own_start;
 use piece_claims::Claims;
 use piece_index::{Added, Index};
 use request_checks::{Look as Eyes, scene_at, shared_refusal};
@@ -99,7 +101,39 @@ fn hold_windows(
     Ok(())
 }
 
-/// The same of the windows of an object that some ranges may need.
+/// Whether a component is no override, and has neither a rule, an RDATE nor an EXDATE.
+fn is_plain(component: &Component) -> bool
+    ensures { result ≡ is_plain component.now }
+{
+    component.recurrence_id.is_none()
+        && component.rules.is_empty()
+        && component.dates.is_empty()
+        && component.periods.is_empty()
+        && component.except.is_empty()
+}
+
+/// Whether some components are those of an object that happens once.
+fn has_one_start(components: &[Component]) -> bool
+    ensures { result ≡ has_one_start components.now }
+{
+    match components.split_first() {
+        Some((component, others)) => {
+            others.is_empty() && is_plain(component) && own_start(component).is_some()
+        }
+        None => false,
+    }
+}
+
+/// Whether an object happens once: it has one component, which is no override, has a start, and neither a
+/// rule, an RDATE nor an EXDATE.
+fn happens_once(object: &Object) -> bool
+    ensures { result ≡ happens_once object.now }
+{
+    has_one_start(object.components.as_slice())
+}
+
+/// The same of the windows of an object that some ranges may need. Of an object that happens once none is
+/// held: a report finds its row without.
 fn hold_object(
     alloc: Global,
     claims: &Claims,
@@ -114,8 +148,11 @@ fn hold_object(
     ensures budget { held.new.budget ≡ held.old.budget }
     ensures among { AreAmong (held_in claims.now.pieces) held.new.pieces }
     ensures more { HoldAll held.old.pieces held.new.pieces }
-    ensures gathered { OnOk result (AllByRecursion (IsGathered (held_in claims.now.pieces) held.new.pieces origin) (filter (counts object.now ranges.now) stated_windows)) }
+    ensures gathered { OnOk result (happens_once object.now ≡ false → AllByRecursion (IsGathered (held_in claims.now.pieces) held.new.pieces origin) (filter (counts object.now ranges.now) stated_windows)) }
 {
+    if happens_once(object) {
+        return Ok(());
+    }
     let windows = windows_for(alloc, object, ranges)?;
     hold_windows(claims, origin, windows.as_slice(), held)
 }

@@ -23,7 +23,7 @@ use Rattle.freebusy.specs.Gathering.{Gathers}
 use Rattle.object_walk.specs.WalkedObjects.{objects_at}
 use Rattle.rrule_sets.proofs.AskedLemmas.{sum-cons}
 use Rattle.dav_reports.specs.CalendarObjects.{OriginOf, entries_cost, entry_cost, object_cost, times_needed, times_of_entries}
-use Rattle.dav_reports.specs.PieceRows.{Held, windows_cost}
+use Rattle.dav_reports.specs.PieceRows.{Held, needed_cost}
 use Rattle.dav_reports.proofs.GatheredTimes.{AreLeftOf, left-behind}
 
 -- each object of a calendar can be served
@@ -49,12 +49,12 @@ object_known : (octets : List ℕ) (object : Object) → read_object octets ≡ 
 object_known octets object reading = ap result_ok reading
 
 pub entry_cost-known : (held : Held) (report : ReportRequest) (origin_of : OriginOf) (entry : List ℕ × List ℕ) (origin : ℕ) (object : Object) → origin_of entry.0 ≡ Some origin → read_object entry.1 ≡ Ok object
-    → entry_cost held report origin_of entry ≡ windows_cost held origin object (windows_needed object report)
+    → entry_cost held report origin_of entry ≡ needed_cost held origin object (windows_needed object report)
 entry_cost-known held report origin_of entry origin object at reading = λ i. object_cost held report (at i) (object_known entry.1 object reading i)
 
 -- the steps so far, and what those of the entries behind one more may cost
 pub counted_next : (held : Held) (report : ReportRequest) (origin_of : OriginOf) (entry : List ℕ × List ℕ) (rest : Named (List ℕ)) (origin : ℕ) (object : Object) (so_far now limit : ℕ)
-    → origin_of entry.0 ≡ Some origin → read_object entry.1 ≡ Ok object → so_far + entries_cost held report origin_of (entry ∷ rest) ≤ limit → now ≤ so_far + windows_cost held origin object (windows_needed object report)
+    → origin_of entry.0 ≡ Some origin → read_object entry.1 ≡ Ok object → so_far + entries_cost held report origin_of (entry ∷ rest) ≤ limit → now ≤ so_far + needed_cost held origin object (windows_needed object report)
     → now + entries_cost held report origin_of rest ≤ limit
 counted_next held report origin_of entry rest origin object so_far now limit at reading counted steps =
     let whole = sum-cons (entry_cost held report origin_of entry) (map (entry_cost held report origin_of) rest) in
@@ -62,7 +62,7 @@ counted_next held report origin_of entry rest origin object so_far now limit at 
     omega (arith, whole, cost)
 
 pub counted_within : (held : Held) (report : ReportRequest) (origin_of : OriginOf) (entry : List ℕ × List ℕ) (rest : Named (List ℕ)) (origin : ℕ) (object : Object) (so_far now limit : ℕ)
-    → origin_of entry.0 ≡ Some origin → read_object entry.1 ≡ Ok object → so_far + entries_cost held report origin_of (entry ∷ rest) ≤ limit → now ≤ so_far + windows_cost held origin object (windows_needed object report) → now ≤ limit
+    → origin_of entry.0 ≡ Some origin → read_object entry.1 ≡ Ok object → so_far + entries_cost held report origin_of (entry ∷ rest) ≤ limit → now ≤ so_far + needed_cost held origin object (windows_needed object report) → now ≤ limit
 counted_within held report origin_of entry rest origin object so_far now limit at reading counted steps =
     let next = counted_next held report origin_of entry rest origin object so_far now limit at reading counted steps in
     omega arith

@@ -1,5 +1,5 @@
 -- What is held costs nothing.
-use Rattle.std.proofs.Common.{◌≡◌, ℕ, ◌+◌, List, [], ◌∷◌, Option, Some, None, refl, ap, ◌∙◌, ℤ}
+use Rattle.std.proofs.Common.{◌≡◌, Bool, true, false, ℕ, ◌+◌, List, [], ◌∷◌, Option, Some, None, refl, ap, ◌∙◌, ℤ}
 use Rattle.std.specs.Prelude.{All, IsSome, Ok, Err, Result, fold, map, sum, is_some, if◌then◌else◌}
 use Rattle.std.specs.Option.{unwrap_or}
 use Rattle.std.specs.Result.{result_ok}
@@ -7,6 +7,7 @@ use Rattle.std.proofs.lemmas.List.Elements.{All-head, All-tail, All-weaker}
 use Rattle.cal_model.specs.declared.object.Object.{Object}
 use Rattle.cal_model.specs.declared.report.ReportRequest.{ReportRequest}
 use Rattle.cal_model.specs.declared.row.Row.{Row}
+use Rattle.cal_model.specs.Instances.HappensOnce.{happens_once}
 use Rattle.cal_model.specs.Objects.ObjectReading.{Unread, read_object}
 use Rattle.cal_model.specs.Ranges.Cost.{cost}
 use Rattle.cal_model.specs.Reports.NeededWindows.{windows_needed}
@@ -27,12 +28,18 @@ windows_free held origin object windows there =
     none_costs (window_cost held origin object) windows
     (All-weaker (λ window. IsSome (held origin window)) (λ window. window_cost held origin object window ≡ 0) (λ window. held_free (held origin window) (cost object window)) windows there)
 
--- an object that is not there, or is none, costs nothing in any case
+-- an object that happens once costs nothing in any case
+needed_free : (once : Bool) (anew : ℕ) → anew ≡ 0 → (if once then 0 else anew) ≡ 0
+needed_free true anew free = refl
+needed_free false anew free = free
+
+-- nor does one that is not there, or is none
 object_free : (held : Held) (report : ReportRequest) (origin : Option ℕ) (object : Option Object)
     → ((n : ℕ) (o : Object) → origin ≡ Some n → object ≡ Some o → AreWindowsHeld held report n o) → object_cost held report origin object ≡ 0
 object_free held report None object there = refl
 object_free held report (Some n) None there = refl
-object_free held report (Some n) (Some o) there = windows_free held n o (windows_needed o report) (there n o refl refl)
+object_free held report (Some n) (Some o) there =
+    needed_free (happens_once o) (windows_cost held n o (windows_needed o report)) (windows_free held n o (windows_needed o report) (there n o refl refl))
 
 read_whole : (reading : Result Object Unread) (object : Object) → result_ok reading ≡ Some object → reading ≡ Ok object
 read_whole (Ok o) object is = ap (λ (found : Option Object). Ok (unwrap_or found o)) is

@@ -1,6 +1,6 @@
 -- The rows and times that are needed of an object that happens once: those of its row, where the row's window is needed.
 use Rattle.std.proofs.Common.{◌≡◌, Bool, true, false, cond, List, [], ◌∷◌, ◌++◌, refl, sym, ap, ◌∙◌, subst, ℤ, inl, inr, append-nil}
-use Rattle.std.specs.Prelude.{◌&&◌, All, AllPairs, filter, flat_map}
+use Rattle.std.specs.Prelude.{◌&&◌, ℕ, All, AllPairs, filter, flat_map, if◌then◌else◌}
 use Rattle.std.specs.List.{list_any}
 use Rattle.std.proofs.lemmas.Bool.{cases_Bool}
 use Rattle.std.proofs.lemmas.List.Elements.{All-contains, All-head}
@@ -10,6 +10,7 @@ use Rattle.cal_model.specs.declared.row.Range.{Range}
 use Rattle.cal_model.specs.declared.row.Row.{Row}
 use Rattle.cal_model.specs.declared.zone.ZoneTable.{ZoneTable}
 use Rattle.cal_model.specs.Busy.BusyTimes.{times_of_row}
+use Rattle.cal_model.specs.Instances.HappensOnce.{happens_once}
 use Rattle.cal_model.specs.Instances.Rows.{in_order, rows_in, undated_rows}
 use Rattle.cal_model.specs.Reports.NeededWindows.{counts, is_stated_window, stated_windows}
 use Rattle.cal_model.specs.Words.Integers.{same_int}
@@ -18,7 +19,7 @@ use Rattle.cal_model.proofs.Words.IntegerLemmas.{same_int-self, same_int-true}
 use Rattle.overlap_rules.specs.Bounds.{IsNearRow}
 use Rattle.dav_reports.specs.NeededRows.{rows_needed}
 use Rattle.dav_reports.specs.ObjectTimes.{times_in, times_of_rows}
-use Rattle.dav_reports.specs.PieceRows.{IsKept}
+use Rattle.dav_reports.specs.PieceRows.{Held, IsKept, needed_cost, windows_cost}
 use Rattle.dav_reports.proofs.KeptObjects.{rows_near}
 use Rattle.dav_reports.proofs.MissingWindows.{times_by_window}
 use Rattle.dav_reports.proofs.NeededRows.{among_stated, apart_stated}
@@ -78,3 +79,7 @@ only_times zone object p row window needed one is =
 pub only_near : (object : Object) (row : Row) (window : ℤ) → IsKept object → HasOneRow object row window → IsNearRow row
 only_near object row window kept one =
     All-head IsNearRow row [] (subst (All IsNearRow) (one window ∙ ap (λ b. cond b (row ∷ []) []) (same_int-self window)) (rows_near object kept window))
+
+-- the rows of any other object cost what its windows cost
+pub recurring_cost : (held : Held) (origin : ℕ) (object : Object) (windows : List ℤ) → happens_once object ≡ false → needed_cost held origin object windows ≡ windows_cost held origin object windows
+recurring_cost held origin object windows recurs = ap (λ (once : Bool). if once then 0 else windows_cost held origin object windows) recurs

@@ -30,7 +30,7 @@ use Rattle.dav_reports.specs.CalendarObjects.{sought_responses}
 use Rattle.cal_model.specs.Replies.XmlText.{multistatus}
 use Rattle.multistatus.specs.ReplyPieces.{begun}
 use Rattle.multistatus.proofs.ReplyLemmas.{begun_size, multistatus_filled}
-use Rattle.dav_reports.specs.PieceRows.{Held, windows_cost}
+use Rattle.dav_reports.specs.PieceRows.{Held, needed_cost}
 
 -- each of some entries is one of a calendar
 abbrev pub AreEntriesOf : Calendar → Named (List ℕ) → Type 0
@@ -67,8 +67,8 @@ entries_found directory state home name c sound there =
 
 -- what an object costs in a query
 pub sought_cost : (held : Held) (select : Selection) (wanted : Filter) (origin : ℕ) (object : Object) (ranges : List Range) → ranges ≡ ranges_of_selection select ++ ranges_of_filter wanted.top
-    → windows_cost held origin object (filter (counts object ranges) stated_windows) ≡ windows_cost held origin object (windows_needed object (Query NoProps select wanted None))
-sought_cost held select wanted origin object ranges named = ap (λ rs. windows_cost held origin object (filter (counts object rs) stated_windows)) named
+    → needed_cost held origin object (filter (counts object ranges) stated_windows) ≡ needed_cost held origin object (windows_needed object (Query NoProps select wanted None))
+sought_cost held select wanted origin object ranges named = ap (λ rs. needed_cost held origin object (filter (counts object rs) stated_windows)) named
 
 -- responses that are too long already
 pub too_long : (out new rest all : List ℕ) → answer_limit < length new → new ++ rest ≡ all → answer_limit < length all

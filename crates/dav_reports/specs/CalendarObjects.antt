@@ -23,7 +23,7 @@ use Rattle.cal_model.specs.Reports.NeededWindows.{windows_needed}
 use Rattle.cal_model.specs.State.ServerState.{Directory, ServerState, object_of, objects_of, octets_at, user_name}
 use Rattle.object_walk.specs.WalkedObjects.{objects_at}
 use Rattle.dav_reports.specs.ObjectTimes.{times_by_windows}
-use Rattle.dav_reports.specs.PieceRows.{AreRowsOf, Held, windows_cost}
+use Rattle.dav_reports.specs.PieceRows.{AreRowsOf, Held, needed_cost}
 
 -- the origins of the objects of a calendar, by their names
 abbrev pub OriginOf : Type 0
@@ -41,7 +41,7 @@ AreHeldRight held origins state home calendar = AllByRecursion (IsHeldRight held
 abbrev pub object_cost : Held → ReportRequest → Option ℕ → Option Object → ℕ
 object_cost held report None object = 0
 object_cost held report (Some origin) None = 0
-object_cost held report (Some origin) (Some object) = windows_cost held origin object (windows_needed object report)
+object_cost held report (Some origin) (Some object) = needed_cost held origin object (windows_needed object report)
 
 abbrev pub entry_cost : Held → ReportRequest → OriginOf → List ℕ × List ℕ → ℕ
 entry_cost held report origin_of entry = object_cost held report (origin_of entry.0) (object_of entry.1)

@@ -2,6 +2,7 @@
 use Rattle.std.specs.Prelude.{◌≡◌, ℕ, ◌<◌, ◌^◌, false, List, length, map, sum, is_some, if◌then◌else◌, ℤ, Option, Some, None}
 use Rattle.cal_model.specs.declared.object.Object.{Object}
 use Rattle.cal_model.specs.declared.row.Row.{Row}
+use Rattle.cal_model.specs.Instances.HappensOnce.{happens_once}
 use Rattle.cal_model.specs.Instances.Rows.{rows_in, has_fine_rule}
 use Rattle.cal_model.specs.Objects.ObjectFacts.{IsRead}
 use Rattle.cal_model.specs.Ranges.Cost.{cost}
@@ -26,6 +27,10 @@ window_cost held origin object window = if is_some (held origin window) then 0 e
 
 abbrev pub windows_cost : Held → ℕ → Object → List ℤ → ℕ
 windows_cost held origin object windows = sum (map (window_cost held origin object) windows)
+
+-- the steps that the rows of an object cost which a report needs, given the windows: none of an object that happens once, whose row is known from its start
+abbrev pub needed_cost : Held → ℕ → Object → List ℤ → ℕ
+needed_cost held origin object windows = if happens_once object then 0 else windows_cost held origin object windows
 
 -- no rows are held of a window
 abbrev pub IsMissing : Held → ℕ → ℤ → Type 0

@@ -10,7 +10,7 @@ ghost use Rattle.cal_model.specs.TimeZones.TableBounds.{IsTable};
 ghost use Rattle.freebusy.specs.Gathering.{Gathers};
 ghost use Rattle.overlap_rules.specs.Bounds.{IsNearRow};
 ghost use Rattle.dav_reports.specs.ObjectTimes.{IsNearStored, stored_times, times_by_windows, times_in, times_of_rows};
-ghost use Rattle.dav_reports.specs.PieceRows.{AreRowsOf, IsKept, windows_cost};
+ghost use Rattle.dav_reports.specs.PieceRows.{AreRowsOf, IsKept, needed_cost, windows_cost};
 
 use crate::rows::{missing_first, windows_for};
 use cal_base::{NoMemory, Steps};
@@ -138,7 +138,7 @@ fn put_needed<P: Pieces, L: Ledger>(
     requires object { IsKept object.now }
     requires right { AreRowsOf (P.held pieces.now) origin object.now }
     requires zone { IsTable zone.now }
-    ensures steps { steps.new ≤ steps.old + windows_cost (P.held pieces.now) origin object.now (windows_needed object.now (FreeBusy range)) }
+    ensures steps { steps.new ≤ steps.old + needed_cost (P.held pieces.now) origin object.now (windows_needed object.now (FreeBusy range)) }
     ensures times { OnOk result (Gathers out.old out.new (times_in zone.now object.now (windows_needed object.now (FreeBusy range)))) }
 {
     let Some((row, window)) = only_row(object) else {
@@ -230,7 +230,7 @@ pub(crate) fn put_object<P: Pieces, L: Ledger>(
     requires object { IsKept object.now }
     requires right { AreRowsOf (P.held pieces.now) origin object.now }
     requires zone { IsTable zone.now }
-    ensures steps { steps.new ≤ steps.old + windows_cost (P.held pieces.now) origin object.now (windows_needed object.now (FreeBusy range)) }
+    ensures steps { steps.new ≤ steps.old + needed_cost (P.held pieces.now) origin object.now (windows_needed object.now (FreeBusy range)) }
     ensures times { OnOk result (Gathers out.old out.new (times_by_windows zone.now object.now (windows_needed object.now (FreeBusy range)))) }
 {
     put_needed(alloc, pieces, origin, object, range, zone, out, steps)?;

@@ -15,7 +15,7 @@ ghost use Rattle.cal_model.specs.declared.report.ReportRequest.TheVariants.{Mult
 ghost use Rattle.dav_reports.specs.AskedProperties.{names_asked};
 ghost use Rattle.dav_reports.specs.CalendarObjects.{AreHeldRight, NamesAmong, StandsAmong, entries_cost, name_at, objects_concerned};
 ghost use Rattle.dav_reports.specs.MetObjects.{AreResponses, AreWithin, IsWithin, multiget_cost, named_response, place_behind, text_at, unmet_cost};
-ghost use Rattle.dav_reports.specs.PieceRows.{AreRowsOf, IsKept, windows_cost};
+ghost use Rattle.dav_reports.specs.PieceRows.{AreRowsOf, IsKept, needed_cost};
 ghost use Rattle.dav_reports.specs.SeenCalendars.{IsBody, IsWritten, MayRead, reported_of};
 
 use crate::names::names_to_ask;
@@ -95,7 +95,7 @@ fn push_found<V: View, A: PropAnswers, P: Pieces, L: Ledger>(
     requires names { names.now ≡ names_asked props.now }
     requires zone { IsTable zone.now }
     requires short { HasShortOffsets zone.now }
-    ensures steps { steps.new ≤ steps.old + windows_cost (P.held pieces.now) origin stored.now.object (windows_needed stored.now.object (Multiget NoProps select.now [])) }
+    ensures steps { steps.new ≤ steps.old + needed_cost (P.held pieces.now) origin stored.now.object (windows_needed stored.now.object (Multiget NoProps select.now [])) }
     ensures response { (c : Calendar) → MayRead (V.directory seen.now.view.now) (V.state seen.now.view.now) seen.now.who home calendar.now c → value_at c.objects stored.now.path.object ≡ Some stored.now.octets → OnOk result (out.new ≡ out.old ++ object_response (reported_of (V.directory seen.now.view.now) seen.now.who home calendar.now c) select.now zone.now props.now (stored.now.path.object, stored.now.octets)) }
 {
     let looked = rows_for(alloc, pieces, origin, &stored.object, ranges, steps)?;

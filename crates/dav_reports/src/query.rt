@@ -20,7 +20,7 @@ ghost use Rattle.multistatus.specs.ReplyPieces.{begun};
 ghost use Rattle.object_walk.specs.WalkedObjects.{objects_at};
 ghost use Rattle.dav_reports.specs.CalendarObjects.{AreHeldRight, query_cost, sought_responses};
 ghost use Rattle.dav_reports.specs.AskedProperties.{names_asked};
-ghost use Rattle.dav_reports.specs.PieceRows.{AreRowsOf, IsKept, windows_cost};
+ghost use Rattle.dav_reports.specs.PieceRows.{AreRowsOf, IsKept, needed_cost};
 ghost use Rattle.dav_reports.specs.SeenCalendars.{IsBody, IsWritten, MayRead, reported_of};
 ghost use Rattle.dav_reports.specs.ShownObjects.{IsShown, asker_of};
 
@@ -193,7 +193,7 @@ fn push_sought<V: View, A: PropAnswers, P: Pieces, L: Ledger>(
     requires names { names.now ≡ names_asked props.now }
     requires zone { IsTable zone.now }
     requires short { HasShortOffsets zone.now }
-    ensures steps { steps.new ≤ steps.old + windows_cost (P.held pieces.now) origin stored.now.object (filter (counts stored.now.object ranges.now) stated_windows) }
+    ensures steps { steps.new ≤ steps.old + needed_cost (P.held pieces.now) origin stored.now.object (filter (counts stored.now.object ranges.now) stated_windows) }
     ensures response { (c : Calendar) → MayRead (V.directory seen.now.view.now) (V.state seen.now.view.now) seen.now.who home calendar.now c → value_at c.objects stored.now.path.object ≡ Some stored.now.octets → OnOk result (out.new ≡ out.old ++ flat_map (object_response (reported_of (V.directory seen.now.view.now) seen.now.who home calendar.now c) select.now zone.now props.now) (filter (λ (entry : List ℕ × List ℕ). octets_match wanted.now zone.now entry.1) ((stored.now.path.object, stored.now.octets) ∷ []))) }
 {
     let looked = rows_for(alloc, pieces, origin, &stored.object, ranges, steps)?;

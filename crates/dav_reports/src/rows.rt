@@ -1,11 +1,12 @@
 //! The rows of one object that a report looks at.
-ghost use Rattle.std.specs.Prelude.{◌≡◌, ℕ, ◌+◌, ◌≤◌, ◌++◌, All, IfOk, IfSome, OnOk, filter, flat_map, length, map, sum, take};
+ghost use Rattle.std.specs.Prelude.{◌≡◌, ℕ, ◌+◌, ◌≤◌, ◌++◌, All, IfOk, IfSome, OnOk, filter, flat_map, is_some, length, map, sum, take};
 ghost use Rattle.cal_model.specs.declared.object.Object.{Object as ObjectSpec};
+ghost use Rattle.cal_model.specs.Instances.HappensOnce.{happens_once};
 ghost use Rattle.cal_model.specs.Instances.Rows.{in_order, rows_in, undated_rows};
 ghost use Rattle.cal_model.specs.Ranges.Cost.{cost};
 ghost use Rattle.cal_model.specs.Reports.NeededWindows.{counts, stated_windows};
 ghost use Rattle.dav_reports.specs.NeededRows.{rows_needed, rows_of};
-ghost use Rattle.dav_reports.specs.PieceRows.{AreRowsOf, IsKept, IsMissing, windows_cost};
+ghost use Rattle.dav_reports.specs.PieceRows.{AreRowsOf, IsKept, IsMissing, needed_cost, windows_cost};
 
 use cal_base::{List, NoMemory, Steps};
 use cal_model::view::Pieces;
@@ -54,7 +55,8 @@ fn only_rows(
     ranges: &[Range],
 ) -> Result<Option<List<Row>>, NoMemory>
     requires { IsKept object.now }
-    ensures { IfOk result (λ found. IfSome found (λ rows. rows ≡ rows_needed object.now ranges.now)) }
+    ensures rows { IfOk result (λ found. IfSome found (λ rows. rows ≡ rows_needed object.now ranges.now)) }
+    ensures once { IfOk result (λ found. is_some found ≡ happens_once object.now) }
 {
     let Some((row, window)) = only_row(object) else {
         return Ok(None);
@@ -217,7 +219,7 @@ pub(crate) fn rows_for<'a, P: Pieces, L: Ledger>(
 ) -> Result<Looked<'a>, NoMemory>
     requires object { IsKept object.now }
     requires right { AreRowsOf (P.held pieces.now) origin object.now }
-    ensures steps { steps.new ≤ steps.old + windows_cost (P.held pieces.now) origin object.now (filter (counts object.now ranges.now) stated_windows) }
+    ensures steps { steps.new ≤ steps.old + needed_cost (P.held pieces.now) origin object.now (filter (counts object.now ranges.now) stated_windows) }
     ensures rows { IfOk result (λ looked. rows_of looked ≡ rows_needed object.now ranges.now) }
 {
     if let Some(rows) = only_rows(alloc, object, ranges)? {

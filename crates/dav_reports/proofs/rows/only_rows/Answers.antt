@@ -5,8 +5,8 @@ use Rattle.dav_reports.proofs.OnlyRows.{only_needed}
 use Rattle.dav_reports.proofs.rows.only_rows.Goals as goal
 use Rattle.dav_reports.proofs.rows.only_rows.Goals.{then-is_needed+in_ok-push, else-is_needed}
 
-pub returns : goal.returns
-returns c =
+pub returns-clause-rows : goal.returns-clause-rows
+returns-clause-rows c =
     let row = c.in-Some.row in
     let window = c.in-Some.window in
     let fits : FitsSigned w32 window = search rules in
