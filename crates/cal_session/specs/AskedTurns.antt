@@ -40,7 +40,7 @@ pub record AskedAt {X : Type 0} (users : Users) (pass : PassState Entry Users) (
   pub place : at ≡ length journal
   pub is : IsTold users journal event told seen
 
--- One request was answered: at a journal that the pass has seen then, with or without a turn of the lock. A request that is refused as it stands takes no turn, and is answered at what the pass had seen.
+-- One request was answered: at a journal that the pass has seen then, with or without a turn of the lock. What its user may do and see is that of the state there. A request that is refused as it stands takes no turn, and is answered at what the pass had seen.
 pub record AnsweredAt (users : Users) (pass now : PassState Entry Users) (answer : Answer) : Type 0 where
   pub journal : List Entry
   pub later : IsLater pass journal

@@ -24,7 +24,8 @@ const LAST_MOMENT: i64 = 253_402_300_799;
 ///
 /// The desk is told the moment that is noted, and makes room for a deletion; where it finds none, the
 /// request is made all the same. A request that only reads is answered from a look at the desk once the
-/// turn was given back; where there is no look, the desk answers it in the turn.
+/// turn was given back; where there is no look, the desk answers it in the turn. What the user may do and
+/// see is looked up in the state of this turn.
 pub(crate) fn ask_once<B: Desk, R: Wait, T: Gate, G: Ledger>(
     context: &Context<'_, R, B, T>,
     pass: &mut Pass<B>,

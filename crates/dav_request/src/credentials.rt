@@ -101,12 +101,14 @@ fn user_of_octets(users: &Users, octets: &[u8]) -> Option<u32>
     }
 }
 
-/// The user of a name, if the password is that user's.
+/// The user of a name, if the password is that user's. The password's digest is computed first, so that
+/// the time which it takes does not tell whether a user has the name.
 fn admitted(users: &Users, name: &[u8], password: &[u8]) -> Option<u32>
     ensures { result ≡ spec.user_of_credentials users.now (record { name = name.now; password = password.now }) }
 {
+    let digest = digest_text(password);
     match users.find(name) {
-        Some(who) => admitted_as(users, who, &digest_text(password)),
+        Some(who) => admitted_as(users, who, &digest),
         None => None,
     }
 }
