@@ -30,6 +30,7 @@ use cal_base::{Arc, NoMemory, ReservedList, Steps};
 use cal_journal::Entry;
 use cal_model::{Event, Method, Reply, bare_reply};
 use piece_claims::{Claims, next_is_of_work};
+use preconditions::PutReading;
 use privileges::Users;
 use std::alloc::Global;
 use std::marker::Model;
@@ -131,11 +132,13 @@ impl Book {
 
     /// Answers a request, and makes the change that it asks for, if that is accepted. Without memory
     /// the answer is 503, and nothing is changed. A request that only reads or is refused leaves the
-    /// journal, the pieces and the claims as they are; its moment may move the horizon of the claims.
+    /// journal, the pieces and the claims as they are; its moment may move the horizon of the claims. The
+    /// octets of a PUT are not read again where they are those of a reading, which is used up.
     pub fn request<L: Ledger>(
         &mut self,
         alloc: Global,
         event: &Event,
+        reading: &mut Option<PutReading>,
         steps: &mut Steps<L>,
     ) -> Reply
         requires bookable { IsBookable self.old.users event.now.who event.now.request }
@@ -154,7 +157,7 @@ impl Book {
         ensures changing_steps { reads event.now.request.method ≡ false → steps.new + length self.new.work.pieces ≡ steps.old + length self.old.work.pieces }
     {
         let _entries = self.entries();
-        match self.answer(alloc, event, steps) {
+        match self.answer(alloc, event, reading, steps) {
             Ok(reply) => {
                 self.came_at(event.moment);
                 reply
@@ -193,6 +196,7 @@ impl Book {
         &mut self,
         alloc: Global,
         event: &Event,
+        reading: &mut Option<PutReading>,
         steps: &mut Steps<L>,
     ) -> Result<Reply, NoMemory>
         requires bookable { IsBookable self.old.users event.now.who event.now.request }
@@ -209,7 +213,7 @@ impl Book {
         if is_reading(event.request.method) {
             self.read(alloc, event, steps)
         } else {
-            self.change(alloc, event, steps)
+            self.change(alloc, event, reading, steps)
         }
     }
 
@@ -246,6 +250,7 @@ impl Book {
         &mut self,
         alloc: Global,
         event: &Event,
+        reading: &mut Option<PutReading>,
         steps: &mut Steps<L>,
     ) -> Result<Reply, NoMemory>
         requires changing { reads event.now.request.method ≡ false }
@@ -264,6 +269,7 @@ impl Book {
             &mut self.claims,
             &mut self.room,
             event,
+            reading,
             steps,
         )
     }

@@ -17,6 +17,7 @@ use crate::reading::names_are_short;
 use cal_base::{NoMemory, ReservedList, Steps};
 use cal_model::{Change, Event, Method, Path, Reply, Seen, bare_reply};
 use piece_claims::Claims;
+use preconditions::PutReading;
 use std::alloc::Global;
 use std::sync::ledger::Ledger;
 
@@ -26,6 +27,7 @@ fn check(
     alloc: Global,
     history: &History,
     event: &Event,
+    reading: &mut Option<PutReading>,
     room: &mut ReservedList<u8>,
 ) -> ChangeCheck
     requires changing { is_reading event.now.request.method ≡ false }
@@ -42,7 +44,7 @@ fn check(
         view: &view,
         who: event.who,
     };
-    let checked = check_change(alloc, &seen, event, room);
+    let checked = check_change(alloc, &seen, event, reading, room);
     let Seen {
         view: _view,
         who: _who,
@@ -164,6 +166,7 @@ pub(crate) fn change<L: Ledger>(
     claims: &mut Claims,
     room: &mut ReservedList<u8>,
     event: &Event,
+    reading: &mut Option<PutReading>,
     steps: &mut Steps<L>,
 ) -> Result<Reply, NoMemory>
     requires kept { IsUpToDate history.old.journal claims.old }
@@ -182,6 +185,6 @@ pub(crate) fn change<L: Ledger>(
     ensures empty { room.new.items ≡ [] }
 {
     let _entries = history.entries();
-    let checked = check(alloc, history, event, room);
+    let checked = check(alloc, history, event, reading, room);
     carry_out(alloc, history, claims, checked, event, steps)
 }

@@ -29,6 +29,7 @@ use crate::look::Look;
 use cal_base::{NoMemory, Steps};
 use cal_journal::Entry;
 use cal_model::{Event, Reply};
+use preconditions::PutReading;
 use privileges::Users;
 use std::alloc::Global;
 use std::marker::Model;
@@ -87,11 +88,13 @@ pub trait Desk: Keeps<Entry = JournalEntry, Base = Users> {
 
     /// Answers a request, and makes the change that it asks for, if that is accepted. Without memory
     /// the answer is 503, and nothing is changed. A fault is told exactly where the desk is broken
-    /// afterwards.
+    /// afterwards. The octets of a PUT are not read again where they are those of a reading, which is used
+    /// up.
     fn ask<L: Ledger>(
         &mut self,
         alloc: Global,
         event: &Event,
+        reading: &mut Option<PutReading>,
         steps: &mut Steps<L>,
     ) -> Told<Self::Fault>
         requires bookable { IsBookable (book self.old).users event.now.who event.now.request }
@@ -210,9 +213,10 @@ impl Desk for Book {
         &mut self,
         alloc: Global,
         event: &Event,
+        reading: &mut Option<PutReading>,
         steps: &mut Steps<L>,
     ) -> Told<Never> {
-        Told::Reply(self.request(alloc, event, steps))
+        Told::Reply(self.request(alloc, event, reading, steps))
     }
 
     fn look(&mut self, alloc: Global, event: &Event) -> Option<Look> {

@@ -21,6 +21,7 @@ mod look;
 mod looking;
 mod making;
 mod publishing;
+mod put_ahead;
 mod reading;
 mod reads;
 mod sharing;
@@ -35,4 +36,5 @@ pub use laws::{
     readings_enter_nothing, replies_have_reasons, requests_are_complete, sight_laws,
 };
 pub use look::Look;
+pub use put_ahead::read_put;
 pub use view::BookView;

@@ -56,7 +56,7 @@ fn reply_to<B: Desk, L: Ledger>(
                 moment: seconds(arrival.moment),
                 request,
             };
-            let told = desk.ask(alloc, &event, steps);
+            let told = desk.ask(alloc, &event, &mut None, steps);
             drop(event);
             told
         }

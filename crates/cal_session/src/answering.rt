@@ -19,7 +19,7 @@ use crate::served::{How, Served};
 use crate::turn::ask_once;
 use crate::writing::{send_fault, send_reply};
 use cal_base::{Clock, Gate, Link, ReservedList};
-use cal_book::{Desk, Told, replies_have_reasons};
+use cal_book::{Desk, Told, read_put, replies_have_reasons};
 use cal_model::{Event, Reply};
 use dav_request::{Asked, read_request};
 use http_wire::{Next, REQUEST_LIMIT, Wire, WireFault, WireRequest, bare_reply};
@@ -179,8 +179,8 @@ fn answer_request<B: Desk, L: Link, C: Clock, R: Wait, T: Gate, G: Ledger>(
 }
 
 /// The reply to a request, and how many entries there were when it was answered; or the fault of a
-/// desk that broke. The request is read before the turn. One that is refused as it stands needs no
-/// turn, and is answered at what the pass has seen.
+/// desk that broke. The request is read before the turn, and so is what a PUT brings. One that is
+/// refused as it stands needs no turn, and is answered at what the pass has seen.
 fn reply_to<B: Desk, R: Wait, T: Gate, G: Ledger>(
     context: &Context<'_, R, B, T>,
     pass: &mut Pass<B>,
@@ -206,7 +206,9 @@ fn reply_to<B: Desk, R: Wait, T: Gate, G: Ledger>(
                 moment,
                 request,
             };
-            let (at, told) = ask_once(context, pass, &event, counts);
+            let mut reading = read_put(context.alloc, &event);
+            let (at, told) = ask_once(context, pass, &event, &mut reading, counts);
+            drop(reading);
             drop(event);
             match told {
                 Told::Reply(reply) => Ok((at, reply)),

@@ -12,6 +12,7 @@ use cal_base::{Failed, NoMemory, Steps};
 use cal_book::{Book, Claim, Desk, Expanded, JournalEntry, Look, Publish, Told, journals_are_told};
 use cal_keeper::{Disk, DiskFault, Keeper, file_laws};
 use cal_model::Event;
+use preconditions::PutReading;
 use privileges::Users;
 use std::alloc::Global;
 use std::marker::Model;
@@ -114,6 +115,7 @@ impl<D: Disk> Desk for Kept<D> {
         &mut self,
         alloc: Global,
         event: &Event,
+        reading: &mut Option<PutReading>,
         steps: &mut Steps<L>,
     ) -> Told<DiskFault> {
         let before = self.book.entries();
@@ -123,7 +125,7 @@ impl<D: Disk> Desk for Kept<D> {
         // An accepted change is in the form of a record, by the laws of files.
         file_laws();
         let _size = event.request.size;
-        let reply = self.book.request(alloc, event, steps);
+        let reply = self.book.request(alloc, event, reading, steps);
         match keep_new(&self.book, before, &mut self.keeper) {
             None => Told::Reply(reply),
             Some(fault) => {

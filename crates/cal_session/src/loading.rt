@@ -248,7 +248,7 @@ fn ask_again<G: Ledger>(
     ensures remade { IsRemade book.old event.now status book.new result }
 {
     let before = book.entries();
-    let reply = book.request(alloc, event, steps);
+    let reply = book.request(alloc, event, &mut None, steps);
     let busy = reply.status == 503;
     drop(reply);
     if busy {

@@ -13,6 +13,7 @@ use crate::counts::Counts;
 use cal_base::Gate;
 use cal_book::{Desk, Look, Told, readings_enter_nothing};
 use cal_model::{Event, Reply};
+use preconditions::PutReading;
 use std::sync::Wait;
 use std::sync::ledger::Ledger;
 use turn_lock::{Held, Pass};
@@ -30,6 +31,7 @@ pub(crate) fn ask_once<B: Desk, R: Wait, T: Gate, G: Ledger>(
     context: &Context<'_, R, B, T>,
     pass: &mut Pass<B>,
     event: &Event,
+    reading: &mut Option<PutReading>,
     counts: &mut Counts<G>,
 ) -> (u64, Told<B::Fault>)
     requires same { pass.old.lock ≡ context.now.lock.now }
@@ -51,7 +53,7 @@ pub(crate) fn ask_once<B: Desk, R: Wait, T: Gate, G: Ledger>(
             (at, Told::Reply(reply))
         }
         None => {
-            let told = value.ask(context.alloc, event, &mut counts.steps);
+            let told = value.ask(context.alloc, event, reading, &mut counts.steps);
             context.lock.give(pass, Held { value });
             (at, told)
         }

@@ -89,7 +89,7 @@ fn answer<L: Ledger>(
                 moment: MOMENT,
                 request,
             };
-            print_reply(rt, &book.request(rt.alloc(), &event, steps))
+            print_reply(rt, &book.request(rt.alloc(), &event, &mut None, steps))
         }
         Asked::Refused(reply) => print_reply(rt, &reply),
         Asked::NoMemory => println!(rt; "out of memory"),

@@ -38,7 +38,7 @@ pub(crate) fn ask_again<G: Ledger>(
     ensures remade { IsRemade book.old event.now status book.new result }
 {
     let before = book.entries();
-    let reply = book.request(alloc, event, steps);
+    let reply = book.request(alloc, event, &mut None, steps);
     let busy = reply.status == 503;
     drop(reply);
     if busy {

@@ -1,1 +1,2 @@
 pub mod FineObjects
+pub mod FoundReadings

@@ -72,7 +72,7 @@ pub fn unmet_by_fault(kinds: u8, fault: ReadFault) -> Result<Precondition, NoMem
 }
 
 /// Whether an object has more instances than are served, or a rule by seconds or minutes.
-fn has_too_many(alloc: Global, object: &Object) -> Result<bool, NoMemory>
+pub(crate) fn has_too_many(alloc: Global, object: &Object) -> Result<bool, NoMemory>
     requires read { IsRead object.now }
     requires few { length object.now.components < 2 ^ 32 }
     ensures { IfOk result (λ found. found ≡ definition.has_too_many object.now) }
@@ -87,21 +87,16 @@ fn has_too_many(alloc: Global, object: &Object) -> Result<bool, NoMemory>
     }
 }
 
-/// What an object does not meet that was read without a fault.
-pub fn unmet_by_object(
-    alloc: Global,
-    kinds: u8,
-    object: &Object,
-) -> Result<Option<Precondition>, NoMemory>
-    requires read { IsRead object.now }
-    requires few { length object.now.components < 2 ^ 32 }
-    ensures { IfOk result (λ unmet. option_map refusal_of unmet ≡ content_refusal kinds (Ok object.now)) }
+/// What an object does not meet that was read without a fault, given whether it has too many instances.
+pub fn unmet_by_object(kinds: u8, object: &Object, has_too_many: bool) -> Option<Precondition>
+    requires many { has_too_many ≡ definition.has_too_many object.now }
+    ensures { option_map refusal_of result ≡ content_refusal kinds (Ok object.now) }
 {
     if !takes(kinds, object.kind) {
-        return Ok(Some(Precondition::SupportedCalendarComponent));
+        return Some(Precondition::SupportedCalendarComponent);
     }
-    if has_too_many(alloc, object)? {
-        return Ok(Some(Precondition::MaxInstances));
+    if has_too_many {
+        return Some(Precondition::MaxInstances);
     }
-    Ok(None)
+    None
 }

@@ -2,7 +2,7 @@
 
 use cal_base::{NoMemory, Octets};
 use cal_model::{Cond, Refusal};
-use preconditions::{PutCheck, check_put};
+use preconditions::{PutCheck, PutReading, check_put};
 use std::alloc::Global;
 use std::test::Fail;
 
@@ -42,10 +42,13 @@ fn told_refusal(refusal: &Refusal) -> &[u8] {
 }
 
 /// Whether this is told of octets that are put, sent as a calendar or not, where the calendar takes
-/// those kinds.
+/// those kinds: without a reading, with one of them, and with one of other octets.
 fn is_told(alloc: Global, media_ok: bool, octets: &[u8], kinds: u8, wanted: &[u8]) -> bool {
-    let found = check_put(alloc, media_ok, octets, kinds);
-    told(&found) == wanted
+    let mut own = PutReading::of(alloc, octets);
+    let mut other = PutReading::of(alloc, HEAD);
+    told(&check_put(alloc, media_ok, octets, kinds, &mut None)) == wanted
+        && told(&check_put(alloc, media_ok, octets, kinds, &mut own)) == wanted
+        && told(&check_put(alloc, media_ok, octets, kinds, &mut other)) == wanted
 }
 
 /// The lines of an event, and what is told of an object that has it.
@@ -104,6 +107,17 @@ fn events_are_checked(rt: HostRuntime) -> Result<(), Fail> {
         let octets = event(rt.alloc(), lines)?;
         assert!(rt; is_told(rt.alloc(), true, octets.as_slice(), ALL_KINDS, wanted));
     }
+    Ok(())
+}
+
+/// Octets that are no object are read beforehand as well as others, and a reading is used up.
+#[test]
+fn a_reading_is_used_up(rt: HostRuntime) -> Result<(), Fail> {
+    let mut reading = PutReading::of(rt.alloc(), HEAD);
+    assert!(rt; reading.is_some());
+    let found = check_put(rt.alloc(), true, HEAD, ALL_KINDS, &mut reading);
+    assert!(rt; told(&found) == b"<C:valid-calendar-data/>".as_slice());
+    assert!(rt; reading.is_none());
     Ok(())
 }
 

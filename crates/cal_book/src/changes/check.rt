@@ -16,6 +16,7 @@ use crate::changes::put::put;
 use crate::view::BookView;
 use cal_base::{NoMemory, ReservedList};
 use cal_model::{Change, Event, Method, Path, Reply, Request, Seen};
+use preconditions::PutReading;
 use request_checks::{Look, Scene, SharedRefusal, refuse, scene_at, shared_refusal};
 use std::alloc::Global;
 
@@ -34,11 +35,13 @@ pub enum ChangeCheck {
 
 /// Decides a request that changes something, as the definition of outcomes has it. A request that is
 /// refused for want of a privilege uses up the room, and takes no memory where that is 4,096 octets.
-/// A DELETE takes no other memory.
+/// A DELETE takes no other memory. The octets of a PUT are not read again where they are those of a
+/// reading, which is used up.
 pub fn check_change(
     alloc: Global,
     seen: &Seen<'_, BookView<'_>>,
     event: &Event,
+    reading: &mut Option<PutReading>,
     room: &mut ReservedList<u8>,
 ) -> ChangeCheck
     requires changing { is_reading event.now.request.method ≡ false }
@@ -56,7 +59,7 @@ pub fn check_change(
     let scene = scene_at(seen, &request.path, Look::Whole);
     match shared_refusal(&scene, request) {
         Some(refusal) => refused(alloc, &request.path, &refusal, room),
-        None => check_own(alloc, seen.view, &scene, request),
+        None => check_own(alloc, seen.view, &scene, request, reading),
     }
 }
 
@@ -86,6 +89,7 @@ fn check_own(
     view: &BookView<'_>,
     scene: &Scene<'_>,
     request: &Request,
+    reading: &mut Option<PutReading>,
 ) -> ChangeCheck
     requires changing { is_reading request.now.method ≡ false }
     requires passed { IsPassed (shown_directory view.now) (shown_state view.now) scene.now request.now }
@@ -93,7 +97,7 @@ fn check_own(
     ensures no_want { request.now.method ≡ Method.Delete → IsDecided result }
 {
     match request.method {
-        Method::Put => put(alloc, view, scene, request),
+        Method::Put => put(alloc, view, scene, request, reading),
         Method::Delete => delete(scene),
         Method::Mkcalendar => make(alloc, view, scene, request),
         Method::Proppatch => patch(alloc, view, scene, request),

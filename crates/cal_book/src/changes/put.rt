@@ -20,7 +20,7 @@ use crate::changes::room::is_full;
 use crate::view::BookView;
 use cal_base::{Arc, NoMemory, Octets};
 use cal_model::{Change, Content, Method, Object, ObjectPath, Request, Stored};
-use preconditions::{PutCheck, check_put};
+use preconditions::{PutCheck, PutReading, check_put};
 use request_checks::{Scene, tagged_reply};
 use std::alloc::Global;
 
@@ -31,6 +31,7 @@ pub(crate) fn put(
     view: &BookView<'_>,
     scene: &Scene<'_>,
     request: &Request,
+    reading: &mut Option<PutReading>,
 ) -> ChangeCheck
     requires method { request.now.method ≡ Method.Put }
     requires passed { IsPassed (shown_directory view.now) (shown_state view.now) scene.now request.now }
@@ -40,7 +41,13 @@ pub(crate) fn put(
         return no_request(alloc);
     };
     let target = target_of(scene);
-    match check_put(alloc, *media_ok, octets.as_slice(), target.place.data.kinds) {
+    match check_put(
+        alloc,
+        *media_ok,
+        octets.as_slice(),
+        target.place.data.kinds,
+        reading,
+    ) {
         PutCheck::Fine(object) => put_fine(alloc, view, &target, request.size, octets, object),
         PutCheck::Refused(refusal) => refused_by(alloc, &refusal),
         PutCheck::NoMemory => ChangeCheck::NoMemory,
