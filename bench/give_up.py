@@ -73,26 +73,26 @@ HELD = """let Held { mut value } = lock.take(rt, pass);
             Ok(Some(claim)) => {
                 gate.pass(rt, claim.origin);
                 match expand(alloc, claim, steps) {
-                    Ok(expanded) => match value.publish(expanded, steps) {
+                    Ok(expanded) => Some(match value.publish(expanded, steps) {
                         Publish::Published => Turn::Published,
                         Publish::Stale { now: _ } => Turn::Stale,
                         Publish::NoMemory => Turn::Refused,
-                    },
+                    }),
                     Err((claim, NoMemory)) => {
                         value.abandon(claim);
-                        Turn::Refused
+                        Some(Turn::Refused)
                     }
                 }
             }
-            _ => Turn::Idle,
+            _ => None,
         };
         lock.give(pass, Held { value });
         return turn;"""
 LOOKED = """let Held { mut value } = context.lock.take(context.rt, pass);
         let at = begin_turn(&mut value, counts);
-        let told = match value.look(context.alloc, event) {
+        let told = match value.look(event) {
             Some(look) => Told::Reply(answer_from(context, look, at, event, counts)),
-            None => value.ask(context.alloc, event, &mut counts.steps),
+            None => value.ask(context.alloc, event, reading, &mut counts.steps),
         };
         context.lock.give(pass, Held { value });
         return (at, told);"""
@@ -119,7 +119,7 @@ BY_HAND = [
     *[("a kept book is not loaded: %s" % end, "cal_session/src/loading.rt", "load_kept", "return Loaded::%s(disk);" % end) for end in ("Failed", "NoMemory")],
     ("a worker never claims", "expansion_workers/src/worker.rt", "work", "return Worked { claimed: 0, published: 0, stale: 0, refused: 0 };"),
     ("a worker at a desk never claims", "expansion_workers/src/worker.rt", "work_on", "return Worked { claimed: 0, published: 0, stale: 0, refused: 0 };"),
-    ("a worker gives each claim up", "expansion_workers/src/worker.rt", "take_turn", "if let Some(claim) = take_claim(rt, lock, pass) {\n            give_up(rt, lock, pass, claim);\n            return Turn::Refused;\n        }\n        return Turn::Idle;"),
+    ("a worker gives each claim up", "expansion_workers/src/worker.rt", "take_turn", "if let Some(claim) = take_claim(rt, lock, pass) {\n            give_up(rt, lock, pass, claim);\n            return Some(Turn::Refused);\n        }\n        return None;"),
     ("a worker expands while it holds the turn", "expansion_workers/src/worker.rt", "take_turn", HELD),
     ("no work is done for load", "caldav_server/src/load_sessions.rt", "run_role", "return Outcome::Failed;"),
     *[("load ends with status %d" % status, "caldav_server/src/load.rt", "run_load", "return ScriptEnd { status: %d, place: 0 };" % status) for status in (5, 7)],

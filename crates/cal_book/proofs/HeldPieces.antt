@@ -1,10 +1,11 @@
--- Right pieces are rows of the objects that a state has at their places, so a report may look them up.
-use Rattle.std.proofs.Common.{◌≡◌, ℕ, List, [], ◌∷◌, Option, Some, None, refl, sym, ap, ◌∙◌, subst}
+-- Right pieces are rows of the objects that a state has at their places, so a report may look them up; and what is held is one where it is the same of each object and window.
+use Rattle.std.proofs.Common.{◌≡◌, ℕ, ◌≤◌, arith, List, [], ◌∷◌, Option, Some, None, refl, sym, ap, ◌∙◌, subst}
 use Rattle.std.specs.Prelude.{ℤ, Ok, flat_map, option_and_then, option_to_list}
 use Rattle.std.specs.List.{AllByRecursion}
 use Rattle.cal_base.specs.Lists.NameMap.{Named, value_at}
 use Rattle.cal_model.specs.declared.object.Object.{Object}
 use Rattle.cal_model.specs.declared.piece.Piece.{Piece}
+use Rattle.cal_model.specs.declared.request.Event.{Event}
 use Rattle.cal_model.specs.declared.row.Row.{Row}
 use Rattle.cal_model.specs.History.Journal.{Entry}
 use Rattle.cal_model.specs.History.Origins.{Origins, AreLive}
@@ -17,7 +18,9 @@ use Rattle.cal_model.specs.State.SoundStates.{IsSound}
 use Rattle.cal_model.proofs.Pieces.FoundPieces.{right_if_found}
 use Rattle.object_walk.specs.WalkedObjects.{objects_at}
 use Rattle.dav_reports.specs.CalendarObjects.{IsHeldRight, AreHeldRight}
+use Rattle.dav_reports.specs.PieceRows.{Held}
 use Rattle.dav_reports.proofs.QueryWalks.{AreEntriesOf, entries_found}
+use Rattle.cal_book.specs.Answering.ReadingCost.{reading_cost}
 use Rattle.cal_book.specs.Cores.{HasLiveOctets}
 
 module _ (journal : List Entry) (origins : Origins) (state : ServerState) (pieces : List Piece) (live : AreLive journal origins) (octets : HasLiveOctets journal state)
@@ -65,3 +68,15 @@ AreLive-same journal a b is other = λ i home calendar object. (at home calendar
   at : (home : ℕ) (calendar object : List ℕ) (o : Option ℕ) → a home calendar object ≡ o → a home calendar object ≡ b home calendar object
   at home calendar object None e = e ∙ none home calendar object (b home calendar object) refl e
   at home calendar object (Some n) e = e ∙ sym (other.live n _ (is.known home calendar object n e).1)
+
+-- What is held is one where it is the same of each object and window, and then to read costs no more.
+pub held-same : (a b : Held) → ((origin : ℕ) (window : ℤ) → a origin window ≡ b origin window) → a ≡ b
+held-same a b same = λ i origin window. (same origin window) i
+
+no_more : (m n : ℕ) → m ≡ n → m ≤ n
+no_more m n same = omega arith
+
+pub reading-no_more : (a b : Held) → ((origin : ℕ) (window : ℤ) → a origin window ≡ b origin window) → (origins : Origins) (directory : Directory) (state : ServerState) (event : Event)
+    → reading_cost a origins directory state event ≤ reading_cost b origins directory state event
+reading-no_more a b same origins directory state event =
+    no_more (reading_cost a origins directory state event) (reading_cost b origins directory state event) (ap (λ (held : Held). reading_cost held origins directory state event) (held-same a b same))

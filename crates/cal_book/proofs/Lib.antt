@@ -15,4 +15,3 @@ pub mod Answering
 pub mod Checking
 pub mod Moves
 pub mod CompletenessLaws
-pub mod GatherLemmas

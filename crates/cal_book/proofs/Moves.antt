@@ -5,6 +5,8 @@ use denote.Builtin.{u8, u16, u32, u64, i64}
 use denote.Param.Send.{IsSend, IsSync, recorded_send, recorded_sync, enum_send, struct_send, struct_sync, view_send, view_sync, sendable}
 use denote.Enum.Declared as enums
 use denote.Struct.Declared as structs
+use Rattle.name_pages.proofs.map.NamePages.TheSendSync as pages
+use Rattle.name_pages.specs.contracts.map.NamePages.{the_row as pages_row}
 use Rattle.std.proofs.Crossing as heap
 use Rattle.std.proofs.alloc.Global.TheSendSync as global
 use Rattle.cal_base.proofs.arc.Arc.TheSendSync as arc
@@ -199,11 +201,11 @@ object_entry_sync =
     recorded_sync ObjectEntry.the_field.row _ _ ObjectEntry.the_type.to_one
     (struct_sync (structs.shape ObjectEntry.the_type) (shared_object_sync, (count_sync, tt)))
 
-shown_objects_send : IsSend (shared_row (names_row ObjectEntry.the_row))
-shown_objects_send = shared.the_send (names_row ObjectEntry.the_row) (names.the_send ObjectEntry.the_row object_entry_send) (names.the_sync ObjectEntry.the_row object_entry_sync)
+shown_objects_send : IsSend (pages_row ObjectEntry.the_row)
+shown_objects_send = pages.the_send ObjectEntry.the_row object_entry_send object_entry_sync
 
-shown_objects_sync : IsSync (shared_row (names_row ObjectEntry.the_row))
-shown_objects_sync = shared.the_sync (names_row ObjectEntry.the_row) (names.the_send ObjectEntry.the_row object_entry_send) (names.the_sync ObjectEntry.the_row object_entry_sync)
+shown_objects_sync : IsSync (pages_row ObjectEntry.the_row)
+shown_objects_sync = pages.the_sync ObjectEntry.the_row object_entry_send object_entry_sync
 
 shown_calendar_send : IsSend ShownCalendar.the_row
 shown_calendar_send =

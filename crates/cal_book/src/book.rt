@@ -168,15 +168,12 @@ impl Book {
 
     /// A look at the state and the pieces of now, for a request that only reads. There is none for one
     /// that changes something, where there is no memory for it, and where more than 256 entries came since
-    /// the last look. Nothing that contracts see changes.
-    pub fn look(&mut self, alloc: Global, event: &Event) -> Option<Look>
-        requires bookable { IsBookable self.old.users event.now.who event.now.request }
-        requires from_1970 { pos 0 ≤ℤ event.now.moment }
-        requires to_9999 { event.now.moment ≤ℤ pos 253_402_300_799 }
+    /// the last look, or have pieces that looks do not share yet. Nothing that contracts see changes.
+    pub fn look(&mut self, event: &Event) -> Option<Look>
         ensures same { self.new ≡ self.old }
         ensures at { IfSome result (IsLookAt self.old event.now) }
     {
-        look_for(alloc, &mut self.history, &self.claims, event)
+        look_for(&mut self.history, &mut self.claims, event)
     }
 
     /// A request came at a moment, and was answered other than by 503.

@@ -79,7 +79,7 @@ fn enter<L: Ledger>(
     make(history, claims, change, event, reply.status, steps)
 }
 
-/// Deletes what the path of a request names, which is there. Takes no memory.
+/// Deletes what the path of a request names, which is there. Needs no memory.
 fn delete<L: Ledger>(
     history: &mut History,
     claims: &mut Claims,

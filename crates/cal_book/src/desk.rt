@@ -119,10 +119,7 @@ pub trait Desk: Keeps<Entry = JournalEntry, Base = Users> {
     /// A look at its book for a request that only reads, which is answered from it while others have
     /// their turns. There is none for a request that changes something, where there is no memory for it,
     /// and where the desk is broken: then the desk is asked.
-    fn look(&mut self, alloc: Global, event: &Event) -> Option<Look>
-        requires bookable { IsBookable (book self.old).users event.now.who event.now.request }
-        requires from_1970 { pos 0 ≤ℤ event.now.moment }
-        requires to_9999 { event.now.moment ≤ℤ pos 253_402_300_799 }
+    fn look(&mut self, event: &Event) -> Option<Look>
         ensures same { book self.new ≡ book self.old }
         ensures at { IfSome result (IsLookAt (book self.old) event.now) }
         ensures unbroken { IsSome result → broken self.old ≡ false }
@@ -219,8 +216,8 @@ impl Desk for Book {
         Told::Reply(self.request(alloc, event, reading, steps))
     }
 
-    fn look(&mut self, alloc: Global, event: &Event) -> Option<Look> {
-        Book::look(self, alloc, event)
+    fn look(&mut self, event: &Event) -> Option<Look> {
+        Book::look(self, event)
     }
 
     fn came_at(&mut self, moment: i64) {

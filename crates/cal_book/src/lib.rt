@@ -14,7 +14,6 @@ mod claims;
 mod desk;
 mod ending;
 mod expanding;
-mod gathering;
 mod history;
 mod laws;
 mod look;

@@ -7,6 +7,7 @@ ghost use Rattle.cal_model.specs.Serving.Outcomes.{is_reading};
 ghost use Rattle.cal_model.specs.Sight.LookingAlike.{LookAlike};
 ghost use Rattle.cal_model.specs.State.ServerState.{ServerState};
 ghost use Rattle.cal_book.specs.Answering.ReadingCost.{reading_cost};
+ghost use Rattle.piece_shelf.specs.Shelves.{held_on};
 ghost use Rattle.request_checks.specs.Sightings.{AreShort};
 
 use crate::reading::read_shown;
@@ -14,7 +15,7 @@ use cal_base::{Arc, List, NoMemory, ReservedList, Steps};
 use cal_model::view::Pieces;
 use cal_model::{Event, Reply, Row, bare_reply};
 use collections::ShownView;
-use piece_index::Index;
+use piece_shelf::Shelf;
 use privileges::Users;
 use std::alloc::Global;
 use std::marker::Model;
@@ -26,33 +27,34 @@ use std::sync::ledger::Ledger;
 pub struct Look {
     users: Arc<Users>,
     shown: ShownView,
-    pieces: Index,
+    shelf: Shelf,
     /// The greatest moment that the book had counted.
     latest: i64,
 }
 
 impl Model for Look {
     ghost use Rattle.cal_book.specs.Looks.{Sight, IsLook};
+    ghost use Rattle.piece_shelf.specs.Shelves.{held_on};
 
     ghost Value = { Sight };
 
-    ghost view = { λ l. record { users = l.users; kept = l.shown; pieces = l.pieces.pieces; latest = l.latest } };
+    ghost view = { λ l. record { users = l.users; kept = l.shown; shelf = l.shelf; latest = l.latest } };
 
-    ghost invariant = { λ l. IsLook l.users l.shown l.pieces.pieces };
+    ghost invariant = { λ l. IsLook l.users l.shown (held_on l.shelf) };
 }
 
 impl Look {
     ghost use Rattle.cal_book.specs.Looks.{IsLook, look_directory, look_state, look_origins, look_held};
 
     /// The look of what is shown and held.
-    pub(crate) fn of(users: Arc<Users>, shown: ShownView, pieces: Index, latest: i64) -> Look
-        requires { IsLook users shown pieces.pieces }
-        ensures { result ≡ record { users = users; kept = shown; pieces = pieces.pieces; latest = latest } }
+    pub(crate) fn of(users: Arc<Users>, shown: ShownView, shelf: Shelf, latest: i64) -> Look
+        requires { IsLook users shown (held_on shelf) }
+        ensures { result ≡ record { users = users; kept = shown; shelf = shelf; latest = latest } }
     {
         Look {
             users,
             shown,
-            pieces,
+            shelf,
             latest,
         }
     }
@@ -124,7 +126,7 @@ impl Pieces for Look {
     ghost held = { look_held };
 
     fn rows(&self, origin: u64, window: i32) -> Option<&List<Row>> {
-        match self.pieces.get(origin, window) {
+        match self.shelf.get(origin, window) {
             Some(rows) => Some(list_of(rows)),
             None => None,
         }

@@ -73,7 +73,7 @@ fn asked(event: &Event) -> Asked
     }
 }
 
-/// Deletes an object. Its pieces go, with one step for each. Takes no memory.
+/// Deletes an object. Its pieces go, with one step for each. Needs no memory.
 pub(crate) fn delete_object<L: Ledger>(
     history: &mut History,
     claims: &mut Claims,
@@ -103,7 +103,7 @@ pub(crate) fn delete_object<L: Ledger>(
     note(claims, false);
 }
 
-/// Deletes a calendar with its objects. Their pieces go, with one step for each. Takes no memory.
+/// Deletes a calendar with its objects. Their pieces go, with one step for each. Needs no memory.
 pub(crate) fn delete_calendar<L: Ledger>(
     history: &mut History,
     claims: &mut Claims,

@@ -136,11 +136,11 @@ impl<D: Disk> Desk for Kept<D> {
     }
 
     /// A look shows what is in the file already: an entry is made and appended in one turn.
-    fn look(&mut self, alloc: Global, event: &Event) -> Option<Look> {
+    fn look(&mut self, event: &Event) -> Option<Look> {
         if let Some(_) = self.keeper.fault() {
             return None;
         }
-        self.book.look(alloc, event)
+        self.book.look(event)
     }
 
     fn came_at(&mut self, moment: i64) {

@@ -46,7 +46,7 @@ pub(crate) fn ask_once<B: Desk, R: Wait, T: Gate, G: Ledger>(
 {
     let Held { mut value } = context.lock.take(context.rt, pass);
     let at = begin_turn(&mut value, counts);
-    match value.look(context.alloc, event) {
+    match value.look(event) {
         Some(look) => {
             context.lock.give(pass, Held { value });
             let reply = answer_from(context, look, at, event, counts);

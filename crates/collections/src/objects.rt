@@ -4,8 +4,9 @@ ghost use Rattle.cal_base.specs.Lists.NameMap.{value_at, with_value, without};
 ghost use Rattle.collections.specs.Objects.{IsIndexed, IsAlone};
 ghost use Rattle.object_walk.specs.declared.entry.ObjectEntry.{ObjectEntry as Entry};
 
-use cal_base::{Arc, NameMap, NoMemory, Octets, Shared};
+use cal_base::{Arc, NameMap, NoMemory, Octets};
 use cal_model::Stored;
+use name_pages::NamePages;
 use object_walk::ObjectEntry;
 use std::alloc::Global;
 
@@ -71,7 +72,7 @@ pub(crate) fn take_object(
 /// The looks keep what they have; without memory all stays as it was.
 pub(crate) fn put_in_shown(
     alloc: Global,
-    objects: &mut Shared<NameMap<ObjectEntry>>,
+    objects: &mut NamePages<ObjectEntry>,
     stored: &Arc<Stored>,
     origin: u64,
 ) -> Result<(), NoMemory>
@@ -83,27 +84,18 @@ pub(crate) fn put_in_shown(
         stored: Arc::try_clone(stored)?,
         origin,
     };
-    match objects.make_own(alloc) {
-        Ok(own) => own.insert(name, entry),
-        Err(NoMemory) => Err(NoMemory),
-    }
+    objects.insert(alloc, name, entry)
 }
 
 /// Takes the object of a name out of objects that looks share, if it is there. The looks keep it;
 /// without memory all stays as it was.
 pub(crate) fn take_from_shown(
     alloc: Global,
-    objects: &mut Shared<NameMap<ObjectEntry>>,
+    objects: &mut NamePages<ObjectEntry>,
     name: &[u8],
 ) -> Result<(), NoMemory>
     ensures ok { OnOk result (objects.new ≡ without objects.old name.now) }
     ensures err { OnErr result (objects.new ≡ objects.old) }
 {
-    match objects.make_own(alloc) {
-        Ok(own) => {
-            let _gone = own.remove(name);
-            Ok(())
-        }
-        Err(NoMemory) => Err(NoMemory),
-    }
+    objects.remove(alloc, name)
 }

@@ -14,8 +14,9 @@ ghost use Rattle.object_walk.specs.WalkedObjects.{AreInCalendar};
 
 use crate::calendar_data::{data_with_grants, data_with_sets};
 use crate::objects::{put_in_shown, take_from_shown};
-use cal_base::{Arc, Copies, NameMap, NoMemory, Octets, Shared};
+use cal_base::{Arc, Copies, NameMap, NoMemory, Octets};
 use cal_model::{CalendarData, Grant, PropSet, Stored};
+use name_pages::NamePages;
 use object_walk::{ObjectEntry, ObjectWalk};
 use std::alloc::Global;
 use std::marker::Model;
@@ -26,7 +27,7 @@ use std::marker::Model;
 pub(crate) struct ShownCalendar {
     name: Arc<Octets>,
     kept: Arc<CalendarData>,
-    objects: Shared<NameMap<ObjectEntry>>,
+    objects: NamePages<ObjectEntry>,
 }
 
 impl Model for ShownCalendar {
@@ -68,7 +69,7 @@ impl ShownCalendar {
         ensures { IfOk result (λ shown. shown ≡ kept_with name kept objects) }
     {
         let kept = Arc::new(alloc, kept)?;
-        let objects = Shared::new(alloc, objects)?;
+        let objects = NamePages::of(alloc, &objects)?;
         Ok(ShownCalendar {
             name,
             kept,
@@ -112,7 +113,7 @@ impl ShownCalendar {
         ensures there { AllByRecursion (λ entry. value_at self.now.objects entry.stored.path.object ≡ Some (kept_entry entry)) result }
         ensures places { AreInCalendar self.now.home self.now.name result }
     {
-        ObjectWalk::of(&self.objects)
+        ObjectWalk::of_pages(&self.objects)
     }
 
     /// Puts an object in the place of the one of its name, or as a new one.

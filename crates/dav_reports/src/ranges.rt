@@ -4,7 +4,7 @@ ghost use Rattle.cal_model.specs.declared.filter.PropFilter.{PropFilter as PropF
 ghost use Rattle.cal_model.specs.Reports.NamedRanges as spec;
 
 use cal_base::{List, NoMemory};
-use cal_model::{CompFilter, PropFilter, PropTest, Range, Recur, ReportRequest, Selection};
+use cal_model::{CompFilter, PropFilter, PropTest, Range, Recur, Selection};
 use std::alloc::Global;
 
 /// Puts a range behind others, where there is one.
@@ -87,15 +87,4 @@ pub(crate) fn ranges_of_query(
     let mut ranges = ranges_of_selection(alloc, select)?;
     put_ranges_of_comp(top, &mut ranges)?;
     Ok(ranges)
-}
-
-/// The ranges that a report names.
-pub fn ranges_of_report(alloc: Global, report: &ReportRequest) -> Result<List<Range>, NoMemory>
-    ensures { IfOk result (λ ranges. ranges ≡ spec.ranges_named report.now) }
-{
-    match report {
-        ReportRequest::Query { select, filter, .. } => ranges_of_query(alloc, select, &filter.top),
-        ReportRequest::Multiget { select, .. } => ranges_of_selection(alloc, select),
-        ReportRequest::FreeBusy { range } => List::of(alloc, &[*range]),
-    }
 }

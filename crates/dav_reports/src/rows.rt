@@ -39,7 +39,11 @@ impl Looked<'_> {
 }
 
 /// The windows of an object that a report of some ranges may need.
-pub fn windows_for(alloc: Global, object: &Object, ranges: &[Range]) -> Result<List<i32>, NoMemory>
+pub(crate) fn windows_for(
+    alloc: Global,
+    object: &Object,
+    ranges: &[Range],
+) -> Result<List<i32>, NoMemory>
     requires { IsKept object.now }
     ensures { IfOk result (λ windows. windows ≡ filter (counts object.now ranges.now) stated_windows) }
 {

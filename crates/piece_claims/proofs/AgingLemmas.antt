@@ -81,7 +81,7 @@ live_without live n (p ∷ ps) all = by_test (p.origin == n) refl (live_without 
     by_test true is rest = rest
     by_test false is rest = (get_or-set_other live n p.origin false false (λ e. (let same : (p.origin == n) ≡ true = (Decides-eqb p.origin n).1 e in let both : true ≡ false = sym same ∙ is in cc)) ∙ all.0, rest)
 
-known_live : (live : List Bool) (entries : ℕ) (ps : List Piece) → ((n : ℕ) → entries ≤ n → has live n ≡ false) → AreOfLive live ps → AllByRecursion (λ (p : Piece). p.origin < entries) ps
+pub known_live : (live : List Bool) (entries : ℕ) (ps : List Piece) → ((n : ℕ) → entries ≤ n → has live n ≡ false) → AreOfLive live ps → AllByRecursion (λ (p : Piece). p.origin < entries) ps
 known_live live entries [] unknown all = tt
 known_live live entries (p ∷ ps) unknown all =
     (elim (cases_le entries p.origin) [ inr below ↦ below | inl above ↦ absurd (let none = unknown p.origin above in let both : true ≡ false = sym all.0 ∙ none in cc) ], known_live live entries ps unknown all.1)

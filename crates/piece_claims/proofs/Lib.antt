@@ -5,5 +5,6 @@ pub mod PairLemmas
 pub mod CountLemmas
 pub mod KeptLemmas
 pub mod AgingLemmas
+pub mod ShelvedLemmas
 pub mod NextLemmas
 pub mod EntryLemmas

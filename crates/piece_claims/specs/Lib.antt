@@ -4,3 +4,4 @@ pub mod Counts
 pub mod Out
 pub mod Kept
 pub mod Entries
+pub mod Shelved

@@ -1,9 +1,10 @@
 //! The keeping of claims.
-ghost use Rattle.std.specs.Prelude.{◌≡◌, ℕ, ◌+◌, ◌-◌, ◌<◌, ◌≤◌, true, false, Some, None, [], ◌∷◌, ◌++◌, length, filter, pos, negsuc, ◌≤ℤ◌, ◌^◌, slice_set, IfOk, IfSome, IsOk, OnOk, OnErr};
+ghost use Rattle.std.specs.Prelude.{◌≡◌, ℕ, ℤ, ◌+◌, ◌-◌, ◌<◌, ◌≤◌, true, false, Some, None, [], ◌∷◌, ◌++◌, length, filter, pos, negsuc, ◌≤ℤ◌, ◌^◌, slice_set, IfOk, IfSome, IsOk, OnOk, OnErr};
 ghost use Rattle.cal_model.specs.History.Claims.{with_claim, without_claim};
 ghost use Rattle.cal_model.specs.Pieces.KeptPieces.{IsWithinBudget};
 ghost use Rattle.cal_model.specs.Pieces.PieceLists.{is_other_piece, is_piece_of, newest_within, rows_at, rows_in};
 ghost use Rattle.number_set.specs.Sets.{has};
+ghost use Rattle.piece_shelf.specs.Shelves.{held_on};
 ghost use Rattle.piece_claims.specs.Boards.{later, pair_at, pair_in, piece_at, is_full, next_of, out_after, published, ended, gone_for, rows_limit};
 ghost use Rattle.piece_claims.specs.Kept.{first_of, AreOfLive};
 ghost use Rattle.cal_model.specs.Instances.Rows.{window_at};
@@ -12,11 +13,13 @@ use crate::aging::{make_room, put_in};
 use crate::claimed::end;
 use crate::counts::{Counts, count};
 use crate::lanes::{Lanes, refresh_all};
+use crate::shelving::Shelving;
 use cal_base::{Arc, List, NoMemory, Steps};
 use cal_model::view::Pieces;
 use cal_model::{Piece, Row};
 use number_set::NumberSet;
 use piece_index::Index;
+use piece_shelf::Shelf;
 use std::alloc::Global;
 use std::marker::Model;
 use std::sync::ledger::Ledger;
@@ -36,6 +39,8 @@ pub struct Claims {
     limit: u64,
     lanes: Lanes,
     counts: Counts,
+    /// The pieces once more, for looks.
+    shelving: Shelving,
 }
 
 impl Model for Claims {
@@ -43,12 +48,13 @@ impl Model for Claims {
     ghost use Rattle.piece_claims.specs.Boards.{Board};
     ghost use Rattle.piece_claims.specs.Out.{pairs_out};
     ghost use Rattle.piece_claims.specs.Kept.{IsKept, IsStored};
+    ghost use Rattle.piece_claims.specs.Shelved.{AreShelved};
 
     ghost Value = { Board };
 
     ghost view = { λ c. record { live = take c.entries c.live; latest = c.latest; pieces = c.index.pieces; out = pairs_out c.out.items; room = c.limit - c.entries } };
 
-    ghost invariant = { λ c. IsKept c.index.pieces c.out.items (vec_capacity c.out) c.latest c.first c.live c.entries c.limit c.lanes × IsStored c.index c.first c.live c.counts };
+    ghost invariant = { λ c. IsKept c.index.pieces c.out.items (vec_capacity c.out) c.latest c.first c.live c.entries c.limit c.lanes × IsStored c.index c.first c.live c.counts × AreShelved c.shelving.shelf c.shelving.filled c.entries c.index.pieces };
 }
 
 /// How many rows the index takes: twice as many as the pieces have in all, so that a new piece is in
@@ -92,6 +98,7 @@ impl Claims {
             limit: 1,
             lanes,
             counts: Counts::new(),
+            shelving: Shelving::new(alloc),
         })
     }
 
@@ -158,8 +165,9 @@ impl Claims {
         self.add(false);
     }
 
-    /// The object that an entry made is gone: so are its pieces, with one step for each. Takes no
-    /// memory.
+    /// The object that an entry made is gone: so are its pieces, with one step for each. No want of
+    /// memory keeps it from that: where there is none to change the shelf behind a look, the shelf is
+    /// given up.
     pub fn ended<L: Ledger>(&mut self, origin: u64, steps: &mut Steps<L>)
         requires { origin < length self.old.live }
         ensures board { self.new ≡ record self.old { live = slice_set self.old.live origin false; pieces = filter (is_other_piece origin) self.old.pieces } }
@@ -167,6 +175,7 @@ impl Claims {
     {
         self.counts.take_object(self.first, &self.index, origin);
         self.index.drop_object(origin, steps);
+        self.shelving.renew(&self.index, origin);
         self.live.put(origin, false);
         self.lanes
             .refresh(self.first, false, &self.index, &self.out, origin);
@@ -285,7 +294,7 @@ impl Claims {
     }
 
     /// Keeps a piece as the newest, and drops as few of the oldest as make room, with one step for
-    /// each. It takes its memory first.
+    /// each. It takes its memory first; where there is none for the shelf, that is given up.
     fn keep<L: Ledger>(&mut self, piece: Piece, steps: &mut Steps<L>) -> Result<(), NoMemory>
         requires live { has self.old.live piece.origin ≡ true }
         requires few { length piece.rows ≤ 4_000_000 }
@@ -299,11 +308,13 @@ impl Claims {
         let window = piece.window;
         let rows = piece.row_count();
         put_in(&mut self.index, piece)?;
+        self.shelving.renew(&self.index, origin);
         self.counts.add(self.first, window, rows);
         self.lanes
             .refresh_at(self.first, true, &self.index, &self.out, origin, window);
         make_room(
             &mut self.index,
+            &mut self.shelving,
             &mut self.counts,
             &mut self.lanes,
             self.first,
@@ -347,15 +358,15 @@ impl Claims {
         )
     }
 
-    /// The rows of an object in a window, shared, where there is a piece of them: who has them keeps them,
-    /// whatever becomes of the piece. Takes no memory; it fails only where 2^63 share them.
-    pub fn share(&self, origin: u64, window: i32) -> Result<Option<Arc<List<Row>>>, NoMemory>
-        ensures { IfOk result (λ found. found ≡ rows_at origin window self.now.pieces) }
+    /// A look at the pieces: a shelf with all of them as they are now, whatever becomes of them later.
+    /// In constant time, where the pieces of all entries are on the shelf already; else those of up to
+    /// 256 entries are put there first. Where more are left there is no look, as for want of memory, and
+    /// the next call goes on.
+    pub fn look(&mut self) -> Result<Shelf, NoMemory>
+        ensures same { self.new ≡ self.old }
+        ensures held { IfOk result (λ shelf. (o : ℕ) (w : ℤ) → held_on shelf o w ≡ rows_at o w self.old.pieces) }
     {
-        match self.index.get(origin, window) {
-            Some(rows) => Ok(Some(Arc::try_clone(rows)?)),
-            None => Ok(None),
-        }
+        self.shelving.look(&self.index, self.entries)
     }
 
     /// How many rows the pieces have in all: no more than 4,000,000. No two pieces are of one object

@@ -42,19 +42,24 @@ walk_enough after zero (k ∷ ks) enough path = absurd (omega arith)
 walk_enough after (suc n) (k ∷ ks) enough path =
     ap (λ xs. k ∷ xs) (ap (walk n after) path.0 ∙ walk_enough after n ks (omega arith) path.1)
 
-module _ (nodes : Slab Node) (window : ℤ) (k : ℕ) where
-  pub rows_step : (node : Node) → get nodes k ≡ Some node → IsWalked (next nodes) (slab_len nodes) (Some k) → rows_of_window window (entries_from nodes (Some k)) ≡ (if int_eq node.piece.window window then Some node.piece.rows else rows_of_window window (entries_from nodes node.next))
-  rows_step node found w =
-      let e = walk_on (next nodes) (slab_len nodes) k w in
-      let on : rows_of_window window (filter_map (entry_at nodes) (k ∷ walk (slab_len nodes) (next nodes) (next nodes k))) ≡ (if int_eq node.piece.window window then Some node.piece.rows else rows_of_window window (entries_from nodes node.next)) = rw found refl in
-      ap (λ ks. rows_of_window window (filter_map (entry_at nodes) ks)) e ∙ on
+-- the entries from a node on: its own, and those from the next one on
+pub entries_step : (nodes : Slab Node) (k : ℕ) (node : Node) → get nodes k ≡ Some node → IsWalked (next nodes) (slab_len nodes) (Some k) → entries_from nodes (Some k) ≡ (k, node.piece) ∷ entries_from nodes node.next
+entries_step nodes k node found w =
+    let on : filter_map (entry_at nodes) (k ∷ walk (slab_len nodes) (next nodes) (next nodes k)) ≡ (k, node.piece) ∷ entries_from nodes node.next = rw found refl in
+    ap (filter_map (entry_at nodes)) (walk_on (next nodes) (slab_len nodes) k w) ∙ on
 
-  -- the walk from the next one on is shorter
-  pub walk_shorter : IsWalked (next nodes) (slab_len nodes) (Some k) → length (walk (slab_len nodes) (next nodes) (next nodes k)) < length (walk (slab_len nodes) (next nodes) (Some k))
-  walk_shorter w = omega (arith, ap length (walk_on (next nodes) (slab_len nodes) k w))
+pub entries_at_end : (nodes : Slab Node) → entries_from nodes None ≡ []
+entries_at_end nodes = ap (filter_map (entry_at nodes)) (walk_end (next nodes) (slab_len nodes))
+
+pub rows_step : (nodes : Slab Node) (window : ℤ) (k : ℕ) (node : Node) → get nodes k ≡ Some node → IsWalked (next nodes) (slab_len nodes) (Some k) → rows_of_window window (entries_from nodes (Some k)) ≡ (if int_eq node.piece.window window then Some node.piece.rows else rows_of_window window (entries_from nodes node.next))
+rows_step nodes window k node found w = ap (rows_of_window window) (entries_step nodes k node found w)
+
+-- the walk from the next one on is shorter
+pub walk_shorter : (nodes : Slab Node) (k : ℕ) → IsWalked (next nodes) (slab_len nodes) (Some k) → length (walk (slab_len nodes) (next nodes) (next nodes k)) < length (walk (slab_len nodes) (next nodes) (Some k))
+walk_shorter nodes k w = omega (arith, ap length (walk_on (next nodes) (slab_len nodes) k w))
 
 pub rows_at_end : (nodes : Slab Node) (window : ℤ) → rows_of_window window (entries_from nodes None) ≡ None
-rows_at_end nodes window = ap (λ ks. rows_of_window window (filter_map (entry_at nodes) ks)) (walk_end (next nodes) (slab_len nodes))
+rows_at_end nodes window = ap (rows_of_window window) (entries_at_end nodes)
 
 -- What an index gives
 
@@ -72,6 +77,18 @@ rows_of_object origin window (e ∷ es) =
       | false ↦ rows_of_object origin window es
     ]
 
+-- what is found of an object is found among its own pieces
+pub rows_of_own : (origin : ℕ) (window : ℤ) (es : List (ℕ × Piece)) → rows_at origin window (map (λ (e : ℕ × Piece). e.1) (filter (is_of origin) es)) ≡ rows_at origin window (map (λ (e : ℕ × Piece). e.1) es)
+rows_of_own origin window [] = refl
+rows_of_own origin window (e ∷ es) =
+    by_test (e.1.origin == origin) refl (rows_of_own origin window es)
+  where
+    by_test : (b : Bool) → (e.1.origin == origin) ≡ b → rows_at origin window (map (λ (e : ℕ × Piece). e.1) (filter (is_of origin) es)) ≡ rows_at origin window (map (λ (e : ℕ × Piece). e.1) es) → rows_at origin window (map (λ (e : ℕ × Piece). e.1) (if b then e ∷ filter (is_of origin) es else filter (is_of origin) es)) ≡ (if b && int_eq e.1.window window then Some e.1.rows else rows_at origin window (map (λ (e : ℕ × Piece). e.1) es))
+    by_test true is rest =
+        ap (λ t. if t && int_eq e.1.window window then Some e.1.rows else rows_at origin window (map (λ (e : ℕ × Piece). e.1) (filter (is_of origin) es))) is
+        ∙ ap (λ (r : Option (List Row)). if int_eq e.1.window window then Some e.1.rows else r) rest
+    by_test false is rest = rest
+
 module _ (nodes : Slab Node) (first_of : ℕ → Option ℕ) (newest oldest : Option ℕ) (es : List (ℕ × Piece)) (i : IsIndexed nodes first_of newest oldest es) (origin : ℕ) where
   walk_object : walk (slab_len nodes) (next nodes) (first_of origin) ≡ keys_of origin es
   walk_object =
@@ -85,8 +102,9 @@ module _ (nodes : Slab Node) (first_of : ℕ → Option ℕ) (newest oldest : Op
         path = subst (IsPath (next nodes)) (sym walk_object) (i.by_object origin).path;
       }
 
+  pub entries_found : entries_from nodes (first_of origin) ≡ filter (is_of origin) es
+  entries_found =
+      ap (filter_map (entry_at nodes)) walk_object ∙ listed nodes (filter (is_of origin) es) (all_filter (λ (e : ℕ × Piece). piece_at nodes e.0 ≡ Some e.1) (is_of origin) es i.pieces)
+
   pub rows_found : (window : ℤ) → rows_of_window window (entries_from nodes (first_of origin)) ≡ rows_at origin window (map (λ (e : ℕ × Piece). e.1) es)
-  rows_found window =
-      ap (λ ks. rows_of_window window (filter_map (entry_at nodes) ks)) walk_object
-      ∙ ap (rows_of_window window) (listed nodes (filter (is_of origin) es) (all_filter (λ (e : ℕ × Piece). piece_at nodes e.0 ≡ Some e.1) (is_of origin) es i.pieces))
-      ∙ rows_of_object origin window es
+  rows_found window = ap (rows_of_window window) entries_found ∙ rows_of_object origin window es

@@ -2,7 +2,7 @@
 //!
 //! A new node is the first of both chains, so an object's nodes stand in its chain in the order in
 //! which they stand in the chain by age: both are read off one list, the newest first.
-ghost use Rattle.std.specs.Prelude.{◌≡◌, ℕ, ◌+◌, ◌≤◌, Option, None, Some, [], ◌∷◌, ◌==◌, if◌then◌else◌, IsSome, IfErr, OnOk, MatchOption, map, filter, length};
+ghost use Rattle.std.specs.Prelude.{◌≡◌, ℕ, ◌+◌, ◌≤◌, Option, None, Some, [], ◌∷◌, ◌==◌, if◌then◌else◌, IsSome, IfErr, IfOk, OnOk, MatchOption, map, filter, length};
 ghost use Rattle.std.specs.Option.{option_copied};
 ghost use Rattle.std.specs.Ordering.{int_eq};
 ghost use Rattle.slab.specs.Slab.{slab_len};
@@ -12,12 +12,12 @@ ghost use Rattle.cal_model.specs.Pieces.PieceLists.{rows_at, rows_in, newest_wit
 ghost use Rattle.piece_index.specs.Entries.{pieces_of, IsOneOut};
 ghost use Rattle.std.specs.List.{last_or};
 ghost use Rattle.piece_index.specs.Chains.{first, past, IsApart};
-ghost use Rattle.piece_index.specs.Entries.{keys, keys_of, piece_of, removed, or_else};
+ghost use Rattle.piece_index.specs.Entries.{is_of, keys, keys_of, piece_of, removed, or_else};
 ghost use Rattle.piece_index.specs.Firsts.{first_at};
 
 use crate::links::{link, unlink};
 use crate::node::Node;
-use cal_base::{Arc, List, Steps};
+use cal_base::{Arc, List, NoMemory, Steps};
 use cal_model::{Piece, Row};
 use slab::Slab;
 use std::alloc::Global;
@@ -113,6 +113,38 @@ fn rows_from(nodes: &Slab<Node>, first: Option<usize>, window: i32) -> Option<&A
     None
 }
 
+/// A piece again, with its rows shared.
+fn share(piece: &Piece) -> Result<Piece, NoMemory>
+    ensures { IfOk result (λ shared. shared ≡ piece.now) }
+{
+    Ok(Piece {
+        origin: piece.origin,
+        window: piece.window,
+        rows: Arc::try_clone(&piece.rows)?,
+    })
+}
+
+/// The pieces from a node on along its object's chain, with their rows shared.
+fn pieces_from(
+    alloc: Global,
+    nodes: &Slab<Node>,
+    first: Option<usize>,
+) -> Result<List<Piece>, NoMemory>
+    requires { IsWalked (next nodes.now) (slab_len nodes.now) first }
+    ensures { IfOk result (λ pieces. pieces ≡ map (λ (e : ℕ × Piece). e.1) (entries_from nodes.now first)) }
+{
+    let mut pieces = List::new(alloc);
+    let mut at = first;
+    'nodes: while let Some(key) = at {
+        let Some(node) = nodes.get(key) else {
+            return Ok(pieces);
+        };
+        pieces.push(share(&node.piece)?)?;
+        at = node.next;
+    }
+    Ok(pieces)
+}
+
 impl Chains {
     /// No nodes. It takes no memory yet.
     pub(crate) fn new(alloc: Global) -> Chains
@@ -148,6 +180,14 @@ impl Chains {
     {
         let first = self.firsts.get(&origin).copied();
         rows_from(&self.nodes, first, window)
+    }
+
+    /// The pieces of an object, the newest first, with their rows shared.
+    pub(crate) fn pieces_of(&self, alloc: Global, origin: u64) -> Result<List<Piece>, NoMemory>
+        ensures { IfOk result (λ pieces. pieces ≡ map (λ (e : ℕ × Piece). e.1) (filter (is_of origin) self.now)) }
+    {
+        let first = self.firsts.get(&origin).copied();
+        pieces_from(alloc, &self.nodes, first)
     }
 
     /// Takes a node out. Takes no memory.

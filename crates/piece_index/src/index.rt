@@ -1,11 +1,11 @@
 //! The index: pieces by origin and window, within a budget of rows.
-ghost use Rattle.std.specs.Prelude.{◌≡◌, ◌≢◌, ℕ, ℤ, ◌+◌, None, Some, [], ◌∷◌, filter, length, MatchOption, IfNone};
+ghost use Rattle.std.specs.Prelude.{◌≡◌, ◌≢◌, ℕ, ℤ, ◌+◌, None, Some, [], ◌∷◌, filter, length, MatchOption, IfNone, IfOk};
 ghost use Rattle.std.specs.Option.{option_copied};
 ghost use Rattle.cal_model.specs.Pieces.PieceLists.{rows_at, rows_in, is_piece_of, is_other_piece};
 ghost use Rattle.cal_model.specs.Pieces.KeptPieces.{IsWithinBudget};
 
 use crate::chains::Chains;
-use cal_base::{Arc, List, Steps};
+use cal_base::{Arc, List, NoMemory, Steps};
 use cal_model::{Piece, Row};
 use std::alloc::Global;
 use std::marker::Model;
@@ -76,6 +76,14 @@ impl Index {
             return None;
         }
         self.chains.find(origin, window)
+    }
+
+    /// The pieces of an object, the newest first, with their rows shared. It goes along the object's
+    /// chain alone.
+    pub fn pieces_of(&self, alloc: Global, origin: u64) -> Result<List<Piece>, NoMemory>
+        ensures { IfOk result (λ pieces. (w : ℤ) → rows_at origin w pieces ≡ rows_at origin w self.now.pieces) }
+    {
+        self.chains.pieces_of(alloc, origin)
     }
 
     /// How many rows the pieces have in all: no more than the budget.

@@ -1,27 +1,18 @@
-use Rattle.std.proofs.Common.{◌≤◌, ◌<◌, rules, arith, length, sym, ap, ◌∙◌, subst, to_z-of_z, FitsSigned, w64}
-use Rattle.std.proofs.lemmas.List.{length-map}
-use Rattle.cal_model.specs.State.ServerState.{Directory, ServerState, directory_of}
+use Rattle.std.proofs.Common.{◌≡◌, rules, sym, ap, ◌∙◌, subst, to_z-of_z, FitsSigned, w64}
+use Rattle.cal_model.specs.State.ServerState.{directory_of}
 use Rattle.cal_model.specs.State.SoundStates.{IsSound}
-use Rattle.cal_model.specs.Users.UsersFile.{User}
-use Rattle.collections.specs.Kept.{users_of, state_of, origins_of}
-use Rattle.cal_book.specs.Answering.ReadingCost.{reading_cost}
-use Rattle.cal_book.specs.Cores.{Core, HasLiveOctets}
-use Rattle.cal_book.specs.EventSteps.{state_behind}
-use Rattle.cal_book.specs.Keeping.KeptHistories.{users_in, directory_in}
+use Rattle.collections.specs.Kept.{state_of, origins_of}
+use Rattle.dav_reports.specs.CalendarObjects.{AreHeldRight}
+use Rattle.dav_reports.specs.PieceRows.{Held}
+use Rattle.piece_shelf.specs.Shelves.{held_on}
+use Rattle.piece_claims.specs.Boards.{Board}
+use Rattle.cal_book.specs.Cores.{Core, HasLiveOctets, directory_in, state_in}
+use Rattle.cal_book.specs.Keeping.KeptHistories.{users_in, directory_in as kept_directory}
 use Rattle.cal_book.specs.Looks.{IsLookAt, held_in}
 use Rattle.cal_book.specs.UpToDate.{work_with}
-use Rattle.cal_book.proofs.GatherLemmas.{held_right-less}
-use Rattle.cal_book.proofs.HeldPieces.{AreHeldRight-right}
+use Rattle.cal_book.proofs.HeldPieces.{AreHeldRight-right, held-same, reading-no_more}
 use Rattle.cal_book.proofs.HistoryLemmas.{step-octets, step-sound}
 use Rattle.cal_book.proofs.looking.look_at.Goals as goal
-
-pub gather-requires : goal.gather-requires
-gather-requires c =
-    let users = c.args.history.now.users in
-    let known = c.requires.bookable.user in
-    let count = length-map users.people (λ (user : User). user.name) in
-    let here : c.args.event.now.who < length (directory_of users).names = omega (arith, known, count) in
-    record { user = subst (λ (d : Directory). c.args.event.now.who < length d.names) (sym c.in_ok-shown.ensures.at.directory) here }
 
 pub of-requires : goal.of-requires
 of-requires c =
@@ -31,32 +22,30 @@ of-requires c =
     let shown = c.in_ok-shown.shown in
     let state = c.in_ok-shown.ensures.at.state in
     let octets = subst (HasLiveOctets history.journal) (sym state) (step-octets history.users history.store history.journal step) in
-    let sound = subst (IsSound (directory_in history)) (sym state) (step-sound history.users history.store history.journal step) in
+    let sound = subst (IsSound (kept_directory history)) (sym state) (step-sound history.users history.store history.journal step) in
+    let same : held_on c.in_ok-shelf.shelf ≡ held_in pieces = held-same (held_on c.in_ok-shelf.shelf) (held_in pieces) c.in_ok-shelf.ensures.held in
     record {
       same = c.in_ok-shown.ensures.at.directory ∙ ap directory_of (sym c.in_ok-users.ensures);
       right = λ home calendar.
-          held_right-less (held_in pieces) c.in_ok-pieces.pieces.pieces (origins_of shown) (state_of shown) home calendar c.in_ok-pieces.ensures.among
-          (AreHeldRight-right history.journal (origins_of shown) (state_of shown) pieces c.in_ok-shown.ensures.at.origins octets c.requires.kept.right (directory_in history) sound home calendar);
+          subst (λ (held : Held). AreHeldRight held (origins_of shown) (state_of shown) home calendar) (sym same)
+          (AreHeldRight-right history.journal (origins_of shown) (state_of shown) pieces c.in_ok-shown.ensures.at.origins octets c.requires.kept.right (kept_directory history) sound home calendar);
     }
 
 pub returns-clause-at : goal.returns-clause-at
-returns-clause-at c spare =
+returns-clause-at c spare event reading =
     let history = c.args.history.now in
     let claims = c.args.claims.now in
-    let event = c.args.event.now in
     let shown = c.in_ok-shown.shown in
-    let held = c.in_ok-pieces.pieces.pieces in
-    let state = c.in_ok-shown.ensures.at.state ∙ c.entries-entries.ensures.step.state_is in
+    let shelf = c.in_ok-shelf.shelf in
     let fits : FitsSigned w64 c.latest.result = search (rules, c.latest.type_inv) in
     let core : Core = record { users = users_in history; work = work_with history.journal claims; spare = spare } in
     subst (IsLookAt core event) (sym c.of.ensures) (
     record {
-      reads = c.requires.reading;
+      reads = reading;
       users = c.in_ok-users.ensures;
-      state = state;
+      state = c.in_ok-shown.ensures.at.state ∙ c.entries-entries.ensures.step.state_is;
       origins = c.in_ok-shown.ensures.at.origins;
-      cost = subst (λ (d : Directory). reading_cost (held_in held) (origins_of shown) d (state_behind (users_in history) history.journal) event ≤ reading_cost (held_in claims.pieces) (origins_of shown) d (state_behind (users_in history) history.journal) event) c.in_ok-shown.ensures.at.directory
-          (subst (λ (s : ServerState). reading_cost (held_in held) (origins_of shown) (users_of shown) s event ≤ reading_cost (held_in claims.pieces) (origins_of shown) (users_of shown) s event) state c.in_ok-pieces.ensures.cost);
-      latest = to_z-of_z fits ∙ c.latest.ensures;
+      cost = reading-no_more (held_on shelf) (held_in claims.pieces) c.in_ok-shelf.ensures.held (origins_of shown) (directory_in core) (state_in core) event;
+      latest = to_z-of_z fits ∙ (c.latest.ensures ∙ ap (λ (board : Board). board.latest) c.in_ok-shelf.ensures.same);
     }
     )

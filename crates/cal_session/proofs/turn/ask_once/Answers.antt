@@ -9,12 +9,6 @@ use Rattle.cal_book.specs.declared.desk.Told.TheVariants.{Reply}
 use Rattle.cal_session.proofs.AskingLemmas.{told_by_journal, told_own, told_at, replied_at, asked_at, own_none, users_same}
 use Rattle.cal_session.proofs.turn.ask_once.Goals as goal
 
-pub look-requires-clause-bookable : goal.look-requires-clause-bookable
-look-requires-clause-bookable g c =
-    let value = c.take-value.result.value in
-    let users = c.begin_turn-at.ensures.users ∙ users_same _ _ c.args.context.now.users.now (g.met.B.Desk.bases value) (sym c.take-value.ensures.base ∙ c.requires.base) in
-    subst (λ (u : Users). IsBookable u c.args.event.now.who c.args.event.now.request) (sym users) c.requires.bookable
-
 -- Answered from a look
 
 pub give-requires-clause-base : goal.give-requires-clause-base

@@ -1,17 +1,21 @@
-use Rattle.std.proofs.Common.{sym, ap, ◌∙◌, subst}
+use Rattle.std.proofs.Common.{sym, ◌∙◌, subst}
 use Rattle.std.proofs.lemmas.Option.{IfSome_then}
 use Rattle.std.specs.Prelude.{IfSome}
 use Rattle.cal_book.specs.Books.{IsBook, core_of}
 use Rattle.cal_book.specs.Cores.{Core, spare_of}
 use Rattle.cal_book.specs.Keeping.KeptHistories.{Kept}
 use Rattle.cal_book.specs.Looks.{IsLookAt}
+use Rattle.piece_claims.specs.Boards.{Board}
 use Rattle.cal_book.proofs.book.Book.look.Goals as goal
 
 pub invariant_of-self : goal.invariant_of-self
-invariant_of-self c = subst (λ (history : Kept). IsBook history c.self.inside.claims c.self.inside.room) (sym c.look_for.ensures.same) c.self.invariant
+invariant_of-self c =
+    let room = c.self.inside.room in
+    subst (λ (history : Kept). IsBook history c.look_for.new.claims room) (sym c.look_for.ensures.history)
+    (subst (λ (claims : Board). IsBook c.self.inside.history claims room) (sym c.look_for.ensures.claims) c.self.invariant)
 
 pub returns-clause-same : goal.returns-clause-same
-returns-clause-same c = ap (λ (history : Kept). core_of history c.self.inside.claims c.self.inside.room) c.look_for.ensures.same ∙ c.self.view_is
+returns-clause-same c = (λ i. core_of (c.look_for.ensures.history i) (c.look_for.ensures.claims i) c.self.inside.room) ∙ c.self.view_is
 
 pub returns-clause-at : goal.returns-clause-at
 returns-clause-at c =

@@ -7,15 +7,15 @@ use Rattle.collections.proofs.shown_calendar.ShownCalendar.object.Goals as goal
 
 pub returns-in-Some-clause-object : goal.returns-in-Some-clause-object
 returns-in-Some-clause-object c =
-    ap (option_map kept_entry) (c.in-Some.ensures ∙ ap (λ objects. value_at objects c.args.name.now) c.deref.ensures)
+    ap (option_map kept_entry) c.in-Some.ensures
     ∙ object_shown c.self.inside.name c.self.inside.kept c.self.inside.objects c.self.invariant c.args.self.now c.self.view_is c.args.name.now
 
 pub returns-in-Some-clause-place : goal.returns-in-Some-clause-place
 returns-in-Some-clause-place c =
     place_shown c.self.inside.name c.self.inside.kept c.self.inside.objects c.self.invariant c.args.self.now c.self.view_is c.args.name.now c.in-Some.entry.now
-    (sym (c.in-Some.ensures ∙ ap (λ objects. value_at objects c.args.name.now) c.deref.ensures))
+    (sym c.in-Some.ensures)
 
 pub returns-in-None-clause-object : goal.returns-in-None-clause-object
 returns-in-None-clause-object c =
-    ap (option_map kept_entry) (c.in-None.ensures ∙ ap (λ objects. value_at objects c.args.name.now) c.deref.ensures)
+    ap (option_map kept_entry) c.in-None.ensures
     ∙ object_shown c.self.inside.name c.self.inside.kept c.self.inside.objects c.self.invariant c.args.self.now c.self.view_is c.args.name.now

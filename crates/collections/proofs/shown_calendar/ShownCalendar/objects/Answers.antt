@@ -11,7 +11,7 @@ use Rattle.collections.proofs.shown_calendar.ShownCalendar.objects.Goals as goal
 pub returns : goal.returns
 returns c =
     let shown = c.args.self.now in
-    let walked : c.of.result ≡ values_of c.self.inside.objects = c.of.ensures ∙ ap values_of c.deref.ensures in
+    let walked : c.of_pages.result ≡ values_of c.self.inside.objects = c.of_pages.ensures in
     record {
       objects = ap (map shown_object) walked ∙ objects_shown c.self.inside.name c.self.inside.kept c.self.inside.objects c.self.invariant shown c.self.view_is;
       there = subst (AllByRecursion (λ (entry : ObjectEntry). value_at shown.objects entry.stored.path.object ≡ Some (kept_entry entry))) (sym walked)

@@ -17,4 +17,5 @@ invariant_of-self c =
           (subst (λ (f : ℤ). IsRefreshed c.self.inside.lanes c.refresh.new.self f c.self.inside.entries (λ z. is_open_if c.args.alive c.self.inside.index.pieces (pairs_out c.deref.result.now) (pair_at c.self.inside.entries z))) (first_passed c.self.inside.first k.low k.high) c.refresh.ensures.lanes)),
       subst (λ (l : List Bool). IsStored c.self.inside.index c.self.inside.first l c.self.inside.counts) (sym c.put.ensures)
           (stored_set c.self.inside.index c.self.inside.first c.self.inside.live c.self.inside.counts c.self.inside.entries c.args.alive c.self.invariant.1 (k.unknown c.self.inside.entries (omega arith))),
+      record { within = (let before = c.self.invariant.2.within in omega (arith, before)); filled_to = c.self.invariant.2.filled_to },
     )

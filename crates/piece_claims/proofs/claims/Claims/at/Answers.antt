@@ -10,7 +10,7 @@ use Rattle.piece_claims.proofs.claims.Claims.at.Goals as goal
 
 pub invariant_of-self : goal.invariant_of-self
 invariant_of-self c =
-    (kept_at c.self.inside.index.pieces c.self.inside.out.items _ c.self.inside.latest _ c.self.inside.first c.self.inside.live c.self.inside.entries c.self.inside.limit c.self.inside.lanes c.self.invariant.0 (sym (first_passed c.self.inside.first c.self.invariant.0.low c.self.invariant.0.high) ∙ ap (to_z w32) (sym c.if-first-self.true) ∙ first_passed c.first_window-first.result c.first_window-first.ensures.low c.first_window-first.ensures.high ∙ c.first_window-first.ensures.window), c.self.invariant.1)
+    (kept_at c.self.inside.index.pieces c.self.inside.out.items _ c.self.inside.latest _ c.self.inside.first c.self.inside.live c.self.inside.entries c.self.inside.limit c.self.inside.lanes c.self.invariant.0 (sym (first_passed c.self.inside.first c.self.invariant.0.low c.self.invariant.0.high) ∙ ap (to_z w32) (sym c.if-first-self.true) ∙ first_passed c.first_window-first.result c.first_window-first.ensures.low c.first_window-first.ensures.high ∙ c.first_window-first.ensures.window), c.self.invariant.1, c.self.invariant.2)
 
 pub invariant_of-self-2 : goal.invariant_of-self-2
 invariant_of-self-2 c =
@@ -23,4 +23,5 @@ invariant_of-self-2 c =
           (subst (λ (f : ℤ). IsKept c.self.inside.index.pieces c.self.inside.out.items (vec_capacity c.self.inside.out) c.args.moment f c.self.inside.live c.self.inside.entries c.self.inside.limit c.refresh_all.new.lanes) (sym whole)
           (kept_moved c.self.inside.index.pieces c.self.inside.out.items _ c.self.inside.latest c.self.inside.first c.args.moment c.first_window-first.result c.self.inside.live c.self.inside.entries c.self.inside.limit c.self.inside.lanes c.refresh_all.new.lanes c.self.invariant.0 swept (c.first_window-first.ensures.window ∙ ap (λ (m : ℤ). first_of m) moment_whole) c.first_window-first.ensures.low c.first_window-first.ensures.high)),
       stored_moved c.self.inside.index c.self.inside.first (to_z w32 (of_z w32 c.first_window-first.result)) c.self.inside.live c.self.inside.entries c.self.inside.counts c.count-self-inside.result c.self.invariant.1 c.self.invariant.0.unknown c.count-self-inside.ensures,
+      c.self.invariant.2,
     )

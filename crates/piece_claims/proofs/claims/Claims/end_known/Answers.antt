@@ -19,6 +19,7 @@ invariant_of-self c =
           (subst (λ (b : Bool). IsRefreshedAt c.self.inside.lanes c.refresh_at.new.self c.self.inside.first c.args.origin (to_z w32 (of_z w32 c.args.window)) (is_open_if b c.self.inside.index.pieces (pairs_out c.deref.result.now) (pair_at c.args.origin (to_z w32 (of_z w32 c.args.window))))) c.contains-alive.ensures
           (subst (λ (first : ℤ). IsRefreshedAt c.self.inside.lanes c.refresh_at.new.self first c.args.origin (to_z w32 (of_z w32 c.args.window)) (is_open_if c.contains-alive.result c.self.inside.index.pieces (pairs_out c.deref.result.now) (pair_at c.args.origin (to_z w32 (of_z w32 c.args.window))))) (first_passed c.self.inside.first c.self.invariant.0.low c.self.invariant.0.high) c.refresh_at.ensures))),
       c.self.invariant.1,
+      c.self.invariant.2,
     )
 
 pub returns : goal.returns

@@ -11,7 +11,7 @@ use Rattle.piece_claims.proofs.claims.Claims.end_unknown.Goals as goal
 pub invariant_of-self : goal.invariant_of-self
 invariant_of-self c =
     let whole : to_z w32 (of_z w32 c.args.window) ≡ c.args.window = to_z-of_z w32 c.args.window c.ranges.window in
-    (kept_end_unknown c.self.inside.index.pieces c.self.inside.out.items _ _ _ _ _ _ _ _ _ c.args.origin (to_z w32 (of_z w32 c.args.window)) c.self.invariant.0 (unknown_above c.self.inside.entries c.self.inside.live _ c.args.origin (let room = c.self.invariant.0.live_wide in let fits = c.self.invariant.0.fits in omega arith) (ap (λ (s : Board). s.live) c.self.view_is) c.requires) c.end.ensures.pairs c.end.ensures.room, c.self.invariant.1)
+    (kept_end_unknown c.self.inside.index.pieces c.self.inside.out.items _ _ _ _ _ _ _ _ _ c.args.origin (to_z w32 (of_z w32 c.args.window)) c.self.invariant.0 (unknown_above c.self.inside.entries c.self.inside.live _ c.args.origin (let room = c.self.invariant.0.live_wide in let fits = c.self.invariant.0.fits in omega arith) (ap (λ (s : Board). s.live) c.self.view_is) c.requires) c.end.ensures.pairs c.end.ensures.room, c.self.invariant.1, c.self.invariant.2)
 
 pub returns : goal.returns
 returns c =

@@ -1,4 +1,4 @@
-use Rattle.std.proofs.Common.{◌∙◌, ◌-◌, ap, sym, subst, take, set, filter, false, List, ℕ, ℤ}
+use Rattle.std.proofs.Common.{◌∙◌, ◌-◌, ap, sym, subst, arith, take, set, filter, false, List, ℕ, ℤ}
 use Rattle.std.specs.Prelude.{Bool, pos, ◌+ℤ◌, ◌≤◌}
 use Rattle.std.proofs.Math.Seq.{take-set-lt}
 use Rattle.cal_model.specs.declared.piece.Piece.{Piece}
@@ -21,6 +21,10 @@ invariant_of-self g c = (
       (subst (λ (first : ℤ). IsRefreshed c.self.inside.lanes c.refresh.new.self first c.args.origin (λ z. is_open_if false c.drop_object.new.self.pieces (pairs_out c.deref.result.now) (pair_at c.args.origin z))) (first_passed c.self.inside.first c.self.invariant.0.low c.self.invariant.0.high) c.refresh.ensures.lanes)),
   stored_ended c.self.inside.index c.drop_object.new.self c.self.inside.first c.self.inside.live c.put.new.self c.self.inside.counts c.take_object.new.self c.args.origin c.self.invariant.1 c.drop_object.ensures.pieces c.put.ensures
       (subst (λ (f : ℤ). HasMoreOf c.take_object.new.self c.self.inside.counts f c.args.origin c.self.inside.index.pieces) (first_passed c.self.inside.first c.self.invariant.0.low c.self.invariant.0.high) c.take_object.ensures),
+  record {
+    within = (let before = c.self.invariant.2.within in let less = c.renew.ensures.within in omega (arith, before, less));
+    filled_to = c.renew.ensures.filled c.self.inside.index.pieces c.drop_object.ensures.others c.self.invariant.2.filled_to;
+  },
 )
 
 pub take_object-requires-clause-there : goal.take_object-requires-clause-there

@@ -11,9 +11,11 @@ use Rattle.piece_claims.specs.Counts.{AreCounts, HasMoreIn}
 use Rattle.piece_claims.specs.Kept.{AreOfLive}
 use Rattle.piece_claims.specs.Lanes.{AreOpen, IsRefreshedAt}
 use Rattle.piece_claims.specs.Out.{pairs_out}
+use Rattle.piece_claims.specs.Shelved.{AreSameBut}
 use Rattle.piece_claims.proofs.AgingLemmas.{as_wide_both, count_within, counted_snoc, open_with, stored_kept}
 use Rattle.piece_claims.proofs.KeptLemmas.{as_wide_at, first_passed, kept_aged, wide_of_live}
 use Rattle.piece_claims.proofs.NextLemmas.{shown_same}
+use Rattle.piece_claims.proofs.ShelvedLemmas.{same_but_last}
 use Rattle.piece_claims.proofs.claims.Claims.keep.Goals as goal
 
 pub add-requires : goal.add-requires
@@ -50,6 +52,12 @@ make_room-requires-clause-open g c =
     (subst (λ (f : ℤ). IsRefreshedAt c.self.inside.lanes c.refresh_at.new.self f c.args.piece.origin c.args.piece.window (is_open_if true c.put_in.new.index.pieces (pairs_out c.deref.result.now) (pair_at c.args.piece.origin c.args.piece.window))) first_is
     (subst (λ (w : ℤ). IsRefreshedAt c.self.inside.lanes c.refresh_at.new.self (to_z w32 (of_z w32 c.self.inside.first)) c.args.piece.origin w (is_open_if true c.put_in.new.index.pieces (pairs_out c.deref.result.now) (pair_at c.args.piece.origin w))) whole c.refresh_at.ensures)))))))
 
+pub make_room-requires-clause-shelved : goal.make_room-requires-clause-shelved
+make_room-requires-clause-shelved g c =
+    c.renew.ensures.filled c.self.inside.index.pieces
+    (subst (λ (i : KeptPieces). AreSameBut c.args.piece.origin c.self.inside.index.pieces i.pieces) (sym c.in_ok-put_in.ensures.ok) (same_but_last c.args.piece c.self.inside.index.pieces))
+    c.self.invariant.2.filled_to
+
 pub make_room-requires-clause-counted : goal.make_room-requires-clause-counted
 make_room-requires-clause-counted g c =
     let whole : to_z w32 (of_z w32 c.args.piece.window) ≡ c.args.piece.window = to_z-of_z w32 c.args.piece.window (search rules) in
@@ -77,6 +85,10 @@ invariant_of-self-2 g c =
       stored_kept c.self.inside.index c.make_room.new.index c.self.inside.first c.self.inside.live c.self.inside.counts c.make_room.new.counts c.args.piece c.self.invariant.1 alive
           (ap (λ (b : Board). rows_at c.args.piece.origin c.args.piece.window b.pieces) c.self.view_is ∙ c.requires.none) pieces_are
           (subst (λ (f : ℤ). AreCounts c.make_room.new.counts f c.make_room.new.index.pieces) first_is c.make_room.ensures.counted),
+      record {
+        within = (let before = c.self.invariant.2.within in let less = c.renew.ensures.within in let now = c.make_room.ensures.filled in omega (arith, before, less, now));
+        filled_to = c.make_room.ensures.shelved;
+      },
     )
 
 pub returns-clause-ok : goal.returns-clause-ok

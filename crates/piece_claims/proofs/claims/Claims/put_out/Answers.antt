@@ -19,4 +19,5 @@ invariant_of-self c =
           (subst (λ (o : List (ℕ × ℤ)). IsRefreshedAt c.self.inside.lanes c.refresh_at.new.self c.self.inside.first c.args.origin (to_z w32 (of_z w32 c.args.window)) (is_open_if true c.self.inside.index.pieces (pairs_out o) (pair_at c.args.origin (to_z w32 (of_z w32 c.args.window))))) c.deref.ensures.value
           (subst (λ (f : ℤ). IsRefreshedAt c.self.inside.lanes c.refresh_at.new.self f c.args.origin (to_z w32 (of_z w32 c.args.window)) (is_open_if true c.self.inside.index.pieces (pairs_out c.deref.result.now) (pair_at c.args.origin (to_z w32 (of_z w32 c.args.window))))) (first_passed c.self.inside.first k.low k.high) c.refresh_at.ensures)),
       c.self.invariant.1,
+      c.self.invariant.2,
     )

@@ -1,0 +1,3 @@
+-- A map in pages.
+pub mod Pages
+pub mod Places
