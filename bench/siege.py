@@ -20,7 +20,8 @@ the calendar. What has to hold:
 
 - each of its answers is the one that it had before the siege, but for the date;
 - none takes longer than the times of a connection allow (docs/LIMITS.md);
-- at the end the server has as many threads and open files as before, and its memory has not grown by more than a quarter.
+- at the end the server has as many threads and open files as before, and its memory has not grown by more than a quarter:
+  before is when a fifth of the time had been besieged already.
 
 It prints how often each kind of client was there, how long the well-behaved one waited, and memory, threads and files
 before and after. Its status is 0 where all of that holds. It needs Python 3 alone; build the program first by `rt run`
@@ -301,16 +302,25 @@ def warmed(port, sessions):
                 one.join()
 
 
+def begun(options, seed, port, end, counts, strange):
+    """The bad clients, each in a thread, which end at a time."""
+    crowd = [threading.Thread(target=besiege, args=(port, number, seed, end, counts, strange)) for number in range(options.clients)]
+    for one in crowd:
+        one.start()
+    return crowd
+
+
 def run(options, seed, process, port):
     fill(port)
     warmed(port, options.sessions)
     right = [without_date(ask(port, octets)) for octets in ASKED]
-    before = settled(process)
     counts, strange, waits, wrong = {}, [], [], []
+    # a siege before the siege: what the server takes at most hangs on which requests meet, and is not all found at once
+    for one in begun(options, seed + 1, port, time.time() + options.seconds / 5, counts, strange):
+        one.join()
+    before = settled(process)
     end = time.time() + options.seconds
-    crowd = [threading.Thread(target=besiege, args=(port, number, seed, end, counts, strange)) for number in range(options.clients)]
-    for one in crowd:
-        one.start()
+    crowd = begun(options, seed, port, end, counts, strange)
     while time.time() < end:
         for number, octets in enumerate(ASKED):
             began = time.time()

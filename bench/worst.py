@@ -333,7 +333,8 @@ def show_family(options, users, family):
         print(f"{family.make(1).family}: {', '.join(f'{one.what} {one.status}' for one in found)}", flush=True)
         return found
     amounts = [max(getattr(one, family.measure), 1e-9) for one in told]
-    each = (amounts[1] - amounts[0]) / (family.work(family.sizes[1]) - family.work(family.sizes[0]))
+    # what takes less at the larger size is the noise of the machine
+    each = max(amounts[1] - amounts[0], 0) / (family.work(family.sizes[1]) - family.work(family.sizes[0]))
     power = math.log(amounts[1] / amounts[0]) / math.log(family.sizes[1] / family.sizes[0])
     unit = (1e9, "ns") if family.measure == "seconds" else (1, "octets")
     print(
